@@ -1,0 +1,29 @@
+-- Which entry of the agenda is due, and what its pop does to the calendar.
+use Rattle.std.specs.Prelude.{◌==◌, not, List, Option, true, [], ◌∷◌, filter, Some, None, if◌then◌else◌}
+use Rattle.sim_types.specs.declared.event.Entry.{Entry}
+use Rattle.sim_machine.specs.Keys.{comes_first}
+use Rattle.sim_machine.specs.State.{Calendar}
+use Rattle.sim_machine.specs.Events.{is_same, change_event}
+
+-- of e and the others the one that comes first
+abbrev pub first_from : Entry → List Entry → Entry
+first_from e [] = e
+first_from e (f ∷ fs) = first_from (if comes_first f.key e.key then f else e) fs
+
+-- the entry that comes before all others
+abbrev pub due : List Entry → Option Entry
+due [] = None
+due (e ∷ es) = Some (first_from e es)
+
+-- the agenda without the entry of this number
+abbrev pub without_entry : Entry → List Entry → List Entry
+without_entry e es = filter (λ f. not (f.key.number == e.key.number)) es
+
+-- the entry leaves the agenda, it is its time, and its event is processed; the event's registrations are done with
+abbrev pub popped : Entry → Calendar → Calendar
+popped e c =
+    change_event e.event (λ x. record x { processed = true }) (record c {
+      time = e.key.time;
+      agenda = without_entry e c.agenda;
+      registered = filter (λ r. not (is_same r.event e.event)) c.registered;
+    })

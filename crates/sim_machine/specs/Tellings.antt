@@ -1,0 +1,51 @@
+-- What a body tells of itself besides its state, and what its code tells.
+use Rattle.std.specs.Prelude.{Bool, ℕ, List, Option, true, false}
+use Rattle.sim_types.specs.declared.event.EventId.{EventId}
+use Rattle.sim_types.specs.declared.event.ProcId.{ProcId}
+use Rattle.sim_types.specs.declared.event.EventKind.{EventKind}
+use Rattle.sim_types.specs.declared.event.EventKind.TheVariants as kind
+use Rattle.sim_types.specs.declared.setup.Resource.{Resource}
+use Rattle.sim_types.specs.declared.op.Op.{Op}
+use Rattle.sim_types.specs.declared.setup.Class.{Class}
+use Rattle.sim_types.specs.declared.setup.Class.TheVariants as class
+
+-- a place of a body: what class of event it is for, and the event that it holds, or event 0
+pub record Place : Type 0 where
+  pub class : Class
+  pub event : EventId
+
+-- what a body tells: its own number, its places, the requests of the scopes that it holds open, the outermost first, and
+-- the operation that it asked for last, if it was polled
+pub record Telling (B : Type 0) : Type 0 where
+  pub own : B → ProcId
+  pub places : B → List Place
+  pub scopes : B → List EventId
+  pub last : B → Option Op
+
+-- what a body's code tells: the classes of the parameters of each process kind, how many events are named, and the
+-- resources
+pub record CodeFacts : Type 0 where
+  pub params : List (List Class)
+  pub named : ℕ
+  pub resources : List Resource
+
+-- whether two classes are one
+abbrev pub is_class : Class → Class → Bool
+is_class class.Number class.Number = true
+is_class class.Event class.Event = true
+is_class class.Cond class.Cond = true
+is_class class.Proc class.Proc = true
+is_class class.Request class.Request = true
+is_class class.Move class.Move = true
+is_class _ _ = false
+
+-- the events of a class, by their kinds
+abbrev pub kind_fits : Class → EventKind → Bool
+kind_fits class.Event kind.Plain = true
+kind_fits class.Event kind.Timeout = true
+kind_fits class.Cond kind.Cond = true
+kind_fits class.Proc kind.Process = true
+kind_fits class.Request kind.Request = true
+kind_fits class.Move kind.Put = true
+kind_fits class.Move kind.Get = true
+kind_fits _ _ = false

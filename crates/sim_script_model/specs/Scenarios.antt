@@ -1,0 +1,52 @@
+-- The run of a scenario.
+use Rattle.std.specs.Prelude.{ℕ, zero, suc, ◌+◌, ◌%◌, ◌^◌, List, [], ◌∷◌, map, take, drop}
+use Rattle.sim_types.specs.Scenarios.{ScenarioOf}
+use Rattle.sim_types.specs.declared.setup.Arrival.{Arrival}
+use Rattle.sim_types.specs.declared.line.Line.{Line}
+use Rattle.sim_types.specs.declared.line.Summary.{Summary}
+use Rattle.sim_machine.specs.State.{Plan}
+use Rattle.sim_machine.specs.Units.{Course}
+use Rattle.sim_machine.specs.Runs.{run, trace_of, summary_of}
+use Rattle.sim_machine.specs.Tellings.{CodeFacts}
+use Rattle.sim_machine.specs.RandomWords.{word_of}
+use Rattle.sim_script_model.specs.Scripts.{Script, script_start}
+use Rattle.sim_script_model.specs.Polls.{script_turn}
+
+-- a scenario as a plan, with these random words
+abbrev pub plan_with : ScenarioOf → (ℕ → ℕ) → Plan Script
+plan_with x word = record { setup = x.setup; word = word; start = script_start x.kinds }
+
+-- a run of so many units at most
+abbrev pub run_with : ScenarioOf → (ℕ → ℕ) → List Arrival → ℕ → Course Script
+run_with x word journal limit = run (plan_with x word) (script_turn x.code) journal limit
+
+-- the lines of a run, the last one on its end
+abbrev pub trace_with : ScenarioOf → (ℕ → ℕ) → List Arrival → ℕ → List Line
+trace_with x word journal limit = trace_of (plan_with x word) (run_with x word journal limit)
+
+-- what a run comes to
+abbrev pub summary_with : ScenarioOf → (ℕ → ℕ) → List Arrival → ℕ → Summary
+summary_with x word journal limit = summary_of (plan_with x word) (run_with x word journal limit)
+
+-- the same with the words of a seed
+abbrev pub trace : ScenarioOf → ℕ → List Arrival → ℕ → List Line
+trace x seed journal limit = trace_with x (word_of seed) journal limit
+
+-- what a run with the words of a seed comes to
+abbrev pub summary : ScenarioOf → ℕ → List Arrival → ℕ → Summary
+summary x seed journal limit = summary_with x (word_of seed) journal limit
+
+-- the summaries of so many replications, from number `from` on, each with a seed of its own
+abbrev pub replications : ScenarioOf → ℕ → ℕ → ℕ → List Summary
+replications x limit from zero = []
+replications x limit from (suc count) =
+    summary x ((x.seed + from) % 2 ^ 64) x.journal limit ∷ replications x limit (from + 1) count
+
+-- what a scenario's code tells
+abbrev pub facts_of : ScenarioOf → CodeFacts
+facts_of x =
+    record {
+      params = map (λ k. take k.params (drop 1 k.classes)) x.kinds;
+      named = x.setup.events;
+      resources = x.setup.resources;
+    }
