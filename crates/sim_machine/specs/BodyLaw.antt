@@ -10,7 +10,6 @@ use Rattle.sim_types.specs.declared.op.Op.TheVariants as op
 use Rattle.sim_types.specs.declared.setup.Class.{Class}
 use Rattle.sim_types.specs.declared.setup.Class.TheVariants as class
 use Rattle.sim_machine.specs.Events.{is_same}
-use Rattle.sim_machine.specs.Processes.{tell}
 use Rattle.sim_machine.specs.Tellings.{Place, Telling, CodeFacts, is_class}
 use Rattle.sim_machine.specs.MayFollow.{may_be_told, is_enter}
 use Rattle.sim_machine.specs.MayAsk.{is_zero, may_ask}

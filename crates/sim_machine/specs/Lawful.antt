@@ -1,6 +1,5 @@
 -- What holds of every state that a run comes to.
 use Rattle.sim_machine.specs.State.{State, Plan}
-use Rattle.sim_machine.specs.Processes.{tell}
 use Rattle.sim_machine.specs.Tellings.{Telling}
 use Rattle.sim_machine.specs.LawfulTimes.{LawfulTimes}
 use Rattle.sim_machine.specs.LawfulRegistrations.{LawfulRegistrations}

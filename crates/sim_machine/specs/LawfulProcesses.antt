@@ -41,9 +41,11 @@ is_living_well s x =
 abbrev pub is_ok_zero : EventOf → Bool
 is_ok_zero x = elim x.outcome [ Some (outcome.Ok (pos n)) ↦ n == 0 | _ ↦ false ]
 
--- no process is resumed but by what it waits for, and none that has ended or runs is resumed at all
+-- the process that runs is alive; no other is resumed but by what it waits for, and none that has ended or runs is resumed
+-- at all
 pub record LawfulProcesses {B : Type 0} (named : ℕ) (s : State B) : Type 0 where
   pub distinct : AllPairs (λ x y. x.id ≢ y.id) s.processes
+  pub active : (p : ProcId) → IsTrue (is_active s.control p) → IsTrue (is_alive p s)
   pub waiting : AllPass (is_waiting_well s) s.processes
   pub not_resumed : (p : ProcId) → IsTrue (is_active s.control p || not (is_alive p s)) → callbacks_in_all (is_resume_of p) s.facilities.calendar s.control ≡ 0
   pub living : AllPass (is_living_well s) s.processes

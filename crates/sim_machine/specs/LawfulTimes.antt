@@ -1,5 +1,5 @@
 -- Lawful times: the agenda holds what is triggered, from now to the last time.
-use Rattle.std.specs.Prelude.{ℤ, ◌^◌, pos, ◌≡◌, ◌≢◌, ◌<◌, ◌≤ℤ◌, count_by, All, AllPairs}
+use Rattle.std.specs.Prelude.{◌^◌, pos, ◌≡◌, ◌≢◌, ◌<◌, ◌≤ℤ◌, count_by, All, AllPairs}
 use Rattle.sim_types.specs.declared.event.EventId.{EventId}
 use Rattle.sim_machine.specs.State.{Calendar}
 use Rattle.sim_machine.specs.Events.{is_same, is_triggered}
