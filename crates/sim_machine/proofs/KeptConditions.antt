@@ -1,6 +1,6 @@
 -- What the lawful conditions read: where all of it stays, they stay.
-use Rattle.std.proofs.Common.{◌≡◌, ℕ, ◌+◌, ◌<◌, ◌≤◌, Bool, true, false, ◌||◌, ◌&&◌, not, List, [], ◌∷◌, ◌++◌, length, refl, sym, subst, ap, ◌∙◌, if◌then◌else◌, arith, ◌⊎◌, inl, inr, zero, suc, filter, map, Option}
-use Rattle.std.specs.Prelude.{IsTrue, count_by, sum_by, nat_lt, nat_le, ◌==◌, cond, is_some}
+use Rattle.std.proofs.Common.{◌≡◌, ℕ, ◌+◌, ◌<◌, ◌≤◌, Bool, true, false, ◌||◌, ◌&&◌, not, List, [], ◌∷◌, ◌++◌, length, refl, sym, ap, ◌∙◌, if◌then◌else◌, arith, ◌⊎◌, inl, inr, zero, suc, filter, map, Option}
+use Rattle.std.specs.Prelude.{count_by, sum_by, nat_lt, nat_le, ◌==◌, cond, is_some}
 use Rattle.std.specs.List.{list_any, list_all}
 use Rattle.std.proofs.lemmas.Bool.{cases_lt, lt-ltb, false≢true}
 use Rattle.std.proofs.lemmas.Bool.Decides.{nat_tests}
@@ -15,8 +15,8 @@ use Rattle.sim_machine.specs.State.{ConditionOf, EventOf, Registration, Calendar
 use Rattle.sim_machine.specs.Events.{is_same, event_at, is_pending, is_processed, callbacks_of, register, is_check_of, pending_event}
 use Rattle.sim_machine.specs.Conditions.{condition_of, is_condition, condition_at, members_of, most_weight, weight_within}
 use Rattle.sim_machine.specs.Processes.{told_more, not_active}
-use Rattle.sim_machine.specs.Standing.{one_if, was_made, left_of, is_event_of, all_callbacks_of}
-use Rattle.sim_machine.specs.LawfulConditions.{LawfulConditions, is_build_of, members_are_older, is_below_all, counts_well, checks_at, times_member, first_passes, is_empty, needs_build, builds_first, builds_left_first, is_to_be_built}
+use Rattle.sim_machine.specs.Standing.{one_if, left_of, is_event_of, all_callbacks_of}
+use Rattle.sim_machine.specs.LawfulConditions.{LawfulConditions, is_build_of, members_are_older, is_below_all, counts_well, checks_at, times_member, first_passes, is_empty, needs_build, builds_left_first, is_to_be_built}
 
 -- ---- lists
 
@@ -53,11 +53,11 @@ cond_one b = cond b 1 0
 abbrev older : EventId → List EventId → ℕ → Bool
 older e members weight = list_all (λ f. nat_lt f.0 e.0) members && nat_le weight most_weight
 
-older_same : (c d : Calendar) → ((e : EventId) → members_of d e ≡ members_of c e) → (e : EventId) → members_are_older d e ≡ members_are_older c e
+pub older_same : (c d : Calendar) → ((e : EventId) → members_of d e ≡ members_of c e) → (e : EventId) → members_are_older d e ≡ members_are_older c e
 older_same c d h e =
     ap (λ (ms : List EventId). older e ms (weight_within (most_weight + 1) d e)) (h e) ∙ ap (older e (members_of c e)) (weight_same c d h (most_weight + 1) e)
 
-older_alone : (c : Calendar) (e : EventId) → members_of c e ≡ [] → members_are_older c e ≡ true
+pub older_alone : (c : Calendar) (e : EventId) → members_of c e ≡ [] → members_are_older c e ≡ true
 older_alone c e h =
     ap (λ (ms : List EventId). older e ms (weight_within (most_weight + 1) c e)) h ∙ ap (older e []) (weight_alone c most_weight e h)
 
@@ -66,7 +66,7 @@ older_at c k e h (inl made) = h.members e (lt-ltb e.0 (length c.events) made)
 older_at c k e h (inr unmade) = older_alone c e (ap (λ (x : EventOf). (condition_of x.condition).members) (unmade_event c e unmade))
 
 -- also what was not made has older members, as it has none
-older_everywhere : (c : Calendar) (k : Control) (e : EventId) → LawfulConditions c k → members_are_older c e ≡ true
+pub older_everywhere : (c : Calendar) (k : Control) (e : EventId) → LawfulConditions c k → members_are_older c e ≡ true
 older_everywhere c k e h = older_at c k e h (cases_lt e.0 (length c.events))
 
 -- ---- the events change, and what is registered and to be called stays
@@ -77,8 +77,8 @@ pub record KeepsConditions (c d : Calendar) : Type 0 where
   pub processed : (e : EventId) → is_processed d e ≡ is_processed c e
   pub pending : (e : EventId) → is_pending d e ≡ true → is_pending c e ≡ true
 
-same_members : (c d : Calendar) → KeepsConditions c d → (e : EventId) → members_of d e ≡ members_of c e
-same_members c d k e = ap (λ (o : Option ConditionOf). (condition_of o).members) (k.conditions e)
+pub same_members : (c d : Calendar) → ((e : EventId) → (event_at d e).condition ≡ (event_at c e).condition) → (e : EventId) → members_of d e ≡ members_of c e
+same_members c d same e = ap (λ (o : Option ConditionOf). (condition_of o).members) (same e)
 
 same_needs : (c d : Calendar) → KeepsConditions c d → (e : EventId) → needs_build d e ≡ needs_build c e
 same_needs c d k e =
@@ -94,9 +94,9 @@ still_counts true false true b h w = absurd (false≢true (h refl))
 still_counts true false false b h w = refl
 still_counts false p q b h w = refl
 
-counts_changed : (c d : Calendar) → KeepsConditions c d → (e : EventId) → counts_well c e ≡ true → counts_well d e ≡ true
-counts_changed c d k e h =
-    ap (λ (o : Option ConditionOf). not (is_some o && is_pending d e) || is_below_all (condition_of o)) (k.conditions e) ∙ still_counts (is_condition c e) (is_pending c e) (is_pending d e) (is_below_all (condition_at c e)) (k.pending e) h
+pub counts_changed : (c d : Calendar) (e : EventId) → (event_at d e).condition ≡ (event_at c e).condition → (is_pending d e ≡ true → is_pending c e ≡ true) → counts_well c e ≡ true → counts_well d e ≡ true
+counts_changed c d e same pending h =
+    ap (λ (o : Option ConditionOf). not (is_some o && is_pending d e) || is_below_all (condition_of o)) same ∙ still_counts (is_condition c e) (is_pending c e) (is_pending d e) (is_below_all (condition_at c e)) pending h
 
 -- the same conditions, where all callbacks count alike and the first ones stay first
 record SameCalls (c d : Calendar) (a b : Control) : Type 0 where
@@ -114,16 +114,16 @@ weaker_or false p q h w = h w
 conditions_kept : (c d : Calendar) (a b : Control) → KeepsConditions c d → SameCalls c d a b → LawfulConditions c a → LawfulConditions d b
 conditions_kept c d a b same calls h =
     record {
-      members = λ e made. older_same c d (same_members c d same) e ∙ older_everywhere c a e h;
-      counts = λ e. counts_changed c d same e (h.counts e);
+      members = λ e made. older_same c d (same_members c d same.conditions) e ∙ older_everywhere c a e h;
+      counts = λ e. counts_changed c d e (same.conditions e) (same.pending e) (h.counts e);
       checks = λ cond e.
-        let times : times_member d cond e ≡ times_member c cond e = ap (count_by (is_same e)) (same_members c d same cond) in
-        rw (times, calls.checks cond e) (h.checks cond e);
+          let times : times_member d cond e ≡ times_member c cond e = ap (count_by (is_same e)) (same_members c d same.conditions cond) in
+          rw (times, calls.checks cond e) (h.checks cond e);
       unbuilt = λ cond e some.
-        same_to_be_built c d b same cond ∙ weaker_or (not (is_processed c cond)) _ _ (calls.building cond) (h.unbuilt cond e (ap (nat_lt 0) (sym (calls.checks cond e)) ∙ some));
+          same_to_be_built c d b same cond ∙ weaker_or (not (is_processed c cond)) _ _ (calls.building cond) (h.unbuilt cond e (ap (nat_lt 0) (sym (calls.checks cond e)) ∙ some));
       builds = λ cond. calls.builds cond ∙ (h.builds cond ∙ ap one_if (sym (same_needs c d same cond)));
       first = λ cond.
-        ap (λ (n : Bool). not n || first_passes (is_build_of cond) (callbacks_of cond d)) (same_needs c d same cond) ∙ weaker_or (not (needs_build c cond)) _ _ (calls.first cond) (h.first cond);
+          ap (λ (n : Bool). not n || first_passes (is_build_of cond) (callbacks_of cond d)) (same_needs c d same cond) ∙ weaker_or (not (needs_build c cond)) _ _ (calls.first cond) (h.first cond);
       left = λ cond. calls.left cond (h.left cond);
     }
 
@@ -180,8 +180,8 @@ pub conditions_registered : (e : EventId) (x : Callback) (c : Calendar) (k : Con
 conditions_registered e x c k n h =
     conditions_kept c (register e x c) k k (record { conditions = λ f. refl; processed = λ f. refl; pending = λ f w. w }) (record {
       checks = λ cond f.
-        let left : List Callback = if is_event_of k f then left_of k else [] in
-        count_append (is_check_of cond) (callbacks_of f (register e x c)) left ∙ (ap (λ (m : ℕ). m + count_by (is_check_of cond) left) (count_registered (is_check_of cond) e f x c (n.no_check cond)) ∙ sym (count_append (is_check_of cond) (callbacks_of f c) left));
+          let left : List Callback = if is_event_of k f then left_of k else [] in
+          count_append (is_check_of cond) (callbacks_of f (register e x c)) left ∙ (ap (λ (m : ℕ). m + count_by (is_check_of cond) left) (count_registered (is_check_of cond) e f x c (n.no_check cond)) ∙ sym (count_append (is_check_of cond) (callbacks_of f c) left));
       building = λ cond w. w;
       builds = λ cond. sum_by_push (λ r. cond_one (is_build_of cond r.callback)) c.registered (record { event = e; callback = x }) ∙ rw (n.no_build cond) (omega arith);
       first = λ cond w. ap (first_passes (is_build_of cond)) (callbacks_registered e cond x c) ∙ first_stays (is_build_of cond) (callbacks_of cond c) (one_more e cond x) w;
@@ -203,7 +203,7 @@ pub conditions_controlled : (c : Calendar) (a b : Control) → KeepsCalls a b �
 conditions_controlled c a b calls h =
     conditions_kept c c a b (keeps_itself c) (record {
       checks = λ cond e.
-        count_append (is_check_of cond) (callbacks_of e c) (called_by b e) ∙ (ap (λ (m : ℕ). count_by (is_check_of cond) (callbacks_of e c) + m) (calls.checks cond e) ∙ sym (count_append (is_check_of cond) (callbacks_of e c) (called_by a e)));
+          count_append (is_check_of cond) (callbacks_of e c) (called_by b e) ∙ (ap (λ (m : ℕ). count_by (is_check_of cond) (callbacks_of e c) + m) (calls.checks cond e) ∙ sym (count_append (is_check_of cond) (callbacks_of e c) (called_by a e)));
       building = calls.building;
       builds = λ cond. refl;
       first = λ cond w. w;
@@ -228,9 +228,9 @@ calls_less e x left b same at n =
       checks = λ cond f. rw (same f, at) (sym (called_failing (is_check_of cond) (is_same e f) x left (n.no_check cond)));
       building = λ cond w. rw (same cond, at) (building_failing (is_build_of cond) (is_same e cond) x left (n.no_build cond) w);
       left = λ cond w.
-        let count : ℕ = count_by (is_build_of cond) left in
-        let before : ((count == 0) || (count == 1) && is_same e cond && is_build_of cond x) ≡ true = ap (λ (m : ℕ). (m == 0) || (m == 1) && is_same e cond && is_build_of cond x) (sym (count_failing (is_build_of cond) x left (n.no_build cond))) ∙ w in
-        rw at (first_failing ((count == 1) && is_event_of b cond && first_passes (is_build_of cond) left) (is_same e cond) (is_build_of cond x) count (n.no_build cond) before);
+          let count : ℕ = count_by (is_build_of cond) left in
+          let before : ((count == 0) || (count == 1) && is_same e cond && is_build_of cond x) ≡ true = ap (λ (m : ℕ). (m == 0) || (m == 1) && is_same e cond && is_build_of cond x) (sym (count_failing (is_build_of cond) x left (n.no_build cond))) ∙ w in
+          rw at (first_failing ((count == 1) && is_event_of b cond && first_passes (is_build_of cond) left) (is_same e cond) (is_build_of cond x) count (n.no_build cond) before);
     }
 
 called_nothing : (p : Callback → Bool) (b : Bool) (xs : List Callback) → xs ≡ [] → count_by p (if b then xs else []) ≡ 0

@@ -1,11 +1,10 @@
 -- Conditions stay lawful where events are made, scheduled, waited for or defused.
-use Rattle.std.proofs.Common.{◌≡◌, ℕ, ◌<◌, ◌≤◌, ℤ, pos, Bool, true, false, List, [], ◌∷◌, ◌++◌, length, refl, sym, subst, ap, ◌∙◌, if◌then◌else◌, arith, zero, suc, Option, Some, None}
-use Rattle.std.specs.Prelude.{IsTrue, is_none, slice_index_or, slice_set, int_lt}
+use Rattle.std.proofs.Common.{◌≡◌, ℕ, ℤ, pos, Bool, true, false, List, [], ◌∷◌, refl, sym, ◌∙◌, if◌then◌else◌, zero, suc, Option, Some}
+use Rattle.std.specs.Prelude.{is_none, slice_index_or, slice_set, int_lt}
 use Rattle.sim_types.specs.declared.event.EventId.{EventId}
 use Rattle.sim_types.specs.declared.event.ProcId.{ProcId}
 use Rattle.sim_types.specs.declared.event.Outcome.{Outcome}
 use Rattle.sim_types.specs.declared.event.EventKind.{EventKind}
-use Rattle.sim_types.specs.declared.event.Callback.{Callback}
 use Rattle.sim_types.specs.declared.event.EventKind.TheVariants as kind
 use Rattle.sim_types.specs.declared.event.Outcome.TheVariants as outcome
 use Rattle.sim_types.specs.declared.event.Callback.TheVariants as callback
@@ -16,11 +15,11 @@ use Rattle.sim_machine.specs.Events.{event_at, is_pending, is_fail, is_processed
 use Rattle.sim_machine.specs.Triggering.{make, schedule, urgent, normal, make_timeout, is_too_late}
 use Rattle.sim_machine.specs.Scopes.{on_events}
 use Rattle.sim_machine.specs.Processes.{tell, rest, signal_of, defuse_failed, wait, change_process, make_events_of_process}
-use Rattle.sim_machine.specs.Effect.{calendar, raise, with_timeout}
+use Rattle.sim_machine.specs.Effect.{raise, with_timeout}
 use Rattle.sim_machine.specs.Runs.{set_stop}
 use Rattle.sim_machine.specs.LawfulConditions.{LawfulConditions}
 use Rattle.sim_machine.proofs.EventLaws.{change_event-keeps, make-keeps}
-use Rattle.sim_machine.proofs.KeptConditions.{KeepsConditions, IsNoConditions, conditions_changed, conditions_registered, conditions_told, conditions_rested}
+use Rattle.sim_machine.proofs.KeptConditions.{IsNoConditions, conditions_changed, conditions_registered, conditions_told, conditions_rested}
 
 still_pending : (xs : List EventOf) (n m : ℕ) (x d : EventOf) → (is_none x.outcome ≡ true → is_none (slice_index_or xs n d).outcome ≡ true) → is_none (slice_index_or (slice_set xs n x) m d).outcome ≡ true → is_none (slice_index_or xs m d).outcome ≡ true
 still_pending [] n m x d h w = w
@@ -99,7 +98,7 @@ conditions_stop_set (until.Event e) c k h = conditions_registered e callback.Sto
 abbrev pub HasConditions : {B : Type 0} → State B → Type 0
 HasConditions s = LawfulConditions s.facilities.calendar s.control
 
-if_has : {B : Type 0} (b : Bool) (s t : State B) → HasConditions s → HasConditions t → HasConditions (if b then s else t)
+pub if_has : {B : Type 0} (b : Bool) (s t : State B) → HasConditions s → HasConditions t → HasConditions (if b then s else t)
 if_has true s t h w = h
 if_has false s t h w = w
 
