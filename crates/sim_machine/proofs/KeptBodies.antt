@@ -1,13 +1,11 @@
 -- The bodies of live processes, one by one.
-use Rattle.std.proofs.Common.{◌≡◌, ◌≢◌, ℕ, ◌+◌, ◌<◌, ◌≤◌, ℤ, pos, Bool, true, false, ◌||◌, ◌&&◌, not, List, [], ◌∷◌, ◌++◌, length, Option, Some, None, refl, sym, subst, ap, ◌∙◌, if◌then◌else◌, arith, ◌⊎◌, inl, inr, filter, map, All}
-use Rattle.std.specs.Prelude.{IsTrue, ◌==◌, find, cond, nat_lt}
-use Rattle.std.specs.List.{list_any, list_all, AllPass, Any}
-use Rattle.std.proofs.lemmas.Bool.{cases_Bool, cases_eq, eq-eqb, ne_eqb, false≢true, true≢false, and_parts, and_from, or_cases, or_left, or_right, ltb-true, lt-ltb}
-use Rattle.std.proofs.lemmas.Bool.Decides.{nat_tests}
+use Rattle.std.proofs.Common.{◌≡◌, ◌≢◌, ◌<◌, Bool, true, false, ◌||◌, ◌&&◌, not, List, [], ◌∷◌, length, Option, Some, None, refl, sym, subst, ap, ◌∙◌, if◌then◌else◌, arith, ◌⊎◌, inl, inr, All}
+use Rattle.std.specs.Prelude.{◌==◌, find, cond}
+use Rattle.std.specs.List.{list_all}
+use Rattle.std.proofs.lemmas.Bool.{cases_eq, eq-eqb, ne_eqb, false≢true, and_parts, and_from, or_cases, or_left, or_right, ltb-true, lt-ltb}
 use Rattle.std.proofs.lemmas.Option.{none-some, same_Some}
-use Rattle.std.proofs.lemmas.List.Elements.{All-weaker, All-head, All-tail, All-map, All-filter, filter_passes, All-same}
+use Rattle.std.proofs.lemmas.List.Elements.{All-weaker, All-head, All-tail}
 use Rattle.std.proofs.lemmas.List.Sums.{AllPass-from_list_all, list_all-from_AllPass}
-use Rattle.std.proofs.lemmas.List.Folds.{Any-from_list_any}
 use Rattle.sim_types.specs.declared.event.EventId.{EventId}
 use Rattle.sim_types.specs.declared.event.ProcId.{ProcId}
 use Rattle.sim_types.specs.declared.event.EventKind.{EventKind}
@@ -23,10 +21,10 @@ use Rattle.sim_types.specs.declared.setup.Class.{Class}
 use Rattle.sim_types.specs.declared.setup.Class.TheVariants as class
 use Rattle.sim_machine.specs.State.{EventOf, Calendar, ProcessOf, Control, Idle, Calling, Active, Over, State}
 use Rattle.sim_machine.specs.Events.{is_same, is_process, event_at, is_processed}
-use Rattle.sim_machine.specs.Processes.{process_at, with_body, signal_of}
+use Rattle.sim_machine.specs.Processes.{signal_of}
 use Rattle.sim_machine.specs.Steps.{signal_by}
 use Rattle.sim_machine.specs.Tellings.{Place, Telling, kind_fits, is_class}
-use Rattle.sim_machine.specs.MayFollow.{may_wait, may_be_told, may_follow, makes_kind, is_resumption, raises_one_of}
+use Rattle.sim_machine.specs.MayFollow.{may_wait, may_be_told, may_follow, makes_kind, is_resumption}
 use Rattle.sim_machine.specs.BodyLaw.{makes_class, gets_made, places_kept}
 use Rattle.sim_machine.specs.Standing.{was_made, kind_at}
 use Rattle.sim_machine.specs.LawfulBodies.{LawfulBodies, place_fits, waits_or_new, told_fits, is_told_well}
@@ -162,8 +160,9 @@ place_kept tell c b x v y told h w =
     kept : is_class y.class v.class ≡ true → y.event ≡ v.event → ((v.event.0 == 0) ≡ true) ⊎ ((was_made c v.event && kind_fits v.class (kind_at c v.event)) ≡ true) → place_fits c y ≡ true
     kept cls same (inl zero) = or_left (y.event.0 == 0) _ (ap (λ (n : EventId). n.0 == 0) same ∙ zero)
     kept cls same (inr fits) =
-      let both : (was_made c v.event ≡ true) × (kind_fits v.class (kind_at c v.event) ≡ true) = and_parts (was_made c v.event) _ fits in
-      or_right (y.event.0 == 0) _ (and_from (was_made c y.event) _ (ap (was_made c) same ∙ both.0) (ap (λ (n : EventId). kind_fits y.class (kind_at c n)) same ∙ same_class v.class y.class cls (kind_at c v.event) both.1))
+        let both : (was_made c v.event ≡ true) × (kind_fits v.class (kind_at c v.event) ≡ true) = and_parts (was_made c v.event) _ fits in
+        or_right (y.event.0 == 0) _ (and_from (was_made c y.event) _ (ap (was_made c) same ∙ both.0) (ap (λ (n : EventId). kind_fits y.class (kind_at c n)) same ∙ same_class v.class y.class cls (kind_at c v.event) both.1))
+
     at : is_class y.class v.class ≡ true → (is_same y.event v.event ≡ true) ⊎ (gets_made (tell.last b) x y ≡ true) → place_fits c y ≡ true
     at cls (inl same) = kept cls (is_same-yes y.event v.event same) (or_cases (v.event.0 == 0) _ h)
     at cls (inr gets) = gets_fits tell c b x y told gets

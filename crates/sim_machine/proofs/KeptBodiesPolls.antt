@@ -1,16 +1,14 @@
 -- The bodies of all processes once one of them was polled.
-use Rattle.std.proofs.Common.{◌≡◌, ℕ, ◌<◌, ◌≤◌, ℤ, pos, Bool, true, false, ◌&&◌, not, List, [], ◌∷◌, ◌++◌, length, Option, Some, None, refl, sym, subst, ap, ◌∙◌, if◌then◌else◌, arith, filter, map, All}
-use Rattle.std.specs.Prelude.{IsTrue, int_lt}
+use Rattle.std.proofs.Common.{◌≡◌, Bool, true, false, not, List, Some, refl, sym, subst, ap, ◌∙◌, if◌then◌else◌, arith, filter, map, All}
 use Rattle.std.specs.List.{list_all}
-use Rattle.std.proofs.lemmas.Bool.{false≢true, true≢false, not-true}
+use Rattle.std.proofs.lemmas.Bool.{true≢false, not-true}
 use Rattle.std.proofs.lemmas.List.Elements.{All-weaker, All-map, All-filter, filter_passes, All-same}
 use Rattle.sim_types.specs.declared.event.EventId.{EventId}
 use Rattle.sim_types.specs.declared.event.ProcId.{ProcId}
 use Rattle.sim_types.specs.declared.event.Signal.{Signal}
 use Rattle.sim_types.specs.declared.event.Callback.{Callback}
-use Rattle.sim_types.specs.declared.event.Outcome.{Outcome}
 use Rattle.sim_types.specs.declared.event.Callback.TheVariants as callback
-use Rattle.sim_machine.specs.State.{EventOf, Calendar, ProcessOf, Control, Calling, Active, State}
+use Rattle.sim_machine.specs.State.{Calendar, ProcessOf, Control, Calling, Active, State}
 use Rattle.sim_machine.specs.Events.{is_process, event_at, is_processed, register}
 use Rattle.sim_machine.specs.Scopes.{on_events}
 use Rattle.sim_machine.specs.Processes.{process_at, with_body, change_process, told_more, not_active, tell as told, rest, signal_of, defuse_failed, wait}
@@ -18,12 +16,12 @@ use Rattle.sim_machine.specs.Tellings.{Telling}
 use Rattle.sim_machine.specs.BodyLaw.{places_kept}
 use Rattle.sim_machine.specs.LawfulBodies.{LawfulBodies, place_fits, waits_or_new, told_fits, is_told_well}
 use Rattle.sim_machine.proofs.KeptBodies.{IsBodyWell, bodies_well, bodies_lawful, find_has, find_passes, is_process-sym, places_grown, places_polled, fits_resumed, of_is_resumption}
-use Rattle.sim_machine.proofs.KeptBodiesEvents.{Grown, grown_itself, grown_joined, grown_failed_defused}
+use Rattle.sim_machine.proofs.KeptBodiesEvents.{Grown, grown_joined, grown_failed_defused}
 
 then_first : (b p q : Bool) → b ≡ true → (if b then p else q) ≡ p
 then_first b p q h = rw h refl
 
-then_second : (b p q : Bool) → b ≡ false → (if b then p else q) ≡ q
+pub then_second : (b p q : Bool) → b ≡ false → (if b then p else q) ≡ q
 then_second b p q h = rw h refl
 
 -- a process other than the active one waits
@@ -116,7 +114,7 @@ bodies_resting tell sound s t e left p x y b h same g control fits =
     let off : t.control ≡ Calling e left = control ∙ ap not_active h.active in
     bodies_polled tell sound s t e left p x y b h same g (λ q is. ap (is_told_well tell d q b) off ∙ fits) (λ q v is waits. ap (is_told_well tell d q v) off ∙ waits)
 
-if_bodies : {B : Type 0} (tell : Telling B) (sound : B → Type 0) (v : Bool) (s t : State B) → LawfulBodies tell sound s → LawfulBodies tell sound t → LawfulBodies tell sound (if v then s else t)
+pub if_bodies : {B : Type 0} (tell : Telling B) (sound : B → Type 0) (v : Bool) (s t : State B) → LawfulBodies tell sound s → LawfulBodies tell sound t → LawfulBodies tell sound (if v then s else t)
 if_bodies tell sound true s t h w = h
 if_bodies tell sound false s t h w = w
 
