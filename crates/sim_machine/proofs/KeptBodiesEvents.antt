@@ -18,37 +18,38 @@ use Rattle.sim_machine.specs.Triggering.{make, schedule, urgent, normal, make_ti
 use Rattle.sim_machine.specs.Processes.{defuse_failed, make_events_of_process}
 use Rattle.sim_machine.specs.Runs.{set_stop}
 use Rattle.sim_machine.specs.Standing.{kind_at}
-use Rattle.sim_machine.proofs.EventLaws.{change_event-keeps, change_event-other, change_event-length, make-length, make-old}
+use Rattle.sim_machine.proofs.EventLaws.{change_event-keeps, change_event-other, change_event-length, make-length, make-old, make-keeps}
 use Rattle.sim_machine.proofs.KeptConditionsPop.{popped-keeps}
 
 -- no event changes its kind, and none is cancelled; more may be made
 pub record Grown (c d : Calendar) : Type 0 where
   pub longer : length c.events ≤ length d.events
   pub kinds : (e : EventId) → e.0 < length c.events → kind_at d e ≡ kind_at c e
-  pub cancelled : (e : EventId) → e.0 < length c.events → (event_at d e).cancelled ≡ (event_at c e).cancelled
+  pub cancelled : (e : EventId) → (event_at d e).cancelled ≡ (event_at c e).cancelled
 
--- all events that were made stay as they were; more may be made
+-- all events that were made stay as they were; more may be made, and none is cancelled
 pub record OldStay (c d : Calendar) : Type 0 where
   pub longer : length c.events ≤ length d.events
   pub same : (e : EventId) → e.0 < length c.events → event_at d e ≡ event_at c e
+  pub cancelled : (e : EventId) → (event_at d e).cancelled ≡ (event_at c e).cancelled
 
 pub grown_old : (c d : Calendar) → OldStay c d → Grown c d
 grown_old c d h =
     record {
       longer = h.longer;
       kinds = λ e made. ap (λ (x : EventOf). x.kind) (h.same e made);
-      cancelled = λ e made. ap (λ (x : EventOf). x.cancelled) (h.same e made);
+      cancelled = h.cancelled;
     }
 
 pub grown_itself : (c : Calendar) → Grown c c
-grown_itself c = record { longer = omega arith; kinds = λ e made. refl; cancelled = λ e made. refl }
+grown_itself c = record { longer = omega arith; kinds = λ e made. refl; cancelled = λ e. refl }
 
 pub grown_joined : (c d f : Calendar) → Grown c d → Grown d f → Grown c f
 grown_joined c d f g h =
     record {
       longer = omega (arith, g.longer, h.longer);
       kinds = λ e made. h.kinds e (omega (arith, made, g.longer)) ∙ g.kinds e made;
-      cancelled = λ e made. h.cancelled e (omega (arith, made, g.longer)) ∙ g.cancelled e made;
+      cancelled = λ e. h.cancelled e ∙ g.cancelled e;
     }
 
 -- one event may change, where it keeps its kind and is not cancelled
@@ -57,7 +58,7 @@ grown_changed e change c kinds cancelled =
     record {
       longer = omega (arith, change_event-length e change c);
       kinds = λ f made. change_event-keeps (λ x. x.kind) e f change c kinds;
-      cancelled = λ f made. change_event-keeps (λ x. x.cancelled) e f change c cancelled;
+      cancelled = λ f. change_event-keeps (λ x. x.cancelled) e f change c cancelled;
     }
 
 pub grown_scheduled : (e : EventId) (x : Outcome) (priority : ℕ) (delay : ℤ) (c : Calendar) → Grown c (schedule e x priority delay c)
@@ -65,7 +66,7 @@ grown_scheduled e x priority delay c =
     record {
       longer = omega (arith, change_event-length e (λ y. record y { outcome = Some x }) c);
       kinds = λ f made. change_event-keeps (λ y. y.kind) e f (λ y. record y { outcome = Some x }) c (λ y. refl);
-      cancelled = λ f made. change_event-keeps (λ y. y.cancelled) e f (λ y. record y { outcome = Some x }) c (λ y. refl);
+      cancelled = λ f. change_event-keeps (λ y. y.cancelled) e f (λ y. record y { outcome = Some x }) c (λ y. refl);
     }
 
 if_grown : (b : Bool) (c d : Calendar) → Grown c d → Grown c (if b then d else c)
@@ -80,23 +81,24 @@ grown_popped x c =
     record {
       longer = omega (arith, change_event-length x.event (λ y. record y { processed = true }) c);
       kinds = λ f made. popped-keeps (λ y. y.kind) x c f (λ y. refl);
-      cancelled = λ f made. popped-keeps (λ y. y.cancelled) x c f (λ y. refl);
+      cancelled = λ f. popped-keeps (λ y. y.cancelled) x c f (λ y. refl);
     }
 
 -- ---- events are made, and only these are changed
 
 pub old_itself : (c : Calendar) → OldStay c c
-old_itself c = record { longer = omega arith; same = λ e made. refl }
+old_itself c = record { longer = omega arith; same = λ e made. refl; cancelled = λ e. refl }
 
 pub old_made : (k : EventKind) (c d : Calendar) → OldStay c d → OldStay c (make k d)
 old_made k c d h =
     record {
       longer = omega (arith, make-length k d, h.longer);
       same = λ e made. make-old k d e (omega (arith, made, h.longer)) ∙ h.same e made;
+      cancelled = λ e. make-keeps (λ x. x.cancelled) k d e refl ∙ h.cancelled e;
     }
 
 pub old_registered : (e : EventId) (x : Callback) (c d : Calendar) → OldStay c d → OldStay c (register e x d)
-old_registered e x c d h = record { longer = h.longer; same = h.same }
+old_registered e x c d h = record { longer = h.longer; same = h.same; cancelled = h.cancelled }
 
 -- an event that is new may be scheduled
 pub old_scheduled : (e : EventId) (x : Outcome) (priority : ℕ) (delay : ℤ) (c d : Calendar) → length c.events ≤ e.0 → OldStay c d → OldStay c (schedule e x priority delay d)
@@ -104,6 +106,7 @@ old_scheduled e x priority delay c d new h =
     record {
       longer = omega (arith, change_event-length e (λ y. record y { outcome = Some x }) d, h.longer);
       same = λ f made. change_event-other e f (λ y. record y { outcome = Some x }) d (λ s. omega (arith, s, made, new)) ∙ h.same f made;
+      cancelled = λ f. change_event-keeps (λ y. y.cancelled) e f (λ y. record y { outcome = Some x }) d (λ y. refl) ∙ h.cancelled f;
     }
 
 pub old_timeout : (delay value : ℤ) (c : Calendar) → OldStay c (make_timeout delay value c)

@@ -127,7 +127,7 @@ bodies_wait {B} tell sound s t e left p x y b n h same g control waits =
     let off : State B = rest (on_events (register n (callback.Resume p)) t) in
     if_bodies tell sound (is_processed c n) on (change_process p (λ z. record z { target = n }) off)
     (bodies_going_on tell sound s on e left p x y b n_told h same (grown_joined s.facilities.calendar c (defuse_failed n c) g (grown_failed_defused n c)) (ap (told_more n_told) control) (fits_resumed tell (defuse_failed n c) b n_told waits (of_is_resumption (event_at c n).outcome)))
-    (bodies_retargeted tell sound p n off (bodies_resting tell sound s off e left p x y b h same (grown_joined s.facilities.calendar c (register n (callback.Resume p) c) g (record { longer = omega arith; kinds = λ f made. refl; cancelled = λ f made. refl })) (ap not_active control) waits))
+    (bodies_retargeted tell sound p n off (bodies_resting tell sound s off e left p x y b h same (grown_joined s.facilities.calendar c (register n (callback.Resume p) c) g (record { longer = omega arith; kinds = λ f made. refl; cancelled = λ f. refl })) (ap not_active control) waits))
 
 well_ended : {B : Type 0} (tell : Telling B) (sound : B → Type 0) (c d : Calendar) (e : EventId) (left : List Callback) (p : ProcId) (x : Signal) (b : B) (z : ProcessOf B) → Grown c d → IsBodyWell tell sound c (Active e left p x) z → (v : Bool) → is_process z.id p ≡ v → is_process (if v then record z { body = b } else z).id p ≡ false → IsBodyWell tell sound d (Calling e left) (if v then record z { body = b } else z)
 well_ended tell sound c d e left p x b z g h true is not_p = absurd (true≢false (sym is ∙ not_p))

@@ -1,0 +1,81 @@
+-- What waits stays lawful, where the queues, the ledger and the open scopes stay.
+use Rattle.std.proofs.Common.{◌≡◌, ◌≢◌, ℕ, ◌<◌, ◌≤◌, Bool, true, false, ◌||◌, ◌&&◌, not, List, [], ◌∷◌, ◌++◌, length, Option, Some, None, refl, sym, subst, ap, ◌∙◌, if◌then◌else◌, arith, ◌⊎◌, inl, inr, filter, map, All, append-nil, get_or}
+use Rattle.std.specs.Prelude.{IsTrue, nat_lt, ◌==◌, slice_index_or}
+use Rattle.std.specs.List.{AllPass, list_any}
+use Rattle.std.proofs.lemmas.Bool.{cases_lt, false≢true, and_parts, and_from, ltb-true, lt-ltb, or_left}
+use Rattle.std.proofs.lemmas.List.Elements.{All-weaker, All-get_or, All-from_get_or}
+use Rattle.sim_types.specs.declared.event.EventId.{EventId}
+use Rattle.sim_types.specs.declared.event.ProcId.{ProcId}
+use Rattle.sim_types.specs.declared.event.Signal.{Signal}
+use Rattle.sim_types.specs.declared.event.Callback.{Callback}
+use Rattle.sim_types.specs.declared.event.EventKind.TheVariants as kind
+use Rattle.sim_types.specs.declared.event.Signal.TheVariants as signal
+use Rattle.sim_types.specs.declared.line.Line.{Line}
+use Rattle.sim_types.specs.declared.op.Op.{Op}
+use Rattle.sim_types.specs.declared.setup.Resource.{Resource}
+use Rattle.sim_machine.specs.State.{EventOf, Calendar, Waiter, OpenScope, ProcessOf, Control, Idle, Calling, Active, Over, State, Plan}
+use Rattle.sim_machine.specs.Events.{is_process, event_at, is_pending, pending_event}
+use Rattle.sim_machine.specs.Users.{resource_at}
+use Rattle.sim_machine.specs.Processes.{is_alive, change_process}
+use Rattle.sim_machine.specs.Tellings.{Telling}
+use Rattle.sim_machine.specs.MayFollow.{is_enter, is_resumption}
+use Rattle.sim_machine.specs.MayAsk.{takes_requests, most_scopes}
+use Rattle.sim_machine.specs.BodyLaw.{scopes_told}
+use Rattle.sim_machine.specs.Standing.{was_made, kind_at}
+use Rattle.sim_machine.specs.LawfulWaiting.{LawfulWaiting, may_wait_kind, waits_well, is_cancelled_well, is_scope_well, is_request_kind, entered_by, requests_of, KnowsItsScopes}
+use Rattle.sim_machine.proofs.KeptConditions.{unmade_event}
+use Rattle.sim_machine.proofs.KeptBodies.{four_parts, four_from, is_process-sym}
+use Rattle.sim_machine.proofs.KeptBodiesEvents.{Grown}
+
+-- ---- events
+
+waits_grown : (c d : Calendar) (w : Waiter) → Grown c d → is_pending d w.event ≡ true → waits_well c w ≡ true → waits_well d w ≡ true
+waits_grown c d w g pending h =
+    let e : EventId = w.event in
+    let parts : (was_made c e ≡ true) × (is_pending c e ≡ true) × (not (event_at c e).cancelled ≡ true) × (may_wait_kind (kind_at c e) ≡ true) = four_parts (was_made c e) (is_pending c e) (not (event_at c e).cancelled) (may_wait_kind (kind_at c e)) h in
+    let below : e.0 < length c.events = ltb-true e.0 (length c.events) parts.0 in
+    four_from (was_made d e) (is_pending d e) (not (event_at d e).cancelled) (may_wait_kind (kind_at d e)) (lt-ltb e.0 (length d.events) (omega (arith, below, g.longer))) pending (ap not (g.cancelled e) ∙ parts.2) (ap may_wait_kind (g.kinds e below) ∙ parts.3)
+
+cancelled_at : (c d : Calendar) (e : EventId) → Grown c d → AllPass is_cancelled_well c.events → (e.0 < length c.events) ⊎ (length c.events ≤ e.0) → is_cancelled_well (event_at d e) ≡ true
+cancelled_at c d e g h (inl made) =
+    ap (λ (b : Bool). not b || may_wait_kind (kind_at d e)) (g.cancelled e) ∙ (ap (λ k. not (event_at c e).cancelled || may_wait_kind k) (g.kinds e made) ∙ All-get_or (λ x. is_cancelled_well x ≡ true) c.events e.0 (pending_event kind.Plain) made h)
+cancelled_at c d e g h (inr unmade) =
+    let none : (event_at d e).cancelled ≡ false = g.cancelled e ∙ ap (λ (x : EventOf). x.cancelled) (unmade_event c e unmade) in
+    ap (λ (b : Bool). not b || may_wait_kind (kind_at d e)) none
+
+cancelled_grown : (c d : Calendar) → Grown c d → AllPass is_cancelled_well c.events → AllPass is_cancelled_well d.events
+cancelled_grown c d g h =
+    All-from_get_or (λ x. is_cancelled_well x ≡ true) d.events (pending_event kind.Plain) (λ n below. cancelled_at c d (record { 0 = n }) g h (cases_lt n (length c.events)))
+
+scope_grown : {B : Type 0} (rs : List Resource) (s t : State B) (x : OpenScope) → Grown s.facilities.calendar t.facilities.calendar → (is_alive x.process s ≡ true → is_alive x.process t ≡ true) → is_scope_well rs s x ≡ true → is_scope_well rs t x ≡ true
+scope_grown rs s t x g alive h =
+    let c : Calendar = s.facilities.calendar in
+    let d : Calendar = t.facilities.calendar in
+    let r : EventId = x.request in
+    let outer : ((is_alive x.process s && was_made c r && is_request_kind (kind_at c r) && nat_lt x.res (length rs)) ≡ true) × (takes_requests (resource_at rs x.res).kind ≡ true) = and_parts (is_alive x.process s && was_made c r && is_request_kind (kind_at c r) && nat_lt x.res (length rs)) (takes_requests (resource_at rs x.res).kind) h in
+    let parts : (is_alive x.process s ≡ true) × (was_made c r ≡ true) × (is_request_kind (kind_at c r) ≡ true) × (nat_lt x.res (length rs) ≡ true) = four_parts (is_alive x.process s) (was_made c r) (is_request_kind (kind_at c r)) (nat_lt x.res (length rs)) outer.0 in
+    let below : r.0 < length c.events = ltb-true r.0 (length c.events) parts.1 in
+    and_from (is_alive x.process t && was_made d r && is_request_kind (kind_at d r) && nat_lt x.res (length rs)) (takes_requests (resource_at rs x.res).kind)
+    (four_from (is_alive x.process t) (was_made d r) (is_request_kind (kind_at d r)) (nat_lt x.res (length rs)) (alive parts.0) (lt-ltb r.0 (length d.events) (omega (arith, below, g.longer))) (ap is_request_kind (g.kinds r below) ∙ parts.2) parts.3)
+    outer.1
+
+-- ---- the queues, the ledger and the scopes stay
+
+-- all but the queues, the ledger and the open scopes may be other
+abbrev pub moved : {B : Type 0} → State B → Calendar → List (ProcessOf B) → Control → ℕ → ℕ → List Line → State B
+moved s d ps k processed drawn lines =
+    record s { facilities = record s.facilities { calendar = d }; processes = ps; control = k; processed = processed; drawn = drawn; lines = lines }
+
+pub waiting_moved : {B : Type 0} (g : Plan B) (tell : Telling B) (s : State B) (d : Calendar) (ps : List (ProcessOf B)) (k : Control) (processed drawn : ℕ) (lines : List Line) → Grown s.facilities.calendar d → ((w : Waiter) → waits_well s.facilities.calendar w ≡ true → is_pending d w.event ≡ true) → All (λ x. is_alive x.process s ≡ true → is_alive x.process (moved s d ps k processed drawn lines) ≡ true) s.scopes → All (KnowsItsScopes tell (moved s d ps k processed drawn lines)) ps → LawfulWaiting g tell s → LawfulWaiting g tell (moved s d ps k processed drawn lines)
+waiting_moved g tell s d ps k processed drawn lines grown pending alive knows h =
+    let c : Calendar = s.facilities.calendar in
+    let t = moved s d ps k processed drawn lines in
+    record {
+      waiters = All-weaker (λ w. waits_well c w ≡ true) (λ w. waits_well d w ≡ true) (λ w x. waits_grown c d w grown (pending w x) x) s.facilities.waiters h.waiters;
+      once = h.once;
+      cancelled = cancelled_grown c d grown h.cancelled;
+      requests = h.requests;
+      using = h.using;
+      scopes = λ n x below. scope_grown g.setup.resources s t (slice_index_or s.scopes n x) grown (alive n x below) (h.scopes n x below);
+      bodies = knows;
+    }
