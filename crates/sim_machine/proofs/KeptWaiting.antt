@@ -36,6 +36,10 @@ waits_grown c d w g pending h =
     let below : e.0 < length c.events = ltb-true e.0 (length c.events) parts.0 in
     four_from (was_made d e) (is_pending d e) (not (event_at d e).cancelled) (may_wait_kind (kind_at d e)) (lt-ltb e.0 (length d.events) (omega (arith, below, g.longer))) pending (ap not (g.cancelled e) ∙ parts.2) (ap may_wait_kind (g.kinds e below) ∙ parts.3)
 
+-- what waits is pending
+pub waits_pending : (c : Calendar) (w : Waiter) → waits_well c w ≡ true → is_pending c w.event ≡ true
+waits_pending c w h = (four_parts (was_made c w.event) (is_pending c w.event) (not (event_at c w.event).cancelled) (may_wait_kind (kind_at c w.event)) h).1
+
 cancelled_at : (c d : Calendar) (e : EventId) → Grown c d → AllPass is_cancelled_well c.events → (e.0 < length c.events) ⊎ (length c.events ≤ e.0) → is_cancelled_well (event_at d e) ≡ true
 cancelled_at c d e g h (inl made) =
     ap (λ (b : Bool). not b || may_wait_kind (kind_at d e)) (g.cancelled e) ∙ (ap (λ k. not (event_at c e).cancelled || may_wait_kind k) (g.kinds e made) ∙ All-get_or (λ x. is_cancelled_well x ≡ true) c.events e.0 (pending_event kind.Plain) made h)
