@@ -1,30 +1,23 @@
 -- What waits stays lawful, where the queues, the ledger and the open scopes stay.
-use Rattle.std.proofs.Common.{◌≡◌, ◌≢◌, ℕ, ◌<◌, ◌≤◌, Bool, true, false, ◌||◌, ◌&&◌, not, List, [], ◌∷◌, ◌++◌, length, Option, Some, None, refl, sym, subst, ap, ◌∙◌, if◌then◌else◌, arith, ◌⊎◌, inl, inr, filter, map, All, append-nil, get_or}
-use Rattle.std.specs.Prelude.{IsTrue, nat_lt, ◌==◌, slice_index_or}
-use Rattle.std.specs.List.{AllPass, list_any}
-use Rattle.std.proofs.lemmas.Bool.{cases_lt, false≢true, and_parts, and_from, ltb-true, lt-ltb, or_left}
+use Rattle.std.proofs.Common.{◌≡◌, ℕ, ◌<◌, ◌≤◌, Bool, true, false, ◌||◌, ◌&&◌, not, List, length, ap, ◌∙◌, arith, ◌⊎◌, inl, inr, All}
+use Rattle.std.specs.Prelude.{nat_lt, slice_index_or}
+use Rattle.std.specs.List.{AllPass}
+use Rattle.std.proofs.lemmas.Bool.{cases_lt, and_parts, and_from, ltb-true, lt-ltb}
 use Rattle.std.proofs.lemmas.List.Elements.{All-weaker, All-get_or, All-from_get_or}
 use Rattle.sim_types.specs.declared.event.EventId.{EventId}
-use Rattle.sim_types.specs.declared.event.ProcId.{ProcId}
-use Rattle.sim_types.specs.declared.event.Signal.{Signal}
-use Rattle.sim_types.specs.declared.event.Callback.{Callback}
 use Rattle.sim_types.specs.declared.event.EventKind.TheVariants as kind
-use Rattle.sim_types.specs.declared.event.Signal.TheVariants as signal
 use Rattle.sim_types.specs.declared.line.Line.{Line}
-use Rattle.sim_types.specs.declared.op.Op.{Op}
 use Rattle.sim_types.specs.declared.setup.Resource.{Resource}
-use Rattle.sim_machine.specs.State.{EventOf, Calendar, Waiter, OpenScope, ProcessOf, Control, Idle, Calling, Active, Over, State, Plan}
-use Rattle.sim_machine.specs.Events.{is_process, event_at, is_pending, pending_event}
+use Rattle.sim_machine.specs.State.{EventOf, Calendar, Waiter, OpenScope, ProcessOf, Control, State, Plan}
+use Rattle.sim_machine.specs.Events.{event_at, is_pending, pending_event}
 use Rattle.sim_machine.specs.Users.{resource_at}
-use Rattle.sim_machine.specs.Processes.{is_alive, change_process}
+use Rattle.sim_machine.specs.Processes.{is_alive}
 use Rattle.sim_machine.specs.Tellings.{Telling}
-use Rattle.sim_machine.specs.MayFollow.{is_enter, is_resumption}
-use Rattle.sim_machine.specs.MayAsk.{takes_requests, most_scopes}
-use Rattle.sim_machine.specs.BodyLaw.{scopes_told}
+use Rattle.sim_machine.specs.MayAsk.{takes_requests}
 use Rattle.sim_machine.specs.Standing.{was_made, kind_at}
-use Rattle.sim_machine.specs.LawfulWaiting.{LawfulWaiting, may_wait_kind, waits_well, is_cancelled_well, is_scope_well, is_request_kind, entered_by, requests_of, KnowsItsScopes}
+use Rattle.sim_machine.specs.LawfulWaiting.{LawfulWaiting, may_wait_kind, waits_well, is_cancelled_well, is_scope_well, is_request_kind, KnowsItsScopes}
 use Rattle.sim_machine.proofs.KeptConditions.{unmade_event}
-use Rattle.sim_machine.proofs.KeptBodies.{four_parts, four_from, is_process-sym}
+use Rattle.sim_machine.proofs.KeptBodies.{four_parts, four_from}
 use Rattle.sim_machine.proofs.KeptBodiesEvents.{Grown}
 
 -- ---- events
@@ -51,17 +44,28 @@ cancelled_grown : (c d : Calendar) → Grown c d → AllPass is_cancelled_well c
 cancelled_grown c d g h =
     All-from_get_or (λ x. is_cancelled_well x ≡ true) d.events (pending_event kind.Plain) (λ n below. cancelled_at c d (record { 0 = n }) g h (cases_lt n (length c.events)))
 
+scope_parts : {B : Type 0} (rs : List Resource) (s : State B) (x : OpenScope) → is_scope_well rs s x ≡ true → (is_alive x.process s ≡ true) × (was_made s.facilities.calendar x.request ≡ true) × (is_request_kind (kind_at s.facilities.calendar x.request) ≡ true) × (nat_lt x.res (length rs) ≡ true) × (takes_requests (resource_at rs x.res).kind ≡ true)
+scope_parts rs s x h =
+    let c : Calendar = s.facilities.calendar in
+    let r : EventId = x.request in
+    let outer : ((is_alive x.process s && was_made c r && is_request_kind (kind_at c r) && nat_lt x.res (length rs)) ≡ true) × (takes_requests (resource_at rs x.res).kind ≡ true) = and_parts (is_alive x.process s && was_made c r && is_request_kind (kind_at c r) && nat_lt x.res (length rs)) (takes_requests (resource_at rs x.res).kind) h in
+    let parts : (is_alive x.process s ≡ true) × (was_made c r ≡ true) × (is_request_kind (kind_at c r) ≡ true) × (nat_lt x.res (length rs) ≡ true) = four_parts (is_alive x.process s) (was_made c r) (is_request_kind (kind_at c r)) (nat_lt x.res (length rs)) outer.0 in
+    (parts.0, parts.1, parts.2, parts.3, outer.1)
+
+-- the process of an open scope is alive
+pub scope_alive : {B : Type 0} (rs : List Resource) (s : State B) (x : OpenScope) → is_scope_well rs s x ≡ true → is_alive x.process s ≡ true
+scope_alive rs s x h = (scope_parts rs s x h).0
+
 scope_grown : {B : Type 0} (rs : List Resource) (s t : State B) (x : OpenScope) → Grown s.facilities.calendar t.facilities.calendar → (is_alive x.process s ≡ true → is_alive x.process t ≡ true) → is_scope_well rs s x ≡ true → is_scope_well rs t x ≡ true
 scope_grown rs s t x g alive h =
     let c : Calendar = s.facilities.calendar in
     let d : Calendar = t.facilities.calendar in
     let r : EventId = x.request in
-    let outer : ((is_alive x.process s && was_made c r && is_request_kind (kind_at c r) && nat_lt x.res (length rs)) ≡ true) × (takes_requests (resource_at rs x.res).kind ≡ true) = and_parts (is_alive x.process s && was_made c r && is_request_kind (kind_at c r) && nat_lt x.res (length rs)) (takes_requests (resource_at rs x.res).kind) h in
-    let parts : (is_alive x.process s ≡ true) × (was_made c r ≡ true) × (is_request_kind (kind_at c r) ≡ true) × (nat_lt x.res (length rs) ≡ true) = four_parts (is_alive x.process s) (was_made c r) (is_request_kind (kind_at c r)) (nat_lt x.res (length rs)) outer.0 in
+    let parts : (is_alive x.process s ≡ true) × (was_made c r ≡ true) × (is_request_kind (kind_at c r) ≡ true) × (nat_lt x.res (length rs) ≡ true) × (takes_requests (resource_at rs x.res).kind ≡ true) = scope_parts rs s x h in
     let below : r.0 < length c.events = ltb-true r.0 (length c.events) parts.1 in
     and_from (is_alive x.process t && was_made d r && is_request_kind (kind_at d r) && nat_lt x.res (length rs)) (takes_requests (resource_at rs x.res).kind)
     (four_from (is_alive x.process t) (was_made d r) (is_request_kind (kind_at d r)) (nat_lt x.res (length rs)) (alive parts.0) (lt-ltb r.0 (length d.events) (omega (arith, below, g.longer))) (ap is_request_kind (g.kinds r below) ∙ parts.2) parts.3)
-    outer.1
+    parts.4
 
 -- ---- the queues, the ledger and the scopes stay
 
