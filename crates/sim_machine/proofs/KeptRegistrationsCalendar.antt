@@ -134,6 +134,15 @@ any_turned_out : (xs : List EventOf) (n : ℕ) → AllPass turned_out xs → (n 
 any_turned_out xs n h (inl below) = All-get_or (λ x. turned_out x ≡ true) xs n (pending_event kind.Plain) below h
 any_turned_out xs n h (inr above) = ap turned_out (get_or_past xs n (pending_event kind.Plain) above)
 
+pending_unprocessed_at : (p : Bool) (o : Option Outcome) → (not p || is_some o) ≡ true → is_none o ≡ true → p ≡ false
+pending_unprocessed_at false o h none = refl
+pending_unprocessed_at true None h none = absurd (false≢true h)
+pending_unprocessed_at true (Some x) h none = absurd (false≢true none)
+
+-- what is pending is not processed
+pub pending_unprocessed : (c : Calendar) (e : EventId) → AllPass turned_out c.events → is_pending c e ≡ true → is_processed c e ≡ false
+pending_unprocessed c e h none = pending_unprocessed_at (is_processed c e) (event_at c e).outcome (any_turned_out c.events e.0 h (cases_lt e.0 (length c.events))) none
+
 some_if_not_none : (o : Option Outcome) → is_some o ≡ not (is_none o)
 some_if_not_none None = refl
 some_if_not_none (Some x) = refl
