@@ -1,8 +1,7 @@
 -- Each unit keeps lawful capacities.
-use Rattle.std.proofs.Common.{◌≡◌, ◌≢◌, ℕ, ◌+◌, ◌<◌, ◌≤◌, ℤ, pos, ◌≤ℤ◌, Bool, true, false, ◌&&◌, ◌||◌, not, length, List, [], ◌∷◌, ◌++◌, Option, Some, None, refl, sym, ap, subst, ◌∙◌, arith, zero, suc, if◌then◌else◌}
-use Rattle.std.specs.Prelude.{is_none, ◌==◌, nat_lt, nat_le, int_le, slice_index_or, All}
+use Rattle.std.proofs.Common.{◌≡◌, ℕ, ◌<◌, ◌≤◌, ℤ, pos, ◌≤ℤ◌, Bool, true, false, ◌&&◌, not, length, List, [], ◌∷◌, Some, refl, ap, ◌∙◌, arith}
+use Rattle.std.specs.Prelude.{◌==◌, nat_lt, nat_le, slice_index_or}
 use Rattle.std.specs.Bool.{IsTrue}
-use Rattle.std.specs.List.{AllPass}
 use Rattle.std.proofs.lemmas.Int.{ints}
 use Rattle.std.proofs.lemmas.Bool.{and_parts, and_from}
 use Rattle.std.proofs.lemmas.List.Elements.{All-weaker, All-get_or}
@@ -20,8 +19,7 @@ use Rattle.sim_types.specs.declared.op.Op.TheVariants as op
 use Rattle.sim_types.specs.declared.setup.Until.{Until}
 use Rattle.sim_types.specs.declared.setup.Until.TheVariants as until
 use Rattle.sim_types.specs.declared.setup.Resource.{Resource}
-use Rattle.sim_types.specs.declared.setup.ResourceKind.TheVariants as resource
-use Rattle.sim_machine.specs.State.{EventOf, Calendar, Want, Slot, Give, Take, Waiter, User, Facilities, State, ProcessOf, Plan, Idle, Calling, Active}
+use Rattle.sim_machine.specs.State.{Calendar, Want, Slot, Give, Take, Waiter, User, Facilities, State, ProcessOf, Plan, Idle, Calling, Active}
 use Rattle.sim_machine.specs.Events.{is_pending, is_processed, next_event, register}
 use Rattle.sim_machine.specs.Agenda.{due, popped}
 use Rattle.sim_machine.specs.Triggering.{urgent, normal, make, schedule, trigger, make_timeout}
@@ -68,7 +66,7 @@ capacities_later rs f d l h =
       level_high = h.level_high;
       room = h.room;
       waiting = All-weaker (λ w. (nat_lt w.res (length rs) && waits_for_fitting f.calendar (resource_at rs w.res) w w.want) ≡ true) (λ w. (nat_lt w.res (length rs) && waits_for_fitting d (resource_at rs w.res) w w.want) ≡ true)
-        (λ w k. and_from _ _ (and_parts _ _ k).0 (fitting_later f.calendar d (resource_at rs w.res) w w.want l (and_parts _ _ k).1)) f.waiters h.waiting;
+          (λ w k. and_from _ _ (and_parts _ _ k).0 (fitting_later f.calendar d (resource_at rs w.res) w w.want l (and_parts _ _ k).1)) f.waiters h.waiting;
     }
 
 pub later_timeout : (delay value : ℤ) (c : Calendar) → Later c (make_timeout delay value c)
@@ -128,7 +126,7 @@ capacities-polled_draw g tell sound s f e left p x y b lo hi at found keeps l po
 
 pub capacities-polled_pause : {B : Type 0} (g : Plan B) (tell : Telling B) (sound : B → Type 0) (s : State B) (f : CodeFacts) (e : EventId) (left : List Callback) (p : ProcId) (x : Signal) (y : ProcessOf B) (b : B) (delay value : ℤ) →
     s.control ≡ Active e left p x → process_at p s ≡ Some y → sound b → Lawful g tell sound s → IsLawfulPoll f tell y.body x (op.Pause delay value) b → LawfulCapacities g.setup.resources (polled g p (op.Pause delay value) b s).facilities
-capacities-polled_pause g tell sound s f e left p x y b delay value at found keeps l poll = 
+capacities-polled_pause g tell sound s f e left p x y b delay value at found keeps l poll =
     let c : Calendar = calendar s in
     timeout_cases (λ t. LawfulCapacities g.setup.resources t.facilities) delay value (λ d t. wait d p t) (with_body p b s) l.capacities l.capacities
     (λ low high. capacities_wait g.setup.resources (next_event c) p (on_events (make_timeout delay value) (with_body p b s)) (capacities_later g.setup.resources s.facilities (make_timeout delay value c) (later_timeout delay value c) l.capacities))

@@ -1,9 +1,9 @@
 -- Each unit keeps lawful chains.
-use Rattle.std.proofs.Common.{◌≡◌, ◌≢◌, ℕ, ◌+◌, ◌<◌, ◌≤◌, ℤ, pos, Bool, true, false, ◌&&◌, ◌||◌, not, length, List, [], ◌∷◌, ◌++◌, Option, Some, None, refl, sym, ap, subst, ◌∙◌, arith, zero, suc, if◌then◌else◌}
-use Rattle.std.specs.Prelude.{is_none, ◌==◌, nat_lt, nat_le, slice_index_or, All, filter, map}
+use Rattle.std.proofs.Common.{◌≡◌, ℕ, ◌+◌, ◌<◌, ◌≤◌, ℤ, pos, Bool, true, ◌&&◌, not, length, List, [], ◌∷◌, Some, refl, sym, ap, subst, ◌∙◌, arith}
+use Rattle.std.specs.Prelude.{◌==◌, nat_lt, nat_le, slice_index_or, filter, map}
 use Rattle.std.specs.Bool.{IsTrue}
 use Rattle.std.specs.List.{AllPass}
-use Rattle.std.proofs.lemmas.Bool.{and_parts, and_from, false≢true}
+use Rattle.std.proofs.lemmas.Bool.{and_parts, false≢true}
 use Rattle.std.proofs.lemmas.List.Elements.{All-weaker, All-same, All-push, All-filter, filter_passes, All-map, All-tail}
 use Rattle.sim_types.specs.declared.event.EventId.{EventId}
 use Rattle.sim_types.specs.declared.event.ProcId.{ProcId}
@@ -33,7 +33,7 @@ use Rattle.sim_machine.specs.Tellings.{Telling, CodeFacts}
 use Rattle.sim_machine.specs.BodyLaw.{IsLawfulPoll, IsLawfulStart, scopes_told, may_start}
 use Rattle.sim_machine.specs.Setups.{FitsCode, until_fits}
 use Rattle.sim_machine.specs.Standing.{was_made, kind_at, left_of, is_event_of}
-use Rattle.sim_machine.specs.LawfulRegistrations.{LawfulRegistrations, awaits_processing}
+use Rattle.sim_machine.specs.LawfulRegistrations.{LawfulRegistrations}
 use Rattle.sim_machine.specs.LawfulChains.{LawfulChains, is_trigger_kind, is_triggered_kind, chains_well}
 use Rattle.sim_machine.specs.Lawful.{Lawful}
 use Rattle.sim_machine.proofs.EventLaws.{is_same-yes, make-length, make-new}
@@ -139,7 +139,7 @@ popped_callbacks d e rs h =
     (λ k r below. well_at d e _ (filter_passes (λ r. is_same r.event e) rs k r below) (All-filter (λ r. is_same r.event e) (λ r. chains_well d r.event r.callback ≡ true) rs h k r below))
 
 pub chains-popped : {B : Type 0} (g : Plan B) (tell : Telling B) (sound : B → Type 0) (s : State B) (x : Entry) → s.control ≡ Idle → due (calendar s).agenda ≡ Some x → Lawful g tell sound s → LawfulChains (pop_entry x s).facilities.calendar (pop_entry x s).control
-chains-popped g tell sound s x idle h l = 
+chains-popped g tell sound s x idle h l =
     let c : Calendar = calendar s in
     let d : Calendar = popped x c in
     let made : AllPass (λ r. chains_well d r.event r.callback) c.registered = registered_later c d s.control (later_popped x c) l.registrations l.chains in
@@ -149,18 +149,18 @@ chains-popped g tell sound s x idle h l =
     }
 
 pub chains-resumed : {B : Type 0} (g : Plan B) (tell : Telling B) (sound : B → Type 0) (s : State B) (e : EventId) (left : List Callback) (p : ProcId) → s.control ≡ Calling e (callback.Resume p ∷ left) → Lawful g tell sound s → LawfulChains (resume e left p s).facilities.calendar (resume e left p s).control
-chains-resumed g tell sound s e left p at l = 
+chains-resumed g tell sound s e left p at l =
     let d : Calendar = defuse_failed e (calendar s) in
     let h : LawfulChains d (Calling e (callback.Resume p ∷ left)) = subst (λ c. LawfulChains d c) at (chains_defuse_failed e (calendar s) s.control l.registrations l.chains) in
     chains_control d (Calling e (callback.Resume p ∷ left)) _ (λ f k. k) (λ f k. All-tail (λ y. chains_well d f y ≡ true) (callback.Resume p) left k) h
 
 pub chains-stopped : {B : Type 0} (g : Plan B) (tell : Telling B) (sound : B → Type 0) (s : State B) (e : EventId) (left : List Callback) → s.control ≡ Calling e (callback.Stop ∷ left) → Lawful g tell sound s → LawfulChains (call g e callback.Stop left s).facilities.calendar (call g e callback.Stop left s).control
-chains-stopped g tell sound s e left at l = 
+chains-stopped g tell sound s e left at l =
     chains_control (calendar s) (Calling e (callback.Stop ∷ left)) (Over (end_at e s) e left) (λ f k. k) (λ f k. All-tail (λ y. chains_well (calendar s) f y ≡ true) callback.Stop left k)
     (subst (λ c. LawfulChains (calendar s) c) at l.chains)
 
 pub chains-settled : {B : Type 0} (g : Plan B) (tell : Telling B) (sound : B → Type 0) (s : State B) (e : EventId) → s.control ≡ Calling e [] → Lawful g tell sound s → LawfulChains (settle e s).facilities.calendar (settle e s).control
-chains-settled g tell sound s e at l = 
+chains-settled g tell sound s e at l =
     let h : LawfulChains (calendar s) (Calling e []) = subst (λ c. LawfulChains (calendar s) c) at l.chains in
     if_cases (λ c. LawfulChains (calendar s) c) (is_crash e s) (Over end.Crash e []) Idle (λ b. chains_control (calendar s) (Calling e []) (Over end.Crash e []) (λ f k. k) (λ f k. k) h)
     (λ b. chains_control (calendar s) (Calling e []) Idle (λ f k. absurd (false≢true k)) (λ f k. k) h)
@@ -175,24 +175,24 @@ chains-polled_log g tell sound s f e left p x y b value at found keeps l poll = 
 
 pub chains-polled_draw : {B : Type 0} (g : Plan B) (tell : Telling B) (sound : B → Type 0) (s : State B) (f : CodeFacts) (e : EventId) (left : List Callback) (p : ProcId) (x : Signal) (y : ProcessOf B) (b : B) (lo hi : ℤ) →
     s.control ≡ Active e left p x → process_at p s ≡ Some y → sound b → Lawful g tell sound s → IsLawfulPoll f tell y.body x (op.Draw lo hi) b → LawfulChains (polled g p (op.Draw lo hi) b s).facilities.calendar (polled g p (op.Draw lo hi) b s).control
-chains-polled_draw g tell sound s f e left p x y b lo hi at found keeps l poll = 
+chains-polled_draw g tell sound s f e left p x y b lo hi at found keeps l poll =
     draw_cases (λ t. LawfulChains (calendar t) t.control) g lo hi (with_body p b s) (chains_told _ (calendar s) s.control l.chains) (λ h. chains_told _ (calendar s) s.control l.chains)
 
 pub chains-polled_pause : {B : Type 0} (g : Plan B) (tell : Telling B) (sound : B → Type 0) (s : State B) (f : CodeFacts) (e : EventId) (left : List Callback) (p : ProcId) (x : Signal) (y : ProcessOf B) (b : B) (delay value : ℤ) →
     s.control ≡ Active e left p x → process_at p s ≡ Some y → sound b → Lawful g tell sound s → IsLawfulPoll f tell y.body x (op.Pause delay value) b → LawfulChains (polled g p (op.Pause delay value) b s).facilities.calendar (polled g p (op.Pause delay value) b s).control
-chains-polled_pause g tell sound s f e left p x y b delay value at found keeps l poll = 
+chains-polled_pause g tell sound s f e left p x y b delay value at found keeps l poll =
     let c : Calendar = calendar s in
     timeout_cases (λ t. LawfulChains (calendar t) t.control) delay value (λ d t. wait d p t) (with_body p b s) (chains_told _ c s.control l.chains) (chains_told _ c s.control l.chains)
     (λ low high. chains_wait (next_event c) p (on_events (make_timeout delay value) (with_body p b s)) (registrations_timeout delay value c s.control l.registrations) (chains_timeout delay value c s.control l.registrations l.chains))
 
 pub chains-polled_end : {B : Type 0} (g : Plan B) (tell : Telling B) (sound : B → Type 0) (s : State B) (f : CodeFacts) (e : EventId) (left : List Callback) (p : ProcId) (x : Signal) (y : ProcessOf B) (b : B) (o : Outcome) →
     s.control ≡ Active e left p x → process_at p s ≡ Some y → sound b → Lawful g tell sound s → IsTrue (length (scopes_told (tell.scopes y.body) (tell.last y.body) x) == 0) → LawfulChains (rest (end_process p o (with_body p b s))).facilities.calendar (rest (end_process p o (with_body p b s))).control
-chains-polled_end g tell sound s f e left p x y b o at found keeps l closed = 
+chains-polled_end g tell sound s f e left p x y b o at found keeps l closed =
     chains_rest (trigger (event_of p) o (calendar s)) s.control (chains_scheduled (event_of p) o normal (pos 0) (calendar s) s.control l.registrations l.chains)
 
 pub chains-made_process : {B : Type 0} (g : Plan B) (tell : Telling B) (sound : B → Type 0) (s : State B) (f : CodeFacts) (k : ℕ) (args : List ℤ) → IsTrue (nat_lt k (length f.params) && may_start (slice_index_or f.params k []) args) →
     IsLawfulStart f tell k args (record { 0 = (next_event (calendar s)).0 }) (g.start k args (record { 0 = (next_event (calendar s)).0 })) → sound (g.start k args (record { 0 = (next_event (calendar s)).0 })) → Lawful g tell sound s → LawfulChains (make_process g k args s).facilities.calendar (make_process g k args s).control
-chains-made_process g tell sound s f k args fits start keeps l = 
+chains-made_process g tell sound s f k args fits start keeps l =
     let c : Calendar = calendar s in
     chains_new kind.Init (callback.Resume (record { 0 = (next_event c).0 })) (outcome.Ok (pos 0)) urgent (pos 0) (make kind.Process c) s.control (λ d e. refl) (registrations_made kind.Process c s.control l.registrations) (chains_made kind.Process c s.control l.registrations l.chains)
 

@@ -1,8 +1,7 @@
 -- Each unit keeps lawful registrations.
-use Rattle.std.proofs.Common.{◌≡◌, ◌≢◌, ℕ, ◌+◌, ◌<◌, ◌≤◌, ℤ, pos, Bool, true, false, ◌&&◌, ◌||◌, not, length, List, [], ◌∷◌, ◌++◌, Option, Some, None, refl, sym, ap, subst, ◌∙◌, arith, ◌⊎◌, inl, inr, zero, suc, if◌then◌else◌}
-use Rattle.std.specs.Prelude.{is_none, is_some, ◌==◌, nat_lt, nat_le, slice_index_or, All, replicate}
+use Rattle.std.proofs.Common.{◌≡◌, ◌≢◌, ℕ, ◌+◌, ◌<◌, ◌≤◌, ℤ, pos, true, false, ◌&&◌, ◌||◌, not, length, List, [], ◌∷◌, Option, Some, None, refl, sym, ap, subst, ◌∙◌, arith}
+use Rattle.std.specs.Prelude.{is_none, is_some, ◌==◌, nat_lt, nat_le, slice_index_or, replicate}
 use Rattle.std.specs.Bool.{IsTrue}
-use Rattle.std.specs.List.{AllPass}
 use Rattle.std.proofs.lemmas.Bool.{and_parts, and_from, not-true, not_from_false, false≢true}
 use Rattle.std.proofs.lemmas.Bool.Decides.{nat_tests}
 use Rattle.std.proofs.lemmas.List.Elements.{All-weaker, All-same, All-push, All-filter, filter_passes, All-cons, All-replicate}
@@ -22,22 +21,22 @@ use Rattle.sim_types.specs.declared.line.End.TheVariants as end
 use Rattle.sim_types.specs.declared.setup.Until.{Until}
 use Rattle.sim_types.specs.declared.setup.Until.TheVariants as until
 use Rattle.sim_machine.specs.State.{EventOf, Registration, Calendar, Control, State, ProcessOf, Plan, Idle, Calling, Active, Over}
-use Rattle.sim_machine.specs.Events.{is_same, event_at, is_pending, is_processed, is_fail, pending_event, next_event, change_event, defuse, register}
+use Rattle.sim_machine.specs.Events.{is_same, event_at, is_pending, is_processed, is_fail, pending_event, next_event, defuse, register}
 use Rattle.sim_machine.specs.Agenda.{due, popped}
 use Rattle.sim_machine.specs.Triggering.{urgent, normal, make, schedule, trigger, make_timeout}
 use Rattle.sim_machine.specs.Scopes.{on_events}
-use Rattle.sim_machine.specs.Processes.{event_of, process_at, with_body, told_more, not_active, rest, defuse_failed, wait, make_events_of_process, make_process, end_process}
+use Rattle.sim_machine.specs.Processes.{event_of, process_at, with_body, told_more, not_active, rest, defuse_failed, wait, make_process, end_process}
 use Rattle.sim_machine.specs.Effect.{calendar}
 use Rattle.sim_machine.specs.Steps.{pop_entry, resume, call, is_crash, settle, polled, end_at}
-use Rattle.sim_machine.specs.Runs.{event_zero, first_calendar, blank_state, set_stop}
+use Rattle.sim_machine.specs.Runs.{event_zero, blank_state, set_stop}
 use Rattle.sim_machine.specs.Tellings.{Telling, CodeFacts}
 use Rattle.sim_machine.specs.BodyLaw.{IsLawfulPoll, IsLawfulStart, scopes_told, may_start}
 use Rattle.sim_machine.specs.Setups.{FitsCode, until_fits}
 use Rattle.sim_machine.specs.Standing.{was_made, is_event_of}
 use Rattle.sim_machine.specs.LawfulRegistrations.{LawfulRegistrations, awaits_processing, turned_out}
 use Rattle.sim_machine.specs.Lawful.{Lawful}
-use Rattle.sim_machine.proofs.EventLaws.{same_event, is_same-yes, change_event-same, change_event-other, change_event-AllPass, make-length, make-new}
-use Rattle.sim_machine.proofs.KeptRegistrationsCalendar.{Later, Calm, below_made, made_below, later_made, later_popped, calm_made, calm_then, calm_scheduled, calm_defuse_failed}
+use Rattle.sim_machine.proofs.EventLaws.{is_same-yes, change_event-same, change_event-other, change_event-AllPass, make-length, make-new}
+use Rattle.sim_machine.proofs.KeptRegistrationsCalendar.{Calm, below_made, made_below, later_popped, calm_made, calm_scheduled, calm_defuse_failed}
 use Rattle.sim_machine.proofs.KeptTimesCases.{if_cases, draw_cases, timeout_cases, wait_cases}
 use Rattle.sim_machine.proofs.KeptTimes.{due_triggered, due_made}
 

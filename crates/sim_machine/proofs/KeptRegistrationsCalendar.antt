@@ -1,6 +1,6 @@
 -- What a change of the calendar leaves of its events, whatever is changed besides.
-use Rattle.std.proofs.Common.{◌≡◌, ◌≢◌, ℕ, ◌+◌, ◌<◌, ◌≤◌, ℤ, Bool, true, false, not, ◌&&◌, ◌||◌, List, [], ◌∷◌, ◌++◌, length, refl, sym, ap, subst, ◌∙◌, arith, ◌⊎◌, inl, inr, zero, suc, length-append, get_or, if◌then◌else◌}
-use Rattle.std.specs.Prelude.{slice_index_or, slice_set, is_none, is_some, nat_lt, Option, Some, None, filter, ◌+ℤ◌}
+use Rattle.std.proofs.Common.{◌≡◌, ◌≢◌, ℕ, ◌+◌, ◌<◌, ◌≤◌, ℤ, Bool, true, false, not, ◌||◌, List, ◌∷◌, length, refl, sym, ap, subst, ◌∙◌, arith, ◌⊎◌, inl, inr, get_or, if◌then◌else◌}
+use Rattle.std.specs.Prelude.{slice_index_or, is_none, is_some, Option, Some, None, filter, ◌+ℤ◌}
 use Rattle.std.proofs.lemmas.Bool.Decides.{nat_tests}
 use Rattle.std.proofs.lemmas.Bool.{cases_eq, cases_lt, false≢true}
 use Rattle.std.specs.List.{AllPass}

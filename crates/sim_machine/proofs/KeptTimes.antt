@@ -1,9 +1,9 @@
 -- Each unit keeps lawful times.
-use Rattle.std.proofs.Common.{◌≡◌, ◌≢◌, ℕ, ◌+◌, ◌<◌, ◌≤◌, ◌^◌, ℤ, pos, ◌≤ℤ◌, ◌+ℤ◌, Bool, true, false, ◌&&◌, not, length, List, [], ◌∷◌, ◌++◌, Option, Some, refl, sym, ap, subst, ◌∙◌, arith, ◌⊎◌, inl, inr, zero, suc, length-append, get_or, if◌then◌else◌}
-use Rattle.std.specs.Prelude.{is_none, ◌==◌, nat_lt, nat_le, slice_index_or, int_le, count_by, cond, replicate, slice_set}
+use Rattle.std.proofs.Common.{◌≡◌, ℕ, ◌+◌, ◌<◌, ◌≤◌, ◌^◌, ℤ, pos, ◌≤ℤ◌, ◌+ℤ◌, Bool, true, false, ◌&&◌, not, length, List, [], ◌∷◌, Some, refl, ap, subst, arith, inl, inr, zero, suc, get_or}
+use Rattle.std.specs.Prelude.{is_none, ◌==◌, nat_lt, nat_le, slice_index_or, int_le, count_by, cond, replicate}
 use Rattle.std.specs.Bool.{IsTrue}
 use Rattle.std.proofs.lemmas.Int.{ints}
-use Rattle.std.proofs.lemmas.Bool.{and_parts, not-true}
+use Rattle.std.proofs.lemmas.Bool.{and_parts}
 use Rattle.std.proofs.lemmas.Bool.Decides.{nat_tests}
 use Rattle.std.proofs.lemmas.List.Sums.{sum_by-cons}
 use Rattle.sim_types.specs.declared.event.EventId.{EventId}
@@ -20,14 +20,14 @@ use Rattle.sim_types.specs.declared.op.Op.TheVariants as op
 use Rattle.sim_types.specs.declared.setup.Until.{Until}
 use Rattle.sim_types.specs.declared.setup.Until.TheVariants as until
 use Rattle.sim_machine.specs.State.{EventOf, Registration, Calendar, State, ProcessOf, Plan, Idle, Calling, Active}
-use Rattle.sim_machine.specs.Events.{is_same, is_process, event_at, is_pending, is_processed, is_triggered, is_fail, pending_event, next_event, change_event, defuse, register}
+use Rattle.sim_machine.specs.Events.{is_same, is_process, event_at, is_pending, is_processed, is_triggered, is_fail, pending_event, next_event, defuse, register}
 use Rattle.sim_machine.specs.Agenda.{due}
 use Rattle.sim_machine.specs.Triggering.{urgent, normal, make, schedule, trigger, make_timeout}
 use Rattle.sim_machine.specs.Scopes.{on_events}
 use Rattle.sim_machine.specs.Processes.{event_of, process_at, with_body, rest, defuse_failed, wait, make_events_of_process, make_process, end_process}
 use Rattle.sim_machine.specs.Effect.{calendar}
 use Rattle.sim_machine.specs.Steps.{pop_entry, resume, call, settle, polled}
-use Rattle.sim_machine.specs.Runs.{event_zero, first_calendar, blank_state, set_stop}
+use Rattle.sim_machine.specs.Runs.{first_calendar, blank_state, set_stop}
 use Rattle.sim_machine.specs.Tellings.{Telling, CodeFacts}
 use Rattle.sim_machine.specs.BodyLaw.{IsLawfulPoll, IsLawfulStart, scopes_told, may_start}
 use Rattle.sim_machine.specs.Setups.{FitsCode, until_fits}

@@ -1,16 +1,15 @@
 -- What an operation comes to, case by case.
-use Rattle.std.proofs.Common.{◌≡◌, ℕ, ◌<◌, ◌≤◌, ◌^◌, ◌+◌, ℤ, pos, ◌≤ℤ◌, ◌+ℤ◌, Bool, true, false, List, [], ◌∷◌, Option, Some, None, refl, sym, subst, ap, arith, if◌then◌else◌}
-use Rattle.std.specs.Prelude.{int_lt, find, All, filter, cond, count_by}
+use Rattle.std.proofs.Common.{◌≡◌, ◌^◌, ◌+◌, ℤ, pos, ◌≤ℤ◌, ◌+ℤ◌, Bool, true, false, List, [], ◌∷◌, Some, refl, subst, arith, if◌then◌else◌}
+use Rattle.std.specs.Prelude.{int_lt, find, All, cond}
 use Rattle.std.proofs.lemmas.Int.{ints}
-use Rattle.std.proofs.lemmas.Bool.{cases_Bool, both_ways}
 use Rattle.std.proofs.lemmas.Option.{same_Some, none-some}
 use Rattle.std.proofs.lemmas.List.Elements.{All-head, All-tail}
 use Rattle.sim_types.specs.declared.event.EventId.{EventId}
 use Rattle.sim_types.specs.declared.event.ProcId.{ProcId}
 use Rattle.sim_types.specs.declared.event.Callback.TheVariants as callback
 use Rattle.sim_types.specs.declared.event.Signal.TheVariants as signal
-use Rattle.sim_machine.specs.State.{Calendar, State, ProcessOf, Plan}
-use Rattle.sim_machine.specs.Events.{is_process, event_at, is_processed, next_event, register}
+use Rattle.sim_machine.specs.State.{State, Plan}
+use Rattle.sim_machine.specs.Events.{event_at, is_processed, next_event, register}
 use Rattle.sim_machine.specs.Triggering.{is_too_late, make_timeout}
 use Rattle.sim_machine.specs.Scopes.{on_events}
 use Rattle.sim_machine.specs.Processes.{change_process, tell, rest, signal_of, defuse_failed, wait}

@@ -1,21 +1,17 @@
 -- The state that a run begins with: before it is said what stops the run, no process has begun and nothing named has happened.
-use Rattle.std.proofs.Common.{◌≡◌, ◌≢◌, ℕ, ◌+◌, ◌<◌, ◌≤◌, ℤ, pos, negsuc, Bool, true, false, ◌&&◌, not, length, List, [], ◌∷◌, ◌++◌, refl, sym, ap, subst, ◌∙◌, arith, zero, suc, get_or, length-append}
+use Rattle.std.proofs.Common.{◌≡◌, ℕ, ◌+◌, ◌<◌, ◌≤◌, ℤ, pos, negsuc, true, ◌&&◌, not, length, List, [], ◌∷◌, refl, ap, ◌∙◌, arith, zero, suc, get_or}
 use Rattle.std.specs.Prelude.{is_none, nat_lt, nat_le, slice_index_or, replicate, fold, Some}
 use Rattle.std.specs.Bool.{IsTrue}
-use Rattle.std.specs.List.{AllPass}
 use Rattle.std.proofs.lemmas.Bool.{and_parts, and_from, false≢true}
-use Rattle.std.proofs.lemmas.Bool.Decides.{nat_tests}
 use Rattle.std.proofs.lemmas.List.{length-replicate}
 use Rattle.sim_types.specs.declared.event.EventId.{EventId}
-use Rattle.sim_types.specs.declared.event.ProcId.{ProcId}
 use Rattle.sim_types.specs.declared.event.EventKind.TheVariants as kind
 use Rattle.sim_types.specs.declared.event.Outcome.TheVariants as outcome
-use Rattle.sim_types.specs.declared.event.Callback.TheVariants as callback
 use Rattle.sim_types.specs.declared.setup.Class.{Class}
 use Rattle.sim_types.specs.declared.setup.Class.TheVariants as class
 use Rattle.sim_types.specs.declared.setup.Start.{Start}
 use Rattle.sim_machine.specs.State.{EventOf, Calendar, State, Plan, Idle}
-use Rattle.sim_machine.specs.Events.{event_at, is_pending, is_processed, pending_event, next_event, change_event, register}
+use Rattle.sim_machine.specs.Events.{event_at, is_pending, is_processed, pending_event, next_event}
 use Rattle.sim_machine.specs.Triggering.{make}
 use Rattle.sim_machine.specs.Processes.{make_events_of_process}
 use Rattle.sim_machine.specs.Effect.{calendar}
