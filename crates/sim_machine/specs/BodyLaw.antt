@@ -88,10 +88,14 @@ may_start (c ∷ cs) (pos n ∷ vs) = may_start cs vs
 may_start (c ∷ cs) (v ∷ vs) = is_class c class.Number && may_start cs vs
 may_start _ _ = false
 
+-- whether a process of this kind may begin with these arguments
+abbrev pub may_begin : CodeFacts → ℕ → List ℤ → Bool
+may_begin f k args = nat_lt k (length f.params) && may_start (slice_index_or f.params k []) args
+
 -- the law of a body: its states are sound from the start on, and each poll of a sound state keeps the law and leaves a
 -- sound state, where it is told what may be told
 pub record IsLawfulBody {B : Type 0} (f : CodeFacts) (tell : Telling B) (sound : B → Type 0) (start : ℕ → List ℤ → ProcId → B) (turn : B → ℤ → Signal → Op → B → Type 0) : Type 0 where
-  pub starts : (k : ℕ) (args : List ℤ) (p : ProcId) → IsTrue (nat_lt k (length f.params) && may_start (slice_index_or f.params k []) args) → IsLawfulStart f tell k args p (start k args p)
-  pub begins : (k : ℕ) (args : List ℤ) (p : ProcId) → IsTrue (nat_lt k (length f.params) && may_start (slice_index_or f.params k []) args) → sound (start k args p)
+  pub starts : (k : ℕ) (args : List ℤ) (p : ProcId) → IsTrue (may_begin f k args) → IsLawfulStart f tell k args p (start k args p)
+  pub begins : (k : ℕ) (args : List ℤ) (p : ProcId) → IsTrue (may_begin f k args) → sound (start k args p)
   pub polls : (b : B) (time : ℤ) (x : Signal) (asked : Op) (d : B) → sound b → IsTrue (may_be_told (tell.last b) x) → turn b time x asked d → IsLawfulPoll f tell b x asked d
   pub keeps : (b : B) (time : ℤ) (x : Signal) (asked : Op) (d : B) → sound b → IsTrue (may_be_told (tell.last b) x) → turn b time x asked d → sound d

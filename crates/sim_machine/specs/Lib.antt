@@ -18,6 +18,7 @@ pub mod MayFollow
 pub mod MayAsk
 pub mod BodyLaw
 pub mod Setups
+pub mod NumberBounds
 pub mod Standing
 pub mod LawfulTimes
 pub mod LawfulRegistrations

@@ -1,0 +1,177 @@
+ghost use Rattle.std.specs.Prelude.{◌≡◌, ◌≢◌, ℕ, ◌+◌, ◌<◌, ◌≤◌, ◌==◌, List, [], ◌∷◌, ◌++◌, length, IfOk, OnOk, OnErr, IsOk, IfSome, IsSome, MatchOption, IsSomeAnd, is_some, option_and_then, slice_index_or};
+ghost use Rattle.std.specs.Option.{option_map};
+ghost use Rattle.std.specs.List.{position};
+ghost use Rattle.std.specs.List.Sorted.{IsPermutation};
+ghost use Rattle.sim_procs.specs.RecordOf.{RecordOf, record_of, change_record, change_at, scope_of, innermost, without_innermost, StandsAt};
+
+use crate::record::ProcRecord;
+use sim_types::{EventId, ProcId, Scope};
+use std::alloc::{AllocError, Global};
+use std::marker::Model;
+
+/// The live processes, each with its body, its target and its open scopes. It must be spent by `abandon`.
+pub struct Procs<B> {
+    records: Vec<ProcRecord<B>>,
+}
+
+impl<B> Model for Procs<B> {
+    ghost use Rattle.std.specs.Prelude.{◌-◌, vec_len, vec_capacity, AllPairs};
+    ghost use Rattle.sim_procs.specs.RecordOf.{ProcsOf, HasOtherId};
+
+    ghost Value = { ProcsOf B };
+
+    ghost view = { λ a. record { live = a.records.items; spare = vec_capacity a.records - vec_len a.records } };
+
+    ghost invariant = { λ a. AllPairs HasOtherId a.records.items };
+}
+
+impl<B> Procs<B> {
+    /// No process is alive.
+    pub fn new(alloc: Global) -> Result<Procs<B>, AllocError>
+        ensures { IfOk result (λ p. p.live ≡ []) }
+    {
+        Ok(Procs {
+            records: Vec::new(alloc),
+        })
+    }
+
+    /// Makes room for one more.
+    pub fn reserve(&mut self) -> Result<(), AllocError>
+        ensures live { self.new.live ≡ self.old.live }
+        ensures room { OnOk result (1 ≤ self.new.spare) }
+        ensures succeeds { 1 ≤ self.old.spare → IsOk result }
+    {
+        self.records.reserve(1)
+    }
+
+    /// A process more is alive.
+    #[tactic(auto, using(crate::proofs::Records::added))]
+    pub fn add(&mut self, id: ProcId, body: B, target: EventId)
+        requires room { 1 ≤ self.old.spare }
+        requires new { record_of id self.old.live ≡ None }
+        ensures live { IsPermutation (record { id = id; body = body; target = target; scopes = [] } ∷ self.old.live) self.new.live }
+        ensures spare { self.new.spare + 1 ≡ self.old.spare }
+    {
+        self.records
+            .push_reserved(ProcRecord::new(id, body, target));
+    }
+
+    // The first place with a number.
+    fn first_place(&self, id: ProcId) -> Option<usize>
+        ensures { result ≡ position (λ r. r.id.0 == id.0) self.now.live }
+    {
+        self.records.iter().position(|record| record.id().0 == id.0)
+    }
+
+    // The place of a record, found by its number.
+    #[tactic(auto, using(crate::proofs::Records::found_at))]
+    fn place(&self, id: ProcId) -> Option<usize>
+        ensures { MatchOption result (record_of id self.now.live ≡ None) (λ i. StandsAt id self.now.live i) }
+    {
+        let _ = &self.records;
+        self.first_place(id)
+    }
+
+    /// Whether the process has not ended.
+    pub fn is_alive(&self, id: ProcId) -> bool
+        ensures { result ≡ is_some (record_of id self.now.live) }
+    {
+        self.place(id).is_some()
+    }
+
+    ghost use Rattle.std.specs.Borrow.{sem};
+    ghost use Rattle.sim_procs.specs.Lending.{LendsBodyAt, LendsBodyOf};
+
+    // The body of the record at a place.
+    fn body_at(&mut self, at: usize) -> &mut B
+        requires { at < length self.old.live }
+        ensures* lends { sem 𝓛 (LendsBodyAt B.row self.entry at result) }
+        ensures value { (d : _) → result.now ≡ (slice_index_or self.old.live at d).body }
+    {
+        let record = &mut self.records[at];
+        record.body_mut()
+    }
+
+    /// The body of the process, to be changed.
+    pub fn body_mut(&mut self, id: ProcId) -> &mut B
+        requires alive { IsSome (record_of id self.old.live) }
+        ensures* lends { sem 𝓛 (LendsBodyOf B.row self.entry id result) }
+        ensures value { option_map (λ r. r.body) (record_of id self.old.live) ≡ Some result.now }
+    {
+        match self.place(id) {
+            Some(at) => self.body_at(at),
+            None => unreachable!(),
+        }
+    }
+
+    /// The event that the process waits for.
+    pub fn target(&self, id: ProcId) -> Option<EventId>
+        ensures { result ≡ option_map (λ r. r.target) (record_of id self.now.live) }
+    {
+        let at = self.place(id)?;
+        Some(self.records[at].target())
+    }
+
+    /// The process waits for another event.
+    pub fn set_target(&mut self, id: ProcId, target: EventId)
+        requires alive { IsSome (record_of id self.old.live) }
+        ensures { self.new ≡ record self.old { live = change_record id (λ r. record r { target = target }) self.old.live } }
+    {
+        match self.place(id) {
+            Some(at) => self.records[at].set_target(target),
+            None => unreachable!(),
+        }
+    }
+
+    /// The open scope of this process with this request.
+    pub fn scope(&self, id: ProcId, request: EventId) -> Option<Scope>
+        ensures { result ≡ option_and_then (λ r. scope_of request r.scopes) (record_of id self.now.live) }
+    {
+        let at = self.place(id)?;
+        self.records[at].scope(request)
+    }
+
+    /// A scope more is open, inside the others.
+    pub fn push_scope(&mut self, id: ProcId, scope: Scope)
+        requires alive { IsSomeAnd (record_of id self.old.live) (λ r. length r.scopes < 32) }
+        ensures { self.new ≡ record self.old { live = change_record id (λ r. record r { scopes = r.scopes ++ scope ∷ [] }) self.old.live } }
+    {
+        match self.place(id) {
+            Some(at) => self.records[at].push_scope(scope),
+            None => unreachable!(),
+        }
+    }
+
+    /// The innermost open scope of the process, which is then closed.
+    #[tactic(auto, using(crate::proofs::Records::unchanged_where_none))]
+    pub fn pop_scope(&mut self, id: ProcId) -> Option<Scope>
+        ensures result { result ≡ option_and_then (λ r. innermost r.scopes) (record_of id self.old.live) }
+        ensures closed { self.new ≡ record self.old { live = change_record id (λ r. record r { scopes = without_innermost r.scopes }) self.old.live } }
+    {
+        match self.place(id) {
+            Some(at) => self.records[at].pop_scope(),
+            None => None,
+        }
+    }
+
+    /// Takes the record of a process, which is then no longer alive.
+    #[tactic(auto, using(crate::proofs::Records::taken, crate::proofs::Records::taken_apart))]
+    pub fn take(&mut self, id: ProcId) -> Option<ProcRecord<B>>
+        ensures taken { MatchOption result ((record_of id self.old.live ≡ None) × (self.new ≡ self.old)) (λ r. (record_of id self.old.live ≡ Some r) × IsPermutation self.old.live (r ∷ self.new.live)) }
+    {
+        let at = self.place(id)?;
+        Some(self.records.swap_remove(at))
+    }
+
+    /// Spends all records.
+    pub fn abandon(self)
+    where
+        B: Drop,
+    {
+        let Procs { mut records } = self;
+        while let Some(record) = records.pop() {
+            record.abandon();
+        }
+        records.destroy_empty();
+    }
+}
