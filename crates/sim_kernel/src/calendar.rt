@@ -1,0 +1,162 @@
+ghost use Rattle.std.specs.Prelude.{◌≡◌, ℕ, ◌+◌, ◌<◌, ◌≤◌, ◌^◌, pos, ◌≤ℤ◌, ◌+ℤ◌, length, IfOk, OnOk, List, [], All, filter, not, ◌==◌, MatchOption};
+ghost use Rattle.std.specs.VecDeque.{deque_capacity};
+ghost use Rattle.sim_machine.specs.Events as events;
+ghost use Rattle.sim_machine.specs.Triggering as triggering;
+ghost use Rattle.sim_machine.specs.Runs.{first_calendar};
+ghost use Rattle.sim_kernel.specs.CalendarOf.{HasRoom};
+ghost use Rattle.sim_kernel.specs.Popping.{Pops, entry_of};
+ghost use Rattle.sim_kernel.specs.Same.{SameCalendar};
+
+use crate::agenda::take_first;
+use crate::event::{Event, Registration};
+use sim_types::{Callback, Entry, EventId, EventKind, Key, Outcome};
+use std::alloc::{AllocError, Global};
+use std::collections::VecDeque;
+use std::marker::Model;
+
+/// Time and what happens in it, in plain lists: each event stands at its number, and the agenda is searched.
+#[derive(Drop)]
+pub(crate) struct Calendar {
+    time: i64,
+    scheduled: u64,
+    agenda: Vec<Entry>,
+    events: Vec<Event>,
+    registered: Vec<Registration>,
+}
+
+/// An entry that was popped.
+#[derive(Clone, Copy)]
+pub(crate) struct Popped {
+    pub(crate) time: i64,
+    pub(crate) priority: u8,
+    pub(crate) number: u64,
+    pub(crate) event: EventId,
+}
+
+impl Model for Calendar {
+    ghost use Rattle.std.specs.Prelude.{◌-◌, vec_len, vec_capacity};
+    ghost use Rattle.sim_kernel.specs.CalendarOf.{CalendarOf};
+
+    ghost Value = { CalendarOf };
+
+    ghost view = { λ a. record { calendar = record { time = a.time; scheduled = a.scheduled; agenda = a.agenda.items; events = a.events.items; registered = a.registered.items }; room = record { events = vec_capacity a.events - vec_len a.events; entries = vec_capacity a.agenda - vec_len a.agenda; registrations = vec_capacity a.registered - vec_len a.registered } } };
+}
+
+impl Calendar {
+    /// Makes room for so many more events, entries and registrations.
+    pub(crate) fn reserve(&mut self, more: usize) -> Result<(), AllocError>
+        ensures calendar { self.new.calendar ≡ self.old.calendar }
+        ensures room { OnOk result (HasRoom more self.new.room) }
+    {
+        self.events.reserve(more)?;
+        self.agenda.reserve(more)?;
+        self.registered.reserve(more)
+    }
+
+    pub(crate) fn time(&self) -> i64
+        ensures { result ≡ self.now.calendar.time }
+    {
+        self.time
+    }
+
+    /// A pending event more.
+    pub(crate) fn make(&mut self, kind: EventKind) -> EventId
+        requires room { 1 ≤ self.old.room.events }
+        ensures result { result ≡ events.next_event self.old.calendar }
+        ensures calendar { self.new.calendar ≡ triggering.make kind self.old.calendar }
+        ensures events { self.new.room.events + 1 ≡ self.old.room.events }
+        ensures room { self.new.room ≡ record self.old.room { events = self.new.room.events } }
+    {
+        let id = EventId(self.events.len() as u64);
+        self.events.push_reserved(Event::pending(kind));
+        id
+    }
+
+    /// A callback is appended to those of an event.
+    pub(crate) fn register(&mut self, event: EventId, callback: Callback)
+        requires room { 1 ≤ self.old.room.registrations }
+        ensures calendar { self.new.calendar ≡ events.register event callback self.old.calendar }
+        ensures registrations { self.new.room.registrations + 1 ≡ self.old.room.registrations }
+        ensures room { self.new.room ≡ record self.old.room { registrations = self.new.room.registrations } }
+    {
+        self.registered
+            .push_reserved(Registration { event, callback });
+    }
+
+    /// A failure of an event no longer ends the run.
+    #[tactic(auto, using(crate::proofs::Calendars::changed_at))]
+    pub(crate) fn defuse(&mut self, event: EventId)
+        requires made { event.0 < length self.old.calendar.events }
+        ensures { self.new ≡ record self.old { calendar = events.defuse event self.old.calendar } }
+    {
+        self.events[event.0 as usize].defuse();
+    }
+
+    pub(crate) fn outcome(&self, event: EventId) -> Option<Outcome>
+        requires made { event.0 < length self.now.calendar.events }
+        ensures { result ≡ (events.event_at self.now.calendar event).outcome }
+    {
+        self.events[event.0 as usize].outcome()
+    }
+
+    /// An event gets its outcome, and an entry in the agenda after a delay.
+    pub(crate) fn schedule(&mut self, event: EventId, outcome: Outcome, priority: u8, delay: i64)
+        requires made { event.0 < length self.old.calendar.events }
+        requires room { 1 ≤ self.old.room.entries }
+        requires number { self.old.calendar.scheduled < 2 ^ 62 }
+        requires low { pos 0 ≤ℤ self.old.calendar.time }
+        requires not_past { pos 0 ≤ℤ delay }
+        requires high { (self.old.calendar.time +ℤ delay) ≤ℤ pos (2 ^ 62) }
+        ensures calendar { SameCalendar self.new.calendar (triggering.schedule event outcome priority delay self.old.calendar) }
+        ensures entries { self.new.room.entries + 1 ≡ self.old.room.entries }
+        ensures room { self.new.room ≡ record self.old.room { entries = self.new.room.entries } }
+    {
+        let key = Key::new(self.time + delay, priority, self.scheduled);
+        self.scheduled += 1;
+        self.agenda.push_reserved(Entry { key, event });
+        self.events[event.0 as usize].trigger(outcome);
+    }
+
+    // Moves the callbacks of an event to those that are left to call.
+    #[tactic(auto, using(crate::proofs::Calendars::moved_more, crate::proofs::Calendars::not_moved))]
+    fn move_callbacks(&mut self, event: EventId, left: &mut VecDeque<Callback>)
+        requires empty { left.old.items ≡ [] }
+        requires room { length self.old.calendar.registered ≤ deque_capacity left.old }
+        ensures left { left.new.items ≡ events.callbacks_of event self.old.calendar }
+        ensures registered { self.new.calendar ≡ record self.old.calendar { registered = filter (λ r. not (events.is_same r.event event)) self.old.calendar.registered } }
+    {
+        for registration in &self.registered {
+            if registration.event.0 == event.0 {
+                match left.push_back(registration.callback) {
+                    Ok(()) => {}
+                    Err(_) => unreachable!(),
+                }
+            }
+        }
+        self.registered
+            .retain(|registration: &Registration| -> bool
+                ensures { result ≡ not (registration.now.event.0 == event.0) }
+            { registration.event.0 != event.0 });
+    }
+
+    /// Pops the entry that is due: it is its time, and its event is processed. The event's callbacks are moved to those
+    /// that are left to call.
+    pub(crate) fn pop(&mut self, left: &mut VecDeque<Callback>) -> Option<Popped>
+        requires empty { left.old.items ≡ [] }
+        requires room { length self.old.calendar.registered ≤ deque_capacity left.old }
+        requires made { All (λ x. x.event.0 < length self.old.calendar.events) self.old.calendar.agenda }
+        ensures popped { MatchOption result (self.old.calendar.agenda ≡ []) (λ x. Pops self.old.calendar (entry_of x) self.new.calendar left.new.items) }
+    {
+        let Entry { key, event } = take_first(&mut self.agenda)?;
+        let (time, priority, number) = key.parts();
+        self.time = time;
+        self.events[event.0 as usize].process();
+        self.move_callbacks(event, left);
+        Some(Popped {
+            time,
+            priority,
+            number,
+            event,
+        })
+    }
+}
