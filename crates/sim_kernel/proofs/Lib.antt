@@ -1,3 +1,4 @@
 pub mod Calendars
 pub mod Signed
 pub mod Due
+pub mod Moving

@@ -7,21 +7,22 @@ use Rattle.sim_types.specs.declared.event.Callback.{Callback}
 use Rattle.sim_kernel.specs.declared.calendar.Popped.{Popped}
 use Rattle.sim_machine.specs.State.{Calendar}
 use Rattle.sim_machine.specs.Events.{is_same, event_at, callbacks_of}
-
--- the entry of these numbers
-abbrev pub entry_of : Popped → Entry
-entry_of x = record { key = record { time = x.time; priority = x.priority; number = x.number }; event = x.event }
+use Rattle.sim_machine.specs.Steps.{line_of}
 
 -- the entry that no other comes before is taken out
 pub record TakesFirst (old : List Entry) (x : Entry) (new : List Entry) : Type 0 where
   pub others : IsPermutation old (x ∷ new)
   pub first : All (λ y. ¬ IsLess y.key x.key) new
 
--- the entry is popped: it is its time, its event is processed, and the event's callbacks are those that are left to call
-pub record Pops (old : Calendar) (x : Entry) (new : Calendar) (calls : List Callback) : Type 0 where
-  pub due : TakesFirst old.agenda x new.agenda
-  pub time : new.time ≡ x.key.time
+-- the entry that is due is popped: it is its time, and its event is processed; the answer tells the event and its line,
+-- and the event's callbacks are those that are to be called
+pub record Pops (old : Calendar) (answer : Popped) (new : Calendar) (left : List Callback) : Type 0 where
+  pub entry : Entry
+  pub due : TakesFirst old.agenda entry new.agenda
+  pub time : new.time ≡ entry.key.time
   pub scheduled : new.scheduled ≡ old.scheduled
-  pub events : new.events ≡ slice_set old.events x.event.0 (record (event_at old x.event) { processed = true })
-  pub registered : new.registered ≡ filter (λ r. not (is_same r.event x.event)) old.registered
-  pub left : calls ≡ callbacks_of x.event old
+  pub events : new.events ≡ slice_set old.events entry.event.0 (record (event_at old entry.event) { processed = true })
+  pub registered : new.registered ≡ filter (λ r. not (is_same r.event entry.event)) old.registered
+  pub calls : left ≡ callbacks_of entry.event old
+  pub event : answer.event ≡ entry.event
+  pub line : answer.line ≡ line_of entry old

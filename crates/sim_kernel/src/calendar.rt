@@ -1,15 +1,16 @@
-ghost use Rattle.std.specs.Prelude.{◌≡◌, ℕ, ◌+◌, ◌<◌, ◌≤◌, ◌^◌, pos, ◌≤ℤ◌, ◌+ℤ◌, length, IfOk, OnOk, List, [], All, filter, not, ◌==◌, MatchOption};
+ghost use Rattle.std.specs.Prelude.{◌≡◌, true, ℕ, ◌+◌, ◌<◌, ◌≤◌, ◌^◌, pos, ◌≤ℤ◌, ◌+ℤ◌, length, IfOk, OnOk, List, [], All, filter, not, ◌==◌, MatchOption};
 ghost use Rattle.std.specs.VecDeque.{deque_capacity};
 ghost use Rattle.sim_machine.specs.Events as events;
 ghost use Rattle.sim_machine.specs.Triggering as triggering;
 ghost use Rattle.sim_machine.specs.Runs.{first_calendar};
+ghost use Rattle.sim_machine.specs.Steps.{outcome_or_zero};
 ghost use Rattle.sim_kernel.specs.CalendarOf.{HasRoom};
-ghost use Rattle.sim_kernel.specs.Popping.{Pops, entry_of};
+ghost use Rattle.sim_kernel.specs.Popping.{Pops};
 ghost use Rattle.sim_kernel.specs.Same.{SameCalendar};
 
 use crate::agenda::take_first;
 use crate::event::{Event, Registration};
-use sim_types::{Callback, Entry, EventId, EventKind, Key, Outcome};
+use sim_types::{Callback, Entry, EventId, EventKind, Key, Line, Outcome};
 use std::alloc::{AllocError, Global};
 use std::collections::VecDeque;
 use std::marker::Model;
@@ -24,13 +25,11 @@ pub(crate) struct Calendar {
     registered: Vec<Registration>,
 }
 
-/// An entry that was popped.
+/// An event that was popped, and the line that tells it.
 #[derive(Clone, Copy)]
 pub(crate) struct Popped {
-    pub(crate) time: i64,
-    pub(crate) priority: u8,
-    pub(crate) number: u64,
     pub(crate) event: EventId,
+    pub(crate) line: Line,
 }
 
 impl Model for Calendar {
@@ -92,6 +91,13 @@ impl Calendar {
         self.events[event.0 as usize].defuse();
     }
 
+    /// How many callbacks are registered.
+    pub(crate) fn registrations(&self) -> usize
+        ensures { result ≡ length self.now.calendar.registered }
+    {
+        self.registered.len()
+    }
+
     pub(crate) fn outcome(&self, event: EventId) -> Option<Outcome>
         requires made { event.0 < length self.now.calendar.events }
         ensures { result ≡ (events.event_at self.now.calendar event).outcome }
@@ -115,6 +121,19 @@ impl Calendar {
         self.scheduled += 1;
         self.agenda.push_reserved(Entry { key, event });
         self.events[event.0 as usize].trigger(outcome);
+    }
+
+    // Marks an event as processed. The answer is its kind and its outcome, or Ok(0) where it is pending.
+    fn process(&mut self, event: EventId) -> (EventKind, Outcome)
+        requires made { event.0 < length self.old.calendar.events }
+        ensures kind { result.0 ≡ (events.event_at self.old.calendar event).kind }
+        ensures outcome { result.1 ≡ outcome_or_zero (events.event_at self.old.calendar event).outcome }
+        ensures events { self.new ≡ record self.old { calendar = events.change_event event (λ x. record x { processed = true }) self.old.calendar } }
+    {
+        let event = &mut self.events[event.0 as usize];
+        event.process();
+        let outcome = event.outcome().unwrap_or(Outcome::Ok(0));
+        (event.kind(), outcome)
     }
 
     // Moves the callbacks of an event to those that are left to call.
@@ -145,18 +164,23 @@ impl Calendar {
         requires empty { left.old.items ≡ [] }
         requires room { length self.old.calendar.registered ≤ deque_capacity left.old }
         requires made { All (λ x. x.event.0 < length self.old.calendar.events) self.old.calendar.agenda }
-        ensures popped { MatchOption result (self.old.calendar.agenda ≡ []) (λ x. Pops self.old.calendar (entry_of x) self.new.calendar left.new.items) }
+        ensures popped { MatchOption result (self.old.calendar.agenda ≡ []) (λ x. Pops self.old.calendar x self.new.calendar left.new.items) }
     {
         let Entry { key, event } = take_first(&mut self.agenda)?;
         let (time, priority, number) = key.parts();
+        let (kind, outcome) = self.process(event);
         self.time = time;
-        self.events[event.0 as usize].process();
         self.move_callbacks(event, left);
         Some(Popped {
-            time,
-            priority,
-            number,
             event,
+            line: Line::Event {
+                time,
+                priority,
+                number,
+                kind,
+                event,
+                outcome,
+            },
         })
     }
 }

@@ -4,3 +4,7 @@
 mod agenda;
 mod calendar;
 mod event;
+mod mode;
+mod parts;
+
+pub use mode::{Rest, Unit};

@@ -1,10 +1,11 @@
 -- Each unit keeps lawful times.
 use Rattle.std.proofs.Common.{◌≡◌, ℕ, ◌+◌, ◌<◌, ◌≤◌, ◌^◌, ℤ, pos, ◌≤ℤ◌, ◌+ℤ◌, Bool, true, false, ◌&&◌, not, length, List, [], ◌∷◌, Some, refl, ap, subst, arith, inl, inr, zero, suc, get_or}
-use Rattle.std.specs.Prelude.{is_none, ◌==◌, nat_lt, nat_le, slice_index_or, int_le, count_by, cond, replicate}
+use Rattle.std.specs.Prelude.{All, is_none, ◌==◌, nat_lt, nat_le, slice_index_or, int_le, count_by, cond, replicate}
 use Rattle.std.specs.Bool.{IsTrue}
 use Rattle.std.proofs.lemmas.Int.{ints}
 use Rattle.std.proofs.lemmas.Bool.{and_parts}
 use Rattle.std.proofs.lemmas.Bool.Decides.{nat_tests}
+use Rattle.std.proofs.lemmas.List.Elements.{All-cons, All-nil, All-weaker}
 use Rattle.std.proofs.lemmas.List.Sums.{sum_by-cons}
 use Rattle.sim_types.specs.declared.event.EventId.{EventId}
 use Rattle.sim_types.specs.declared.event.ProcId.{ProcId}
@@ -59,13 +60,27 @@ one_is_true : (b : Bool) → 1 ≤ one_if b → b ≡ true
 one_is_true true h = refl
 one_is_true false h = absurd (omega (arith, h))
 
--- the event of the entry that is due is triggered
-pub due_triggered : (x : Entry) (c : Calendar) → due c.agenda ≡ Some x → LawfulTimes c → is_triggered c x.event ≡ true
-due_triggered x c h l = one_is_true (is_triggered c x.event) (subst (λ n. 1 ≤ n) (l.triggered x.event) (among_counts x c.agenda (due_among c.agenda x h)))
+-- the event of an entry is triggered
+among_triggered : (x : Entry) (c : Calendar) → Among c.agenda x → LawfulTimes c → is_triggered c x.event ≡ true
+among_triggered x c here l = one_is_true (is_triggered c x.event) (subst (λ n. 1 ≤ n) (l.triggered x.event) (among_counts x c.agenda here))
 
 -- and so it was made
+among_made : (x : Entry) (c : Calendar) → Among c.agenda x → LawfulTimes c → x.event.0 < length c.events
+among_made x c here l = turned_made c x.event (and_parts (not (is_pending c x.event)) (not (is_processed c x.event)) (among_triggered x c here l)).0
+
+pub due_triggered : (x : Entry) (c : Calendar) → due c.agenda ≡ Some x → LawfulTimes c → is_triggered c x.event ≡ true
+due_triggered x c h l = among_triggered x c (due_among c.agenda x h) l
+
 pub due_made : (x : Entry) (c : Calendar) → due c.agenda ≡ Some x → LawfulTimes c → x.event.0 < length c.events
-due_made x c h l = turned_made c x.event (and_parts (not (is_pending c x.event)) (not (is_processed c x.event)) (due_triggered x c h l)).0
+due_made x c h l = among_made x c (due_among c.agenda x h) l
+
+all_among : (es : List Entry) → All (Among es) es
+all_among [] = All-nil (Among [])
+all_among (x ∷ es) = All-cons (Among (x ∷ es)) x es (inl refl) (All-weaker (Among es) (Among (x ∷ es)) (λ y here. inr here) es (all_among es))
+
+-- the events of all entries were made
+pub agenda_made : (c : Calendar) → LawfulTimes c → All (λ x. x.event.0 < length c.events) c.agenda
+agenda_made c l = All-weaker (Among c.agenda) (λ x. x.event.0 < length c.events) (λ x here. among_made x c here l) c.agenda (all_among c.agenda)
 
 -- ---- what is changed besides the agenda
 

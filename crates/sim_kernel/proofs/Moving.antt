@@ -1,0 +1,94 @@
+-- What the code does to a kernel's parts is what the machine does to each state that the kernel stands for.
+use Rattle.std.proofs.Common.{◌≡◌, ◌≢◌, ℕ, ◌+◌, ◌<◌, ℤ, Bool, true, false, List, [], ◌∷◌, ◌++◌, length, refl, sym, ap, subst, ◌∙◌, arith, ◌⊎◌, inl, inr, Option, Some, None, map, filter}
+use Rattle.std.specs.Prelude.{All, AllPairs, not, slice_set}
+use Rattle.std.specs.List.Sorted.{IsPermutation}
+use Rattle.std.proofs.lemmas.Int.{ints}
+use Rattle.std.proofs.lemmas.List.Elements.{All-cons, All-head, All-tail, All-from_recursion}
+use Rattle.std.proofs.lemmas.List.Sorted.{IsPermutation-trans, IsPermutation-sym, All-permutation, length_permutation}
+use Rattle.sim_types.specs.Keys.{KeyOf, IsLess}
+use Rattle.sim_types.specs.declared.event.ProcId.{ProcId}
+use Rattle.sim_types.specs.declared.event.EventId.{EventId}
+use Rattle.sim_types.specs.declared.event.Entry.{Entry}
+use Rattle.sim_types.specs.declared.event.Callback.{Callback}
+use Rattle.sim_types.proofs.Permutations.{AllPairs-head, AllPairs-tail, AllPairs-IsPermutation, IsPermutation-without}
+use Rattle.sim_machine.specs.State.{Calendar, Control, Idle, Calling, Active, Over, State}
+use Rattle.sim_machine.specs.Agenda.{due}
+use Rattle.sim_machine.specs.Tellings.{Telling}
+use Rattle.sim_machine.specs.Steps.{IsPop, pop_entry}
+use Rattle.sim_machine.proofs.AgendaLaws.{Among, due_least, due_among}
+use Rattle.sim_machine.proofs.PopLaws.{among_has}
+use Rattle.sim_kernel.specs.declared.calendar.Popped.{Popped}
+use Rattle.sim_kernel.specs.declared.mode.Unit.TheVariants as unit
+use Rattle.sim_kernel.specs.Popping.{TakesFirst, Pops}
+use Rattle.sim_kernel.specs.PartsOf.{PartsOf, RoomOf}
+use Rattle.sim_kernel.specs.StandsFor.{StandsFor, StandsForSome, LawfulOf, Moves}
+
+-- ---- the pop
+
+same_number : (a b : KeyOf) → ¬ IsLess a b → ¬ IsLess b a → a.number ≡ b.number
+same_number a b p q = grind (arith, ints)
+
+-- an entry is this one, or has another number and does not come before it
+abbrev IsThisOrLater : Entry → Entry → Type 0
+IsThisOrLater x y = (y ≡ x) ⊎ ((x.key.number ≢ y.key.number) × (¬ IsLess y.key x.key))
+
+this_one : (x m : Entry) → ¬ IsLess x.key m.key → IsThisOrLater x m → m ≡ x
+this_one x m least (inl same) = same
+this_one x m least (inr other) = absurd (other.0 (same_number x.key m.key least other.1))
+
+this_or_later : (x : Entry) (ys : List Entry) → All (λ y. x.key.number ≢ y.key.number) ys → All (λ y. ¬ IsLess y.key x.key) ys → All (IsThisOrLater x) ys
+this_or_later x ys differ first = λ k d below. inr (differ k d below, first k d below)
+
+due_of : (xs : List Entry) (x : Entry) (o : Option Entry) → ((m : Entry) → o ≡ Some m → m ≡ x) → (o ≡ None → ⊥) → o ≡ Some x
+due_of xs x None only some = absurd (some refl)
+due_of xs x (Some m) only some = ap (λ y. Some y) (only m refl)
+
+none_due : (xs : List Entry) → due xs ≡ None → length xs ≡ 0
+none_due [] h = refl
+none_due (x ∷ xs) h = cc
+
+-- the entry that no other comes before is the one that is due, in whatever order the agenda is
+pub is_due : (xs : List Entry) (x : Entry) (ys : List Entry) → IsPermutation xs (x ∷ ys) → All (λ y. ¬ IsLess y.key x.key) ys → AllPairs (λ y z. y.key.number ≢ z.key.number) xs → due xs ≡ Some x
+is_due xs x ys others first distinct =
+    let apart : AllPairs (λ y z. y.key.number ≢ z.key.number) (x ∷ ys) = AllPairs-IsPermutation (λ y z. y.key.number ≢ z.key.number) (λ y z d. λ e. d (sym e)) xs (x ∷ ys) others distinct in
+    let differ : All (λ y. x.key.number ≢ y.key.number) ys = AllPairs-head (λ y z. y.key.number ≢ z.key.number) x ys apart in
+    let each : All (IsThisOrLater x) xs =
+        All-permutation (IsThisOrLater x) (x ∷ ys) xs (IsPermutation-sym xs (x ∷ ys) others) (All-cons (IsThisOrLater x) x ys (inl refl) (this_or_later x ys differ first)) in
+    due_of xs x (due xs)
+    (λ m h.
+        let least : All (λ y. ¬ IsLess y.key m.key) xs = All-from_recursion (λ y. ¬ IsLess y.key m.key) xs (due_least xs m h) in
+        let here : ¬ IsLess x.key m.key = All-head (λ y. ¬ IsLess y.key m.key) x ys (All-permutation (λ y. ¬ IsLess y.key m.key) xs (x ∷ ys) others least) in
+        this_one x m here (among_has (IsThisOrLater x) xs m each (due_among xs m h)))
+    (λ h. let none : length xs ≡ 0 = none_due xs h in omega (arith, none, length_permutation xs (x ∷ ys) others))
+
+pub pop_moves : {B Code : Type 0} (filled : Code → ℕ → List ℤ → B) (owned : B → ProcId → B) (tell : Code → Telling B) (sound : Code → B → Type 0) (old : PartsOf B Code) (answer : Popped) (new : Calendar) (left : List Callback) (room : RoomOf) → old.control ≡ Idle → Pops old.calendar answer new left → Moves filled owned tell sound IsPop old (unit.Line answer.line) (record old { calendar = new; processed = old.processed + 1; control = Calling answer.event left; room = room })
+pop_moves filled owned tell sound old answer new left room idle p =
+    record {
+      each = λ s h st.
+          let d = is_due s.facilities.calendar.agenda p.entry new.agenda (IsPermutation-trans _ _ _ st.calendar.agenda p.due.others) p.due.first h.times.distinct in
+          record {
+            state = pop_entry p.entry s;
+            stepped = record { entry = p.entry; is_due = d; then_is = refl };
+            stands = record {
+              calendar = record {
+                time = p.time;
+                scheduled = p.scheduled ∙ st.calendar.scheduled;
+                agenda = IsPermutation-without (λ y. y.key.number) p.entry s.facilities.calendar.agenda new.agenda h.times.distinct (IsPermutation-trans _ _ _ st.calendar.agenda p.due.others);
+                events = p.events ∙ rw st.calendar.events refl;
+                registered = p.registered ∙ rw st.calendar.registered refl;
+              };
+              processed = ap (λ n. n + 1) st.processed;
+              generator = st.generator;
+              processes = st.processes;
+              scopes = st.scopes;
+              control = rw (p.event, p.calls) (rw st.calendar.registered refl);
+              waiters = st.waiters;
+              ledger = st.ledger;
+            };
+            lines = rw p.line (rw st.calendar.events refl);
+          };
+    }
+
+-- the event of each entry was made
+pub entries_made : {B Code : Type 0} (filled : Code → ℕ → List ℤ → B) (owned : B → ProcId → B) (tell : Code → Telling B) (sound : Code → B → Type 0) (parts : PartsOf B Code) → StandsForSome filled owned tell sound parts → All (λ x. x.event.0 < length parts.calendar.events) parts.calendar.agenda
+entries_made filled owned tell sound parts h = ?

@@ -1,0 +1,49 @@
+-- What is built so far: the operations and callbacks that the kernel performs.
+use Rattle.std.specs.Prelude.{ℕ, ℤ, ◌+◌, ◌*◌, ◌≤◌, ◌^◌, Bool, true, false, IsTrue, length}
+use Rattle.std.specs.List.{AllPass}
+use Rattle.sim_types.specs.declared.event.Callback.{Callback}
+use Rattle.sim_types.specs.declared.event.Callback.TheVariants as callback
+use Rattle.sim_types.specs.declared.event.Signal.{Signal}
+use Rattle.sim_types.specs.declared.op.Op.{Op}
+use Rattle.sim_types.specs.declared.op.Op.TheVariants as op
+use Rattle.sim_machine.specs.Standing.{left_of}
+use Rattle.sim_kernel.specs.PartsOf.{PartsOf}
+
+-- the operations that are built
+abbrev pub is_built : Op → Bool
+is_built op.Nop = true
+is_built (op.Pause delay value) = true
+is_built (op.Log value) = true
+is_built (op.Draw lo hi) = true
+is_built (op.Finish value) = true
+is_built (op.Die what) = true
+is_built _ = false
+
+-- a body that asks for operations that are built, and for no others
+pub record AsksForBuilt {B : Type 0} (turn : B → ℤ → Signal → Op → B → Type 0) : Type 0 where
+  pub asks : (b : B) (time : ℤ) (told : Signal) (asked : Op) (later : B) → turn b time told asked later → IsTrue (is_built asked)
+
+-- the callbacks that come from such operations, and from what stops a run
+abbrev pub is_built_callback : Callback → Bool
+is_built_callback (callback.Resume p) = true
+is_built_callback callback.Stop = true
+is_built_callback _ = false
+
+-- no other callbacks are registered or left to call
+pub record HasBuiltCallbacks {B Code : Type 0} (parts : PartsOf B Code) : Type 0 where
+  pub registered : AllPass (λ r. is_built_callback r.callback) parts.calendar.registered
+  pub left : AllPass is_built_callback (left_of parts.control)
+
+-- one unit makes at most so many events, and schedules no more
+abbrev pub most_made : ℕ
+most_made = 40
+
+-- more events than any opening state has
+abbrev pub most_opened : ℕ
+most_opened = 2 ^ 18
+
+-- the numbers of a kernel that has made so many units
+pub record IsBounded {B Code : Type 0} (units : ℕ) (parts : PartsOf B Code) : Type 0 where
+  pub events : length parts.calendar.events ≤ most_opened + most_made * units
+  pub scheduled : parts.calendar.scheduled ≤ most_opened + most_made * units
+  pub processed : parts.processed ≤ units

@@ -1,0 +1,55 @@
+-- What contracts see of a kernel.
+use Rattle.std.specs.Prelude.{◌≡◌, ℕ, ◌≤◌, ℤ, List, [], length}
+use Rattle.rand_pcg.specs.Lcg.{Lcg}
+use Rattle.sim_types.specs.declared.event.ProcId.{ProcId}
+use Rattle.sim_types.specs.declared.event.Callback.{Callback}
+use Rattle.sim_types.specs.declared.line.Line.{Line}
+use Rattle.sim_types.specs.declared.setup.Setup.{Setup}
+use Rattle.sim_machine.specs.State.{Calendar, Control, Idle, Calling, Active, Over, Plan}
+use Rattle.sim_machine.specs.RandomWords.{word_of}
+use Rattle.sim_procs.specs.RecordOf.{RecordOf}
+use Rattle.sim_kernel.specs.CalendarOf.{Room, HasRoom}
+use Rattle.sim_kernel.specs.declared.mode.Mode.{Mode}
+use Rattle.sim_kernel.specs.declared.mode.Mode.TheVariants as mode
+
+-- the control of the machine, by what the kernel is doing and the callbacks that are left to call
+abbrev pub control_of : Mode → List Callback → Control
+control_of mode.Idle left = Idle
+control_of (mode.Calling event) left = Calling event left
+control_of (mode.Active event process told) left = Active event left process told
+control_of (mode.Over why event) left = Over why event left
+
+-- where nothing is being done, no callbacks are left to call
+abbrev pub NoneLeftIdle : Mode → List Callback → Type 0
+NoneLeftIdle mode.Idle left = left ≡ []
+NoneLeftIdle (mode.Calling event) left = Unit {0}
+NoneLeftIdle (mode.Active event process told) left = Unit {0}
+NoneLeftIdle (mode.Over why event) left = Unit {0}
+
+-- the room that a kernel has taken: in its calendar, for callbacks left to call, and for live processes
+pub record RoomOf : Type 0 where
+  pub calendar : Room
+  pub left : ℕ
+  pub processes : ℕ
+
+-- a kernel: its lists and numbers, what it was opened with, and its room
+pub record PartsOf (B Code : Type 0) : Type 0 where
+  pub calendar : Calendar
+  pub processed : ℕ
+  -- the generator of the random words, as far as they were drawn
+  pub generator : Lcg
+  pub live : List (RecordOf B)
+  pub control : Control
+  pub code : Code
+  pub setup : Setup
+  pub seed : ℕ
+  pub room : RoomOf
+
+-- room for all that one unit takes
+pub record HasUnitRoom {B Code : Type 0} (parts : PartsOf B Code) : Type 0 where
+  pub calendar : HasRoom 1 parts.room.calendar
+  pub left : length parts.calendar.registered ≤ parts.room.left
+
+-- the plan of the machine that a kernel was opened with, by how a body is filled and told its number
+abbrev pub plan_of : {B Code : Type 0} → (Code → ℕ → List ℤ → B) → (B → ProcId → B) → PartsOf B Code → Plan B
+plan_of filled owned parts = record { setup = parts.setup; word = word_of parts.seed; start = λ kind args id. owned (filled parts.code kind args) id }

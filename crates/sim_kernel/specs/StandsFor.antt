@@ -1,0 +1,63 @@
+-- Which states of the machine a kernel stands for, and what it means that it makes a unit of the machine.
+use Rattle.std.specs.Prelude.{◌≡◌, ℕ, ℤ, List, [], ◌∷◌, ◌++◌, map, filter, All}
+use Rattle.std.specs.List.Sorted.{IsPermutation}
+use Rattle.sim_types.specs.declared.event.ProcId.{ProcId}
+use Rattle.sim_types.specs.declared.event.Scope.{Scope}
+use Rattle.sim_types.specs.declared.line.Line.{Line}
+use Rattle.sim_machine.specs.State.{ProcessOf, State}
+use Rattle.sim_machine.specs.Events.{is_process}
+use Rattle.sim_machine.specs.RandomWords.{generator_of, generator_after}
+use Rattle.sim_machine.specs.Tellings.{Telling}
+use Rattle.sim_machine.specs.Lawful.{Lawful}
+use Rattle.sim_procs.specs.RecordOf.{RecordOf}
+use Rattle.sim_kernel.specs.Same.{SameCalendar}
+use Rattle.sim_kernel.specs.PartsOf.{PartsOf, plan_of}
+use Rattle.sim_kernel.specs.declared.mode.Unit.{Unit}
+use Rattle.sim_kernel.specs.declared.mode.Unit.TheVariants as unit
+
+-- a live process of the machine, as its record tells it
+abbrev pub process_of : {B : Type 0} → RecordOf B → ProcessOf B
+process_of r = record { id = r.id; body = r.body; target = r.target }
+
+-- the open scopes of a process, the outermost first
+abbrev pub scopes_of : {B : Type 0} → ProcId → State B → List Scope
+scopes_of p s = map (λ x. record { request = x.request; res = x.res }) (filter (λ x. is_process x.process p) s.scopes)
+
+-- the kernel stands for the state: time, events and registrations are those of the state, the entries and the processes
+-- are, in any order, the scopes are those of the records, the generator is that of the seed after the words drawn, and
+-- nothing waits at a resource or was done there; the lines, which no kernel keeps, are not compared
+pub record StandsFor {B Code : Type 0} (parts : PartsOf B Code) (s : State B) : Type 0 where
+  pub calendar : SameCalendar parts.calendar s.facilities.calendar
+  pub processed : parts.processed ≡ s.processed
+  pub generator : parts.generator ≡ generator_after s.drawn (generator_of parts.seed)
+  pub processes : IsPermutation s.processes (map process_of parts.live)
+  pub scopes : All (λ r. r.scopes ≡ scopes_of r.id s) parts.live
+  pub control : parts.control ≡ s.control
+  pub waiters : s.facilities.waiters ≡ []
+  pub ledger : s.facilities.ledger ≡ []
+
+-- a lawful state of the machine that the kernel was opened with, for a body of these members
+abbrev pub LawfulOf : {B Code : Type 0} → (Code → ℕ → List ℤ → B) → (B → ProcId → B) → (Code → Telling B) → (Code → B → Type 0) → PartsOf B Code → State B → Type 0
+LawfulOf filled owned tell sound parts s = Lawful (plan_of filled owned parts) (tell parts.code) (sound parts.code) s
+
+-- the kernel stands for some lawful state
+pub record StandsForSome {B Code : Type 0} (filled : Code → ℕ → List ℤ → B) (owned : B → ProcId → B) (tell : Code → Telling B) (sound : Code → B → Type 0) (parts : PartsOf B Code) : Type 0 where
+  pub state : State B
+  pub lawful : LawfulOf filled owned tell sound parts state
+  pub stands : StandsFor parts state
+
+-- the lines that the answer of a unit tells
+abbrev pub lines_of : Unit → List Line
+lines_of unit.Quiet = []
+lines_of (unit.Line line) = line ∷ []
+
+-- a step leads from s to a state that the kernel stands for, and adds the line answered
+pub record Later {B Code : Type 0} (step : State B → State B → Type 0) (s : State B) (answer : Unit) (new : PartsOf B Code) : Type 0 where
+  pub state : State B
+  pub stepped : step s state
+  pub stands : StandsFor new state
+  pub lines : state.lines ≡ s.lines ++ lines_of answer
+
+-- so it is from whatever lawful state the kernel stood for
+pub record Moves {B Code : Type 0} (filled : Code → ℕ → List ℤ → B) (owned : B → ProcId → B) (tell : Code → Telling B) (sound : Code → B → Type 0) (step : State B → State B → Type 0) (old : PartsOf B Code) (answer : Unit) (new : PartsOf B Code) : Type 0 where
+  pub each : (s : State B) → LawfulOf filled owned tell sound old s → StandsFor old s → Later step s answer new

@@ -1,0 +1,71 @@
+ghost use Rattle.std.specs.Prelude.{◌≡◌, ◌≢◌, ℕ, ◌+◌, ◌<◌, ◌≤◌, ◌^◌, List, [], ◌∷◌, length, OnOk};
+ghost use Rattle.sim_types.specs.declared.event.EventId.{EventId};
+ghost use Rattle.sim_types.specs.declared.event.Callback.{Callback};
+ghost use Rattle.sim_machine.specs.State.{Idle, Calling, Active, Over};
+ghost use Rattle.sim_machine.specs.Steps.{IsPop, call, settle};
+ghost use Rattle.sim_kernel.specs.PartsOf.{HasUnitRoom, plan_of};
+ghost use Rattle.sim_kernel.specs.StandsFor.{StandsForSome, Moves};
+
+use crate::calendar::Calendar;
+use crate::mode::{Mode, Unit};
+use rand_pcg::Pcg64;
+use sim_memo::Memo;
+use sim_procs::{Body, Procs};
+use sim_types::{Callback, End, EventId, EventKind, Line, Outcome, ProcId, Setup, Signal};
+use std::alloc::AllocError;
+use std::collections::VecDeque;
+use std::marker::Model;
+
+/// The lists and numbers of a kernel, and what it was opened with.
+pub(crate) struct Parts<B: Body> {
+    pub(crate) calendar: Calendar,
+    pub(crate) processed: u64,
+    pub(crate) generator: Pcg64,
+    pub(crate) processes: Procs<B>,
+    pub(crate) mode: Mode,
+    pub(crate) left: VecDeque<Callback>,
+    pub(crate) code: Memo<B::Code>,
+    pub(crate) setup: Memo<Setup>,
+    pub(crate) seed: Memo<u64>,
+}
+
+impl<B: Body> Model for Parts<B> {
+    ghost use Rattle.std.specs.VecDeque.{deque_capacity};
+    ghost use Rattle.sim_kernel.specs.PartsOf.{PartsOf, control_of, NoneLeftIdle};
+
+    ghost Value = { PartsOf B B.Code };
+
+    ghost view = { λ a. record { calendar = a.calendar.calendar; processed = a.processed; generator = a.generator; live = a.processes.live; control = control_of a.mode a.left.items; code = a.code.value; setup = a.setup.value; seed = a.seed.value; room = record { calendar = a.calendar.room; left = deque_capacity a.left; processes = a.processes.spare } } };
+
+    ghost invariant = { λ a. NoneLeftIdle a.mode a.left.items };
+}
+
+impl<B: Body> Parts<B> {
+    /// Makes room for all that one unit takes.
+    pub(crate) fn reserve(&mut self) -> Result<(), AllocError>
+        ensures kept { self.new ≡ record self.old { room = self.new.room } }
+        ensures room { OnOk result (HasUnitRoom self.new) }
+    {
+        self.calendar.reserve(1)?;
+        self.left.reserve(self.calendar.registrations())
+    }
+
+    /// Pops the event that is due.
+    fn pop(&mut self) -> Unit
+        requires stands { StandsForSome B.filled B.owned B.tell B.sound self.old }
+        requires idle { self.old.control ≡ Idle }
+        requires due { self.old.calendar.agenda ≢ [] }
+        requires room { HasUnitRoom self.old }
+        requires number { self.old.processed < 2 ^ 62 }
+        ensures moves { Moves B.filled B.owned B.tell B.sound IsPop self.old result self.new }
+    {
+        match self.calendar.pop(&mut self.left) {
+            None => unreachable!(),
+            Some(popped) => {
+                self.processed += 1;
+                self.mode = Mode::Calling(popped.event);
+                Unit::Line(popped.line)
+            }
+        }
+    }
+}
