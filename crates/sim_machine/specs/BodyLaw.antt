@@ -1,5 +1,5 @@
 -- The law of a body: what it keeps from its start on through each poll.
-use Rattle.std.specs.Prelude.{Bool, nat_lt, ◌==◌, ◌||◌, ◌&&◌, ◌+◌, ◌≤◌, ℕ, ℤ, List, Option, true, false, [], ◌∷◌, ◌++◌, length, slice_index_or, Some, None, if◌then◌else◌, pos, ◌≡◌, IsTrue}
+use Rattle.std.specs.Prelude.{Bool, not, nat_lt, ◌==◌, ◌||◌, ◌&&◌, ◌+◌, ◌≤◌, ℕ, ℤ, List, Option, true, false, [], ◌∷◌, ◌++◌, length, slice_index_or, Some, None, if◌then◌else◌, pos, ◌≡◌, IsTrue}
 use Rattle.std.specs.List.{list_all}
 use Rattle.sim_types.specs.declared.event.EventId.{EventId}
 use Rattle.sim_types.specs.declared.event.ProcId.{ProcId}
@@ -68,13 +68,13 @@ pub record IsLawfulPoll {B : Type 0} (f : CodeFacts) (tell : Telling B) (b : B) 
   pub scopes : tell.scopes d ≡ scopes_asked (scopes_told (tell.scopes b) (tell.last b) x) asked
   pub last : tell.last d ≡ Some asked
 
--- a place holds event 0, or the argument of a parameter of its class
+-- a place holds the argument of a parameter of its class; an argument that is a number is no event
 abbrev pub holds_argument : List Class → List ℤ → Place → Bool
-holds_argument (c ∷ cs) (pos n ∷ vs) x = is_class c x.class && (x.event.0 == n) || holds_argument cs vs x
+holds_argument (c ∷ cs) (pos n ∷ vs) x = not (is_class c class.Number) && is_class c x.class && (x.event.0 == n) || holds_argument cs vs x
 holds_argument (c ∷ cs) (v ∷ vs) x = holds_argument cs vs x
 holds_argument _ _ x = false
 
--- how a process begins: it was not polled, no scope is open, and its places hold what it was given
+-- how a process begins: it was not polled, no scope is open, and its places hold event 0 or what it was given
 pub record IsLawfulStart {B : Type 0} (f : CodeFacts) (tell : Telling B) (k : ℕ) (args : List ℤ) (p : ProcId) (b : B) : Type 0 where
   pub own : tell.own b ≡ p
   pub places : IsTrue (list_all (λ x. is_zero x.event || holds_argument (slice_index_or f.params k []) args x) (tell.places b))
