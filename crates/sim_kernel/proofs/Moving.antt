@@ -17,6 +17,7 @@ use Rattle.sim_machine.specs.Tellings.{Telling}
 use Rattle.sim_machine.specs.Steps.{IsPop, pop_entry}
 use Rattle.sim_machine.proofs.AgendaLaws.{Among, due_least, due_among}
 use Rattle.sim_machine.proofs.PopLaws.{among_has}
+use Rattle.sim_machine.proofs.KeptTimes.{agenda_made}
 use Rattle.sim_kernel.specs.declared.calendar.Popped.{Popped}
 use Rattle.sim_kernel.specs.declared.mode.Unit.TheVariants as unit
 use Rattle.sim_kernel.specs.Popping.{TakesFirst, Pops}
@@ -91,4 +92,6 @@ pop_moves filled owned tell sound old answer new left room idle p =
 
 -- the event of each entry was made
 pub entries_made : {B Code : Type 0} (filled : Code → ℕ → List ℤ → B) (owned : B → ProcId → B) (tell : Code → Telling B) (sound : Code → B → Type 0) (parts : PartsOf B Code) → StandsForSome filled owned tell sound parts → All (λ x. x.event.0 < length parts.calendar.events) parts.calendar.agenda
-entries_made filled owned tell sound parts h = ?
+entries_made filled owned tell sound parts h =
+    rw h.stands.calendar.events
+    (All-permutation (λ x. x.event.0 < length h.state.facilities.calendar.events) h.state.facilities.calendar.agenda parts.calendar.agenda h.stands.calendar.agenda (agenda_made h.state.facilities.calendar h.lawful.times))
