@@ -1,0 +1,5 @@
+pub mod Causes
+pub mod Memory
+pub mod Reads
+pub mod Standard
+pub mod Writes

@@ -1,0 +1,124 @@
+//! Standard input and output. What they carry is known to no contract, so of them no bytes are told.
+ghost use Rattle.std.specs.Prelude.{◌≡◌};
+
+use crate::fault::Failed;
+use crate::fault_count::FaultCount;
+use crate::sink::Sink;
+use crate::source::{CHUNK, Source};
+use std::io::{Read, Write};
+use std::marker::Model;
+
+/// A source over a reader of the standard library, such as standard input. It tells the bytes that the reader tells.
+/// Each error of the reader is a fault.
+#[derive(Drop)]
+pub struct StdSource<R> {
+    input: R,
+    faults: FaultCount,
+}
+
+impl<R> Model for StdSource<R> {
+    ghost use Rattle.sim_outside.specs.Standard.{StdSourceOf};
+
+    ghost Value = { StdSourceOf R };
+
+    ghost view = { λ a. record { input = a.input; faults = a.faults } };
+}
+
+impl<R: Read> StdSource<R> {
+    /// A source over `input` that has had no fault.
+    pub fn new(input: R) -> StdSource<R>
+        ensures { result ≡ record { input = input; faults = 0 } }
+    {
+        StdSource {
+            input,
+            faults: FaultCount::new(),
+        }
+    }
+}
+
+impl<R: Read> Source for StdSource<R> {
+    ghost left = { λ source. R.remaining source.input };
+
+    ghost faults = { λ source. source.faults };
+
+    fn read(&mut self, buf: &mut [u8]) -> Result<usize, Failed> {
+        // A reader may leave anything behind the bytes that it answers, so it is not given `buf` itself.
+        let mut chunk = [0; CHUNK];
+        let room = CHUNK.min(buf.len());
+        match self.input.read(&mut chunk[..room]) {
+            Ok(count) => {
+                buf[..count].copy_from_slice(&chunk[..count]);
+                Ok(count)
+            }
+            Err(_) => Err(self.faults.fail()),
+        }
+    }
+}
+
+/// A sink over a writer of the standard library, such as standard output. It tells the bytes that the writer tells.
+/// Each error of the writer is a fault, and so is a write that takes nothing of a piece.
+#[derive(Drop)]
+pub struct StdSink<W> {
+    output: W,
+    faults: FaultCount,
+}
+
+impl<W> Model for StdSink<W> {
+    ghost use Rattle.sim_outside.specs.Standard.{StdSinkOf};
+
+    ghost Value = { StdSinkOf W };
+
+    ghost view = { λ a. record { output = a.output; faults = a.faults } };
+}
+
+impl<W: Write> StdSink<W> {
+    /// A sink over `output` that has had no fault.
+    pub fn new(output: W) -> StdSink<W>
+        ensures { result ≡ record { output = output; faults = 0 } }
+    {
+        StdSink {
+            output,
+            faults: FaultCount::new(),
+        }
+    }
+}
+
+impl<W: Write> Sink for StdSink<W> {
+    ghost taken = { λ sink. W.contents sink.output };
+
+    ghost faults = { λ sink. sink.faults };
+
+    fn write(&mut self, piece: &[u8]) -> Result<usize, Failed> {
+        match self.output.write(piece) {
+            Ok(0) if !piece.is_empty() => Err(self.faults.fail()),
+            Ok(count) => Ok(count),
+            Err(_) => Err(self.faults.fail()),
+        }
+    }
+
+    fn flush(&mut self) -> Result<(), Failed> {
+        match self.output.flush() {
+            Ok(()) => Ok(()),
+            Err(_) => Err(self.faults.fail()),
+        }
+    }
+}
+
+#[cfg(test)]
+mod tests {
+    use super::*;
+    use crate::sink::write_all;
+    use crate::source::take_all;
+    use std::test::Fail;
+
+    #[test]
+    fn reads_standard_input_and_writes_standard_output(rt: HostRuntime) -> Result<(), Fail> {
+        let mut source = StdSource::new(rt.stdin());
+        let taken = take_all(rt.alloc(), &mut source, 4096)?;
+        assert!(rt; taken.is_empty(), "a test's input is empty");
+        let mut sink = StdSink::new(rt.stdout());
+        write_all(&mut sink, b"read and written\n")?;
+        sink.flush()?;
+        Ok(())
+    }
+}
