@@ -11,18 +11,22 @@ use Rattle.sim_types.specs.declared.event.EventId.{EventId}
 use Rattle.sim_types.specs.declared.event.Entry.{Entry}
 use Rattle.sim_types.specs.declared.event.Callback.{Callback}
 use Rattle.sim_types.proofs.Permutations.{AllPairs-head, AllPairs-tail, AllPairs-IsPermutation, IsPermutation-without}
-use Rattle.sim_machine.specs.State.{Calendar, Control, Idle, Calling, Active, Over, State}
+use Rattle.sim_machine.specs.State.{Calendar, Control, Idle, Calling, Active, Over, State, Plan}
 use Rattle.sim_machine.specs.Agenda.{due}
 use Rattle.sim_machine.specs.Tellings.{Telling}
-use Rattle.sim_machine.specs.Steps.{IsPop, pop_entry}
+use Rattle.sim_machine.specs.Steps.{Turn, IsStepAt, IsStep, pop_entry}
 use Rattle.sim_machine.proofs.AgendaLaws.{Among, due_least, due_among}
 use Rattle.sim_machine.proofs.PopLaws.{among_has}
 use Rattle.sim_machine.proofs.KeptTimes.{agenda_made}
 use Rattle.sim_kernel.specs.declared.calendar.Popped.{Popped}
 use Rattle.sim_kernel.specs.declared.mode.Unit.TheVariants as unit
 use Rattle.sim_kernel.specs.Popping.{TakesFirst, Pops}
-use Rattle.sim_kernel.specs.PartsOf.{PartsOf, RoomOf}
+use Rattle.sim_kernel.specs.PartsOf.{PartsOf, RoomOf, plan_of}
 use Rattle.sim_kernel.specs.StandsFor.{StandsFor, StandsForSome, LawfulOf, Moves}
+
+-- what comes next is what the control says
+at_control : {B : Type 0} (g : Plan B) (turn : Turn B) (s t : State B) (c : Control) → c ≡ s.control → IsStepAt g turn s t c → IsStep g turn s t
+at_control g turn s t c h step = subst (λ d. IsStepAt g turn s t d) h step
 
 -- ---- the pop
 
@@ -62,14 +66,14 @@ is_due xs x ys others first distinct =
         this_one x m here (among_has (IsThisOrLater x) xs m each (due_among xs m h)))
     (λ h. let none : length xs ≡ 0 = none_due xs h in omega (arith, none, length_permutation xs (x ∷ ys) others))
 
-pub pop_moves : {B Code : Type 0} (filled : Code → ℕ → List ℤ → B) (owned : B → ProcId → B) (tell : Code → Telling B) (sound : Code → B → Type 0) (old : PartsOf B Code) (answer : Popped) (new : Calendar) (left : List Callback) (room : RoomOf) → old.control ≡ Idle → Pops old.calendar answer new left → Moves filled owned tell sound IsPop old (unit.Line answer.line) (record old { calendar = new; processed = old.processed + 1; control = Calling answer.event left; room = room })
-pop_moves filled owned tell sound old answer new left room idle p =
+pub pop_moves : {B Code : Type 0} (filled : Code → ℕ → List ℤ → B) (owned : B → ProcId → B) (tell : Code → Telling B) (sound : Code → B → Type 0) (turn : Turn B) (old : PartsOf B Code) (answer : Popped) (new : Calendar) (left : List Callback) (room : RoomOf) → old.control ≡ Idle → Pops old.calendar answer new left → Moves filled owned tell sound (IsStep (plan_of filled owned old) turn) old (unit.Line answer.line) (record old { calendar = new; processed = old.processed + 1; control = Calling answer.event left; room = room })
+pop_moves filled owned tell sound turn old answer new left room idle p =
     record {
       each = λ s h st.
           let d = is_due s.facilities.calendar.agenda p.entry new.agenda (IsPermutation-trans _ _ _ st.calendar.agenda p.due.others) p.due.first h.times.distinct in
           record {
             state = pop_entry p.entry s;
-            stepped = record { entry = p.entry; is_due = d; then_is = refl };
+            stepped = at_control (plan_of filled owned old) turn s (pop_entry p.entry s) Idle (sym idle ∙ st.control) (record { entry = p.entry; is_due = d; then_is = refl });
             stands = record {
               calendar = record {
                 time = p.time;

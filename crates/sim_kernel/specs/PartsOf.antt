@@ -1,11 +1,14 @@
 -- What contracts see of a kernel.
-use Rattle.std.specs.Prelude.{◌≡◌, ℕ, ◌≤◌, ℤ, List, [], length}
+use Rattle.std.specs.Prelude.{◌≡◌, ℕ, ◌≤◌, ℤ, Bool, not, ◌&&◌, List, [], length}
 use Rattle.rand_pcg.specs.Lcg.{Lcg}
+use Rattle.sim_types.specs.declared.event.EventId.{EventId}
 use Rattle.sim_types.specs.declared.event.ProcId.{ProcId}
+use Rattle.sim_types.specs.declared.event.Signal.{Signal}
 use Rattle.sim_types.specs.declared.event.Callback.{Callback}
 use Rattle.sim_types.specs.declared.line.Line.{Line}
 use Rattle.sim_types.specs.declared.setup.Setup.{Setup}
 use Rattle.sim_machine.specs.State.{Calendar, Control, Idle, Calling, Active, Over, Plan}
+use Rattle.sim_machine.specs.Events.{event_at, is_fail}
 use Rattle.sim_machine.specs.RandomWords.{word_of}
 use Rattle.sim_procs.specs.RecordOf.{RecordOf}
 use Rattle.sim_kernel.specs.CalendarOf.{Room, HasRoom}
@@ -44,6 +47,20 @@ pub record PartsOf (B Code : Type 0) : Type 0 where
   pub setup : Setup
   pub seed : ℕ
   pub room : RoomOf
+
+-- the event failed and nobody defused it
+abbrev pub is_unhandled : EventId → Calendar → Bool
+is_unhandled event c = is_fail (event_at c event).outcome && not (event_at c event).defused
+
+-- the callbacks of this event are being called
+abbrev pub IsCalling : EventId → Control → Type 0
+IsCalling event (Calling e left) = e ≡ event
+IsCalling event _ = ⊥
+
+-- this process runs within such a call, and is to be told this
+abbrev pub IsRunning : EventId → ProcId → Signal → Control → Type 0
+IsRunning event process told (Active e left p x) = (e ≡ event) × (p ≡ process) × (x ≡ told)
+IsRunning event process told _ = ⊥
 
 -- room for all that one unit takes
 pub record HasUnitRoom {B Code : Type 0} (parts : PartsOf B Code) : Type 0 where

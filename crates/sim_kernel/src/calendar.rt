@@ -1,16 +1,17 @@
-ghost use Rattle.std.specs.Prelude.{◌≡◌, true, ℕ, ◌+◌, ◌<◌, ◌≤◌, ◌^◌, pos, ◌≤ℤ◌, ◌+ℤ◌, length, IfOk, OnOk, List, [], All, filter, not, ◌==◌, MatchOption};
+ghost use Rattle.std.specs.Prelude.{◌≡◌, true, ℕ, ◌+◌, ◌<◌, ◌≤◌, ◌^◌, pos, ◌≤ℤ◌, ◌+ℤ◌, length, IfOk, OnOk, List, [], All, filter, not, ◌==◌, ◌&&◌, MatchOption};
 ghost use Rattle.std.specs.VecDeque.{deque_capacity};
 ghost use Rattle.sim_machine.specs.Events as events;
 ghost use Rattle.sim_machine.specs.Triggering as triggering;
 ghost use Rattle.sim_machine.specs.Runs.{first_calendar};
-ghost use Rattle.sim_machine.specs.Steps.{outcome_or_zero};
+ghost use Rattle.sim_machine.specs.Processes.{defuse_failed};
+ghost use Rattle.sim_machine.specs.Steps.{outcome_or_zero, signal_by};
 ghost use Rattle.sim_kernel.specs.CalendarOf.{HasRoom};
 ghost use Rattle.sim_kernel.specs.Popping.{Pops};
 ghost use Rattle.sim_kernel.specs.Same.{SameCalendar};
 
 use crate::agenda::take_first;
 use crate::event::{Event, Registration};
-use sim_types::{Callback, Entry, EventId, EventKind, Key, Line, Outcome};
+use sim_types::{Callback, Entry, EventId, EventKind, Key, Line, Outcome, Signal};
 use std::alloc::{AllocError, Global};
 use std::collections::VecDeque;
 use std::marker::Model;
@@ -98,11 +99,47 @@ impl Calendar {
         self.registered.len()
     }
 
-    pub(crate) fn outcome(&self, event: EventId) -> Option<Outcome>
+    /// What a process is told by an event that resumes it.
+    pub(crate) fn signal_by(&self, event: EventId) -> Signal
         requires made { event.0 < length self.now.calendar.events }
-        ensures { result ≡ (events.event_at self.now.calendar event).outcome }
+        ensures { result ≡ signal_by (events.event_at self.now.calendar event).kind (events.event_at self.now.calendar event).outcome }
     {
-        self.events[event.0 as usize].outcome()
+        let event = &self.events[event.0 as usize];
+        match (event.kind(), event.outcome()) {
+            (EventKind::Init, _) => Signal::Begin,
+            (_, None) => Signal::Value(0),
+            (_, Some(Outcome::Ok(value))) => Signal::Value(value),
+            (_, Some(Outcome::Fail(what))) => Signal::Thrown(what),
+        }
+    }
+
+    /// Whether an event failed.
+    pub(crate) fn is_failed(&self, event: EventId) -> bool
+        requires made { event.0 < length self.now.calendar.events }
+        ensures { result ≡ events.is_fail (events.event_at self.now.calendar event).outcome }
+    {
+        match self.events[event.0 as usize].outcome() {
+            Some(Outcome::Fail(_)) => true,
+            _ => false,
+        }
+    }
+
+    /// Whether an event failed and nobody defused it.
+    pub(crate) fn is_unhandled(&self, event: EventId) -> bool
+        requires made { event.0 < length self.now.calendar.events }
+        ensures { result ≡ (events.is_fail (events.event_at self.now.calendar event).outcome && not (events.event_at self.now.calendar event).defused) }
+    {
+        self.is_failed(event) && !self.events[event.0 as usize].is_defused()
+    }
+
+    /// A failure that a process is told of ends no run.
+    pub(crate) fn defuse_failed(&mut self, event: EventId)
+        requires made { event.0 < length self.old.calendar.events }
+        ensures { self.new ≡ record self.old { calendar = defuse_failed event self.old.calendar } }
+    {
+        if self.is_failed(event) {
+            self.defuse(event);
+        }
     }
 
     /// An event gets its outcome, and an entry in the agenda after a delay.

@@ -1,9 +1,13 @@
-ghost use Rattle.std.specs.Prelude.{◌≡◌, ◌≢◌, ℕ, ◌+◌, ◌<◌, ◌≤◌, ◌^◌, List, [], ◌∷◌, length, OnOk};
+ghost use Rattle.std.specs.Prelude.{◌≡◌, ◌≢◌, ℕ, ◌+◌, ◌<◌, ◌≤◌, ◌^◌, List, [], ◌∷◌, length, OnOk, if◌then◌else◌};
 ghost use Rattle.sim_types.specs.declared.event.EventId.{EventId};
 ghost use Rattle.sim_types.specs.declared.event.Callback.{Callback};
 ghost use Rattle.sim_machine.specs.State.{Idle, Calling, Active, Over};
-ghost use Rattle.sim_machine.specs.Steps.{IsPop, call, settle};
-ghost use Rattle.sim_kernel.specs.PartsOf.{HasUnitRoom, plan_of};
+ghost use Rattle.sim_machine.specs.Events.{event_at, is_fail};
+ghost use Rattle.sim_machine.specs.Processes.{defuse_failed, told_more, not_active};
+ghost use Rattle.sim_machine.specs.Standing.{left_of};
+ghost use Rattle.sim_machine.specs.Steps.{IsStep, signal_by};
+ghost use Rattle.sim_types.specs.declared.line.End.TheVariants as end;
+ghost use Rattle.sim_kernel.specs.PartsOf.{HasUnitRoom, IsCalling, IsRunning, is_unhandled, plan_of};
 ghost use Rattle.sim_kernel.specs.StandsFor.{StandsForSome, Moves};
 
 use crate::calendar::Calendar;
@@ -57,7 +61,7 @@ impl<B: Body> Parts<B> {
         requires due { self.old.calendar.agenda ≢ [] }
         requires room { HasUnitRoom self.old }
         requires number { self.old.processed < 2 ^ 62 }
-        ensures moves { Moves B.filled B.owned B.tell B.sound IsPop self.old result self.new }
+        ensures moves { Moves B.filled B.owned B.tell B.sound (IsStep (plan_of B.filled B.owned self.old) (B.turn self.old.code)) self.old result self.new }
     {
         match self.calendar.pop(&mut self.left) {
             None => unreachable!(),
@@ -67,5 +71,43 @@ impl<B: Body> Parts<B> {
                 Unit::Line(popped.line)
             }
         }
+    }
+
+    // No callback of the event is left: a failure that nobody defused ends the run.
+    fn settle(&mut self, event: EventId)
+        requires done { self.old.control ≡ Calling event [] }
+        requires made { event.0 < length self.old.calendar.events }
+        ensures { self.new ≡ record self.old { control = if is_unhandled event self.old.calendar then Over end.Crash event [] else Idle } }
+    {
+        self.mode = if self.calendar.is_unhandled(event) {
+            Mode::Over(End::Crash, event)
+        } else {
+            Mode::Idle
+        };
+    }
+
+    // The event stops the run.
+    fn stop(&mut self, event: EventId)
+        requires calling { IsCalling event self.old.control }
+        requires made { event.0 < length self.old.calendar.events }
+        ensures { self.new ≡ record self.old { control = Over (if is_fail (event_at self.old.calendar event).outcome then end.Crash else end.Until) event (left_of self.old.control) } }
+    {
+        let why = if self.calendar.is_failed(event) {
+            End::Crash
+        } else {
+            End::Until
+        };
+        self.mode = Mode::Over(why, event);
+    }
+
+    // The event resumes a process.
+    fn resume(&mut self, event: EventId, process: ProcId)
+        requires calling { IsCalling event self.old.control }
+        requires made { event.0 < length self.old.calendar.events }
+        ensures { self.new ≡ record self.old { calendar = defuse_failed event self.old.calendar; control = Active event (left_of self.old.control) process (signal_by (event_at self.old.calendar event).kind (event_at self.old.calendar event).outcome) } }
+    {
+        let told = self.calendar.signal_by(event);
+        self.calendar.defuse_failed(event);
+        self.mode = Mode::Active(event, process, told);
     }
 }

@@ -8,5 +8,5 @@ pub returns : goal.returns
 returns g c =
     record {
       moves = rw (← c.self.view_is)
-        (pop_moves g.B.Body.filled g.B.Body.owned g.B.Body.tell g.B.Body.sound _ c.in-Some.popped c.pop.new.self.calendar c.pop.new.left.items _ (rw (← c.self.view_is) at c.requires.idle) c.in-Some.ensures.popped);
+        (pop_moves g.B.Body.filled g.B.Body.owned g.B.Body.tell g.B.Body.sound (g.B.Body.turn _) _ c.in-Some.popped c.pop.new.self.calendar c.pop.new.left.items _ (rw (← c.self.view_is) at c.requires.idle) c.in-Some.ensures.popped);
     }
