@@ -4,3 +4,4 @@ pub mod Popping
 pub mod PartsOf
 pub mod StandsFor
 pub mod Built
+pub mod Polling

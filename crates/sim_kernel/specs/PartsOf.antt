@@ -62,6 +62,16 @@ abbrev pub IsRunning : EventId → ProcId → Signal → Control → Type 0
 IsRunning event process told (Active e left p x) = (e ≡ event) × (p ≡ process) × (x ≡ told)
 IsRunning event process told _ = ⊥
 
+-- this process runs within the call of a callback of the event
+abbrev pub IsRunningIn : EventId → ProcId → Control → Type 0
+IsRunningIn event process (Active e left p x) = (e ≡ event) × (p ≡ process)
+IsRunningIn event process _ = ⊥
+
+-- some process runs within such a call
+abbrev pub IsRunningAt : EventId → Control → Type 0
+IsRunningAt event (Active e left p x) = e ≡ event
+IsRunningAt event _ = ⊥
+
 -- room for all that one unit takes
 pub record HasUnitRoom {B Code : Type 0} (parts : PartsOf B Code) : Type 0 where
   pub calendar : HasRoom 1 parts.room.calendar

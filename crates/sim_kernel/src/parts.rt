@@ -1,13 +1,18 @@
-ghost use Rattle.std.specs.Prelude.{◌≡◌, ◌≢◌, ℕ, ◌+◌, ◌<◌, ◌≤◌, ◌^◌, List, [], ◌∷◌, length, OnOk, if◌then◌else◌};
+ghost use Rattle.std.specs.Prelude.{◌≡◌, ◌≢◌, ℕ, ◌+◌, ◌<◌, ◌≤◌, ◌^◌, pos, ◌≤ℤ◌, int_lt, IsTrue, IsFalse, IsSome, List, [], ◌∷◌, length, OnOk, if◌then◌else◌};
 ghost use Rattle.sim_types.specs.declared.event.EventId.{EventId};
 ghost use Rattle.sim_types.specs.declared.event.Callback.{Callback};
 ghost use Rattle.sim_machine.specs.State.{Idle, Calling, Active, Over};
 ghost use Rattle.sim_machine.specs.Events.{event_at, is_fail};
 ghost use Rattle.sim_machine.specs.Processes.{defuse_failed, told_more, not_active};
 ghost use Rattle.sim_machine.specs.Standing.{left_of};
+ghost use Rattle.sim_machine.specs.Triggering.{is_too_late};
+ghost use Rattle.sim_procs.specs.RecordOf.{record_of};
+ghost use Rattle.sim_kernel.specs.Built.{HasBuiltCallbacks};
+ghost use Rattle.sim_kernel.specs.CalendarOf.{HasRoom};
+ghost use Rattle.sim_kernel.specs.Polling.{Pauses};
 ghost use Rattle.sim_machine.specs.Steps.{IsStep, signal_by};
 ghost use Rattle.sim_types.specs.declared.line.End.TheVariants as end;
-ghost use Rattle.sim_kernel.specs.PartsOf.{HasUnitRoom, IsCalling, IsRunning, is_unhandled, plan_of};
+ghost use Rattle.sim_kernel.specs.PartsOf.{HasUnitRoom, IsCalling, IsRunning, IsRunningIn, IsRunningAt, is_unhandled, plan_of};
 ghost use Rattle.sim_kernel.specs.StandsFor.{StandsForSome, Moves};
 
 use crate::calendar::Calendar;
@@ -19,6 +24,12 @@ use sim_types::{Callback, End, EventId, EventKind, Line, Outcome, ProcId, Setup,
 use std::alloc::AllocError;
 use std::collections::VecDeque;
 use std::marker::Model;
+
+/// The last time.
+const LAST_TIME: i64 = 4_611_686_018_427_387_904;
+
+/// The priority of what comes after all that is urgent at a time.
+const NORMAL: u8 = 1;
 
 /// The lists and numbers of a kernel, and what it was opened with.
 pub(crate) struct Parts<B: Body> {
@@ -109,5 +120,62 @@ impl<B: Body> Parts<B> {
         let told = self.calendar.signal_by(event);
         self.calendar.defuse_failed(event);
         self.mode = Mode::Active(event, process, told);
+    }
+
+    // Calls the first callback that is left, or settles the event where none is.
+    fn call(&mut self, event: EventId)
+        requires stands { StandsForSome B.filled B.owned B.tell B.sound self.old }
+        requires calling { IsCalling event self.old.control }
+        requires built { HasBuiltCallbacks self.old }
+        ensures moves { Moves B.filled B.owned B.tell B.sound (IsStep (plan_of B.filled B.owned self.old) (B.turn self.old.code)) self.old Unit.Quiet self.new }
+    {
+        match self.left.pop_front() {
+            None => self.settle(event),
+            Some(Callback::Resume(process)) => self.resume(event, process),
+            Some(Callback::Stop) => self.stop(event),
+            Some(_) => unreachable!(),
+        }
+    }
+
+    // The running process goes on, and is told this.
+    fn tell(&mut self, event: EventId, process: ProcId, told: Signal)
+        requires running { IsRunningIn event process self.old.control }
+        ensures { self.new ≡ record self.old { control = told_more told self.old.control } }
+    {
+        self.mode = Mode::Active(event, process, told);
+    }
+
+    // The running process waits or has ended.
+    fn rest(&mut self, event: EventId)
+        requires running { IsRunningAt event self.old.control }
+        ensures { self.new ≡ record self.old { control = not_active self.old.control } }
+    {
+        self.mode = Mode::Calling(event);
+    }
+
+    // The running process pauses: it waits for a timeout that is made, unless the delay is negative or too long.
+    fn pause(&mut self, event: EventId, process: ProcId, delay: i64, value: i64)
+        requires running { IsRunningIn event process self.old.control }
+        requires alive { IsSome (record_of process self.old.live) }
+        requires room { HasRoom 1 self.old.room.calendar }
+        requires number { self.old.calendar.scheduled < 2 ^ 62 }
+        requires low { pos 0 ≤ℤ self.old.calendar.time }
+        requires high { self.old.calendar.time ≤ℤ pos (2 ^ 62) }
+        ensures negative { IsTrue (int_lt delay (pos 0)) → self.new ≡ record self.old { control = told_more (Signal.Raised 1) self.old.control } }
+        ensures late { IsFalse (int_lt delay (pos 0)) → IsTrue (is_too_late delay self.old.calendar) → self.new ≡ record self.old { control = told_more (Signal.Raised 9) self.old.control } }
+        ensures made { IsFalse (int_lt delay (pos 0)) → IsFalse (is_too_late delay self.old.calendar) → Pauses process delay value self.old self.new }
+    {
+        if delay < 0 {
+            self.tell(event, process, Signal::Raised(1));
+        } else if delay > LAST_TIME - self.calendar.time() {
+            self.tell(event, process, Signal::Raised(9));
+        } else {
+            let timeout = self.calendar.make(EventKind::Timeout);
+            self.calendar
+                .schedule(timeout, Outcome::Ok(value), NORMAL, delay);
+            self.calendar.register(timeout, Callback::Resume(process));
+            self.processes.set_target(process, timeout);
+            self.rest(event);
+        }
     }
 }
