@@ -1,0 +1,59 @@
+-- A worked run: a request whose key equals that of the user preempts nobody.
+use Rattle.std.specs.Prelude.{◌≡◌, pos, true, List, [], ◌∷◌, refl}
+use Rattle.sim_types.specs.Scenarios.{ScenarioOf}
+use Rattle.sim_types.specs.declared.event.EventKind.TheVariants as kind
+use Rattle.sim_types.specs.declared.event.Outcome.TheVariants as outcome
+use Rattle.sim_types.specs.declared.line.Line.{Line}
+use Rattle.sim_types.specs.declared.line.Line.TheVariants as line
+use Rattle.sim_types.specs.declared.line.End.TheVariants as end
+use Rattle.sim_types.specs.declared.setup.Until.TheVariants as until
+use Rattle.sim_types.specs.declared.setup.ResourceKind.TheVariants as resource
+use Rattle.sim_types.specs.declared.setup.Class.TheVariants as class
+use Rattle.sim_types.specs.declared.script.Stmt.TheVariants as stmt
+use Rattle.sim_types.specs.declared.script.Num.TheVariants as num
+use Rattle.sim_types.specs.declared.script.Ref.TheVariants as ref
+use Rattle.sim_script_model.specs.Scenarios.{trace_with}
+use Rattle.sim_script_model.proofs.LawfulTests.{breaches}
+
+abbrev scenario : ScenarioOf
+scenario =
+    record {
+      setup = record {
+        until = until.Never;
+        events = 0;
+        resources = (record { kind = resource.Preemptive; capacity = (pos 1); opening = (pos 0) } ∷ []);
+        ports = [];
+        starts = (record { kind = 0; args = [] } ∷ record { kind = 0; args = [] } ∷ []);
+      };
+      seed = 0;
+      port_names = [];
+      kinds = (record { params = 0; first = 0; classes = (class.Number ∷ class.Request ∷ []) } ∷ []);
+      code = (
+          stmt.With 1 0 (num.Lit (pos 1)) true ∷
+          stmt.Wait (ref.Var 1) ∷
+          stmt.Sleep (num.Lit (pos 5)) ∷
+          stmt.EndWith ∷
+          stmt.EndProcess ∷ []);
+      journal = [];
+      posters = [];
+    }
+
+abbrev lines : List Line
+lines = (
+    line.Event (pos 0) 0 0 kind.Init (record { 0 = 2 }) (outcome.Ok (pos 0)) ∷
+    line.Event (pos 0) 0 1 kind.Init (record { 0 = 4 }) (outcome.Ok (pos 0)) ∷
+    line.Event (pos 0) 1 2 kind.Request (record { 0 = 5 }) (outcome.Ok (pos 0)) ∷
+    line.Event (pos 5) 1 3 kind.Timeout (record { 0 = 7 }) (outcome.Ok (pos 0)) ∷
+    line.Event (pos 5) 1 4 kind.Release (record { 0 = 8 }) (outcome.Ok (pos 0)) ∷
+    line.Event (pos 5) 1 5 kind.Process (record { 0 = 1 }) (outcome.Ok (pos 0)) ∷
+    line.Event (pos 5) 1 6 kind.Request (record { 0 = 6 }) (outcome.Ok (pos 0)) ∷
+    line.Event (pos 10) 1 7 kind.Timeout (record { 0 = 9 }) (outcome.Ok (pos 0)) ∷
+    line.Event (pos 10) 1 8 kind.Release (record { 0 = 10 }) (outcome.Ok (pos 0)) ∷
+    line.Event (pos 10) 1 9 kind.Process (record { 0 = 3 }) (outcome.Ok (pos 0)) ∷
+    line.Finish end.Empty (pos 10) 10 ∷ [])
+
+pub equal_keys_wait : trace_with scenario (λ n. 0) scenario.journal 100 ≡ lines
+equal_keys_wait = refl
+
+pub equal_keys_wait_lawful : breaches scenario 100 ≡ []
+equal_keys_wait_lawful = refl

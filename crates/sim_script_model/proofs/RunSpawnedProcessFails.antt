@@ -1,0 +1,61 @@
+-- A worked run: a process that fails is waited for by the one that spawned it, which catches what is thrown.
+use Rattle.std.specs.Prelude.{◌≡◌, pos, List, [], ◌∷◌, Some, refl}
+use Rattle.sim_types.specs.Scenarios.{ScenarioOf}
+use Rattle.sim_types.specs.declared.event.EventKind.TheVariants as kind
+use Rattle.sim_types.specs.declared.event.Outcome.TheVariants as outcome
+use Rattle.sim_types.specs.declared.line.Line.{Line}
+use Rattle.sim_types.specs.declared.line.Line.TheVariants as line
+use Rattle.sim_types.specs.declared.line.End.TheVariants as end
+use Rattle.sim_types.specs.declared.setup.Until.TheVariants as until
+use Rattle.sim_types.specs.declared.setup.Class.TheVariants as class
+use Rattle.sim_types.specs.declared.script.Stmt.TheVariants as stmt
+use Rattle.sim_types.specs.declared.script.Num.TheVariants as num
+use Rattle.sim_types.specs.declared.script.Ref.TheVariants as ref
+use Rattle.sim_script_model.specs.Scenarios.{trace_with}
+use Rattle.sim_script_model.proofs.LawfulTests.{breaches}
+
+abbrev scenario : ScenarioOf
+scenario =
+    record {
+      setup = record {
+        until = until.Never;
+        events = 0;
+        resources = [];
+        ports = [];
+        starts = (record { kind = 1; args = [] } ∷ []);
+      };
+      seed = 0;
+      port_names = [];
+      kinds = (record { params = 0; first = 0; classes = (class.Number ∷ []) } ∷ record { params = 0; first = 3; classes = (class.Number ∷ class.Proc ∷ class.Number ∷ class.Number ∷ []) } ∷ []);
+      code = (
+          stmt.Sleep (num.Lit (pos 1)) ∷
+          stmt.Raise (num.Lit (pos 9)) ∷
+          stmt.EndProcess ∷
+          stmt.Spawn (Some 1) 0 [] ∷
+          stmt.Try 6 ∷
+          stmt.Wait (ref.Var 1) ∷
+          stmt.Catch 2 3 10 ∷
+          stmt.Log (num.Var 2) ∷
+          stmt.Log (num.Var 3) ∷
+          stmt.EndPlain ∷
+          stmt.EndProcess ∷ []);
+      journal = [];
+      posters = [];
+    }
+
+abbrev lines : List Line
+lines = (
+    line.Event (pos 0) 0 0 kind.Init (record { 0 = 2 }) (outcome.Ok (pos 0)) ∷
+    line.Event (pos 0) 0 1 kind.Init (record { 0 = 4 }) (outcome.Ok (pos 0)) ∷
+    line.Event (pos 1) 1 2 kind.Timeout (record { 0 = 5 }) (outcome.Ok (pos 0)) ∷
+    line.Event (pos 1) 1 3 kind.Process (record { 0 = 3 }) (outcome.Fail (record { kind = 3; value = (pos 9) })) ∷
+    line.Log (pos 1) (record { 0 = 1 }) (pos 3) ∷
+    line.Log (pos 1) (record { 0 = 1 }) (pos 9) ∷
+    line.Event (pos 1) 1 4 kind.Process (record { 0 = 1 }) (outcome.Ok (pos 0)) ∷
+    line.Finish end.Empty (pos 1) 5 ∷ [])
+
+pub spawned_process_fails : trace_with scenario (λ n. 0) scenario.journal 100 ≡ lines
+spawned_process_fails = refl
+
+pub spawned_process_fails_lawful : breaches scenario 100 ≡ []
+spawned_process_fails_lawful = refl
