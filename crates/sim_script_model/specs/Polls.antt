@@ -1,5 +1,5 @@
 -- What a script asks for when it is polled, and the state that it is in then.
-use Rattle.std.specs.Prelude.{ℕ, zero, suc, ◌+◌, ◌-◌, ℤ, pos, ◌-ℤ◌, List, [], ◌∷◌, map, drop, int_lt, Option, Some, None, if◌then◌else◌}
+use Rattle.std.specs.Prelude.{ℕ, ◌+◌, ◌-◌, ℤ, pos, ◌-ℤ◌, List, [], ◌∷◌, map, int_lt, Option, Some, None, if◌then◌else◌}
 use Rattle.sim_types.specs.declared.event.EventId.{EventId}
 use Rattle.sim_types.specs.declared.event.Throw.{Throw}
 use Rattle.sim_types.specs.declared.event.Signal.{Signal}
