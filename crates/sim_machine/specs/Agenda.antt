@@ -5,21 +5,22 @@ use Rattle.sim_machine.specs.Keys.{comes_first}
 use Rattle.sim_machine.specs.State.{Calendar}
 use Rattle.sim_machine.specs.Events.{is_same, change_event}
 
--- of e and the others the one that comes first
+-- of e and the others the one that comes first, found by going through them
 abbrev pub first_from : Entry → List Entry → Entry
 first_from e [] = e
 first_from e (f ∷ fs) = first_from (if comes_first f.key e.key then f else e) fs
 
--- the entry that comes before all others
+-- the entry that comes before all others: by time, then urgency, then insertion (SimPy's Environment.step)
 abbrev pub due : List Entry → Option Entry
 due [] = None
 due (e ∷ es) = Some (first_from e es)
 
--- the agenda without the entry of this number
+-- the agenda without the entry of this number, which no other has in a lawful state
 abbrev pub without_entry : Entry → List Entry → List Entry
 without_entry e es = filter (λ f. not (f.key.number == e.key.number)) es
 
--- the entry leaves the agenda, it is its time, and its event is processed; the event's registrations are done with
+-- the entry leaves the agenda, it is its time, and its event is processed; the event's registrations are done with,
+-- since its callbacks are called from now on
 abbrev pub popped : Entry → Calendar → Calendar
 popped e c =
     change_event e.event (λ x. record x { processed = true }) (record c {

@@ -1,4 +1,4 @@
--- The law of a body: what it keeps from its start on through each poll.
+-- The law of a body: what it keeps from its start on through each poll, whatever it is told that may be told.
 use Rattle.std.specs.Prelude.{Bool, not, nat_lt, ◌==◌, ◌||◌, ◌&&◌, ◌+◌, ◌≤◌, ℕ, ℤ, List, Option, true, false, [], ◌∷◌, ◌++◌, length, slice_index_or, Some, None, if◌then◌else◌, pos, ◌≡◌, IsTrue}
 use Rattle.std.specs.List.{list_all}
 use Rattle.sim_types.specs.declared.event.EventId.{EventId}
@@ -31,14 +31,14 @@ abbrev pub gets_made : Option Op → Signal → Place → Bool
 gets_made last (signal.Made e) x = is_same x.event e && makes_class last x.class
 gets_made last _ x = false
 
--- a place keeps its event, unless it gets the one that was just made
+-- whether each place keeps its class, and its event unless it gets the one that was just made
 abbrev pub places_kept : Option Op → Signal → List Place → List Place → Bool
 places_kept last told [] [] = true
 places_kept last told (x ∷ xs) (y ∷ ys) =
     is_class y.class x.class && (is_same y.event x.event || gets_made last told y) && places_kept last told xs ys
 places_kept last told _ _ = false
 
--- how many places hold another event than before
+-- how many places hold another event than before; one poll takes hold of one event at most
 abbrev pub changed_places : List Place → List Place → ℕ
 changed_places (x ∷ xs) (y ∷ ys) = if is_same y.event x.event then changed_places xs ys else 1 + changed_places xs ys
 changed_places _ _ = 0
@@ -59,7 +59,8 @@ abbrev pub scopes_asked : List EventId → Op → List EventId
 scopes_asked scopes op.Leave = without_last scopes
 scopes_asked scopes _ = scopes
 
--- one poll that keeps the law: told x, the body b asks for an operation and is then in the state d
+-- one poll that keeps the law: told x, the body b asks for an operation and is then in the state d. What it may ask for
+-- is judged by its places after the poll, and by the scopes that are open once it was told x
 pub record IsLawfulPoll {B : Type 0} (f : CodeFacts) (tell : Telling B) (b : B) (x : Signal) (asked : Op) (d : B) : Type 0 where
   pub asks : IsTrue (may_ask f (tell.own d) (tell.places d) (scopes_told (tell.scopes b) (tell.last b) x) asked)
   pub own : tell.own d ≡ tell.own b
@@ -68,7 +69,7 @@ pub record IsLawfulPoll {B : Type 0} (f : CodeFacts) (tell : Telling B) (b : B) 
   pub scopes : tell.scopes d ≡ scopes_asked (scopes_told (tell.scopes b) (tell.last b) x) asked
   pub last : tell.last d ≡ Some asked
 
--- a place holds the argument of a parameter of its class; an argument that is a number is no event
+-- whether a place holds the argument of a parameter of its class; an argument that is a number is no event
 abbrev pub holds_argument : List Class → List ℤ → Place → Bool
 holds_argument (c ∷ cs) (pos n ∷ vs) x = not (is_class c class.Number) && is_class c x.class && (x.event.0 == n) || holds_argument cs vs x
 holds_argument (c ∷ cs) (v ∷ vs) x = holds_argument cs vs x

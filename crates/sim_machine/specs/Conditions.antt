@@ -35,24 +35,26 @@ members_of c e = (condition_at c e).members
 abbrev pub change_condition : EventId → (ConditionOf → ConditionOf) → Calendar → Calendar
 change_condition e change c = change_event e (λ x. record x { condition = Some (change (condition_of x.condition)) }) c
 
--- no condition weighs more, so none is nested deeper
+-- no condition weighs more, so none is nested deeper (this project's own: SimPy has no such bound)
 abbrev pub most_weight : ℕ
 most_weight = 64
 
--- the events that e counts for: itself, and where it is a condition those that its members count for, as deep as said
+-- the events that e counts for, down to this depth: itself, and where it is a condition those that its members count
+-- for
 abbrev pub weight_within : ℕ → Calendar → EventId → ℕ
 weight_within zero c e = 1
 weight_within (suc depth) c e = 1 + sum_by (weight_within depth c) (members_of c e)
 
--- the weight of a condition of these members
+-- the weight of a condition of these members; no member weighs more than the most, so none is nested too deep to be
+-- counted
 abbrev pub weight_of : List EventId → Calendar → ℕ
 weight_of members c = 1 + sum_by (weight_within most_weight c) members
 
--- a condition of these members would weigh too much
+-- whether a condition of these members would weigh too much
 abbrev pub is_too_wide : List EventId → Calendar → Bool
 is_too_wide members c = nat_lt most_weight (weight_of members c)
 
--- whether a condition of this sort is met once so many of its members are counted
+-- whether a condition with a member just counted is met: all members are counted, or one is enough
 abbrev pub is_met : ConditionOf → Bool
 is_met x = elim x.sort [ Every ↦ x.count == length x.members | Either ↦ true ]
 
@@ -60,12 +62,13 @@ is_met x = elim x.sort [ Every ↦ x.count == length x.members | Either ↦ true
 abbrev pub count_member : EventId → Calendar → Calendar
 count_member cond c = change_condition cond (λ x. record x { count = x.count + 1 }) c
 
--- what the outcome of a member makes of a pending condition: a failure is passed on and ends no run by itself
+-- what a member that was just counted makes of a pending condition: one that failed is defused and fails the condition
+-- with the same throw; else the condition succeeds once it is met
 abbrev pub judge : EventId → EventId → Option Outcome → Calendar → Calendar
 judge cond member (Some (outcome.Fail t)) c = fail cond t (defuse member c)
 judge cond member _ c = if is_met (condition_at c cond) then succeed cond (pos 0) c else c
 
--- a processed member is checked; a condition that is not pending counts nothing and defuses nothing
+-- a processed member is checked (SimPy's Condition); a condition that is not pending counts nothing and defuses nothing
 abbrev pub check : EventId → EventId → Calendar → Calendar
 check cond member c =
     if is_pending c cond then judge cond member (event_at c member).outcome (count_member cond c) else c
@@ -85,13 +88,14 @@ make_condition sort members c =
     let cond = next_event c in
     join_members cond members (change_event cond (λ x. record x { condition = Some (record { sort = sort; members = members; count = 0; value = [] }) }) (make kind.Cond c))
 
--- of each member the first check of this condition is taken out, and where the member is a condition those of its own
+-- of each member the first check of this condition is taken out, and where the member is a condition those of its own,
+-- down to this depth (this project's rule: SimPy's documentation does not say which checks stay)
 abbrev pub take_checks_within : ℕ → EventId → Calendar → Calendar
 take_checks_within zero cond c = c
 take_checks_within (suc depth) cond c =
     fold (λ d member. take_checks_within depth member (unregister member (is_check_of cond) d)) c (members_of c cond)
 
--- the events that are no conditions, of which e is made
+-- the events that are no conditions, of which e is made, down to this depth
 abbrev pub leaves_within : ℕ → Calendar → EventId → List EventId
 leaves_within zero c e = []
 leaves_within (suc depth) c e = if is_condition c e then flat_map (leaves_within depth c) (members_of c e) else e ∷ []
@@ -101,7 +105,8 @@ abbrev pub first_places : List EventId → List EventId
 first_places [] = []
 first_places (e ∷ es) = e ∷ filter (λ f. not (is_same f e)) (first_places es)
 
--- the events of the value: the processed ones that a condition is made of, in order, each once
+-- the events of the value (SimPy's ConditionValue): the processed ones that a condition is made of, in order; that each
+-- stands there once is this project's own
 abbrev pub value_of : EventId → Calendar → List EventId
 value_of cond c = first_places (filter (is_processed c) (leaves_within (most_weight + 1) c cond))
 
@@ -109,12 +114,13 @@ value_of cond c = first_places (filter (is_processed c) (leaves_within (most_wei
 abbrev pub fix_value : EventId → Calendar → Calendar
 fix_value cond c = change_condition cond (λ x. record x { value = value_of cond c }) c
 
--- the checks that are left are taken out, and where the condition is ok its value is fixed
+-- the checks that are left are taken out, and where the condition is ok its value is fixed, before anyone who waits for
+-- it goes on
 abbrev pub build : EventId → Calendar → Calendar
 build cond c =
     let d = take_checks_within (most_weight + 1) cond c in
     if is_fail (event_at d cond).outcome then d else fix_value cond d
 
--- whether cond is a processed condition that is ok and has e in its value
+-- whether cond is a processed condition that is ok and has e in its value (SimPy's `event in value`)
 abbrev pub has : EventId → EventId → Calendar → Bool
 has cond e c = is_processed c cond && not (is_fail (event_at c cond).outcome) && list_any (is_same e) (condition_at c cond).value

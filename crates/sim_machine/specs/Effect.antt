@@ -1,4 +1,5 @@
--- What each operation of a process does, and what the process is told next.
+-- What each operation of a process does, and what the process is told next. Errors and their numbers are this project's
+-- own; SimPy raises exceptions in their place.
 use Rattle.std.specs.Prelude.{Bool, not, int_lt, ℕ, ℤ, List, Option, true, false, Some, None, if◌then◌else◌, ◌+◌, pos, ◌+ℤ◌, ◌-ℤ◌, ◌%◌, nat_abs}
 use Rattle.sim_types.specs.declared.event.EventId.{EventId}
 use Rattle.sim_types.specs.declared.event.ProcId.{ProcId}
@@ -30,25 +31,25 @@ raise n s = tell (signal.Raised n) s
 abbrev pub tell_made : {B : Type 0} → EventId → State B → State B
 tell_made e s = tell (signal.Made e) s
 
--- a timeout is made, and then the process goes on as said
+-- a timeout is made, and then the process goes on as said; error 1 is a negative delay, 9 a time past the last
 abbrev pub with_timeout : {B : Type 0} → ℤ → ℤ → (EventId → State B → State B) → State B → State B
 with_timeout delay value after s =
     if int_lt delay (pos 0) then raise 1 s
     else if is_too_late delay (calendar s) then raise 9 s
     else after (next_event (calendar s)) (on_events (make_timeout delay value) s)
 
--- an event is triggered, unless it was already
+-- an event is triggered (SimPy's Event.succeed and fail); error 3 is one that was already
 abbrev pub trigger_pending : {B : Type 0} → EventId → Outcome → State B → State B
 trigger_pending e x s = if is_pending (calendar s) e then tell signal.Done (on_events (trigger e x) s) else raise 3 s
 
--- what is done to a process is refused at one that has ended and at the process itself
+-- what is done to a process: error 4 is one that has ended, 5 is the process itself (SimPy's Process.interrupt)
 abbrev pub to_another : {B : Type 0} → ProcId → ProcId → (State B → State B) → State B → State B
 to_another p q does s =
     if not (is_alive q s) then raise 4 s
     else if is_process q p then raise 5 s
     else tell signal.Done (does s)
 
--- a condition is made, unless it weighs too much
+-- a condition is made; error 10 is one that weighs too much
 abbrev pub with_condition : {B : Type 0} → Sort → List EventId → State B → State B
 with_condition sort members s =
     if is_too_wide members (calendar s) then raise 10 s
@@ -59,42 +60,44 @@ abbrev pub number_of : Bool → ℤ
 number_of true = pos 1
 number_of false = pos 0
 
--- a request is made and its scope is opened, unless it would preempt the process itself
+-- a request is made and its scope is opened; error 5 is one that would preempt the process itself
 abbrev pub enter : {B : Type 0} → Plan B → ProcId → ℕ → ℤ → Bool → State B → State B
 enter g p res priority preempts s =
     let e = next_event (calendar s) in
     if is_own_victim g.setup.resources res p priority preempts s.facilities then raise 5 s
     else tell_made e (open_scope p e res (on_facilities (make_request g.setup.resources res p priority preempts) s))
 
--- a put or get is made, and then the process goes on as said
+-- a put or get is made, and then the process goes on as said; error 2 is an amount that is not positive
 abbrev pub with_move : {B : Type 0} → Plan B → ℕ → ℤ → (Facilities → Facilities) → (EventId → State B → State B) → State B → State B
 with_move g res amount made after s =
     if is_refused_amount g.setup.resources res amount then raise 2 s
     else after (next_event (calendar s)) (on_facilities made s)
 
--- a number of the range by the next random word
+-- a number of the range from lo to hi, by a random word: lo and the remainder of the word by the number of numbers
 abbrev pub drawn_number : ℕ → ℤ → ℤ → ℤ
 drawn_number word lo hi = lo +ℤ pos (word % (nat_abs (hi -ℤ lo) + 1))
 
--- a random number of a range, unless the range is empty
+-- a random number of a range by the next random word; error 8 is an empty range, and then no word is drawn
 abbrev pub draw : {B : Type 0} → Plan B → ℤ → ℤ → State B → State B
 draw g lo hi s =
     if int_lt hi lo then raise 8 s
     else tell (signal.Number (drawn_number (g.word s.drawn) lo hi)) (record s { drawn = s.drawn + 1 })
 
--- an event that is pending gets the outcome of another
+-- an event gets the outcome of another; one that is not pending stays as it is (this project's own: SimPy's
+-- Event.trigger does not look)
 abbrev pub pass_on : Option Outcome → EventId → Calendar → Calendar
 pass_on None y c = c
 pass_on (Some x) y c = if is_pending c y then trigger y x c else c
 
--- an event is to pass its outcome on to another once it is processed (SimPy's Event.trigger); a processed one does so at once
+-- e is to pass its outcome on to y once it is processed (SimPy's Event.trigger as a callback); a processed one does so
+-- at once, and then error 3 is a y that is not pending
 abbrev pub chain : {B : Type 0} → EventId → EventId → State B → State B
 chain e y s =
     if not (is_processed (calendar s) e) then tell signal.Done (on_events (register e (callback.Trigger y)) s)
     else if is_pending (calendar s) y then tell signal.Done (on_events (pass_on (event_at (calendar s) e).outcome y) s)
     else raise 3 s
 
--- the active process p asks for an operation
+-- the active process p asks for an operation; one equation for each, in the order of the operations
 abbrev pub effect : {B : Type 0} → Plan B → ProcId → Op → State B → State B
 effect g p op.Nop s = tell signal.Done s
 effect g p (op.Timeout delay value) s = with_timeout delay value tell_made s

@@ -27,7 +27,7 @@ without_first test (x ∷ xs) = if test x then xs else x ∷ without_first test 
 abbrev pub pending_event : EventKind → EventOf
 pending_event k = record { kind = k; outcome = None; defused = false; processed = false; cancelled = false; condition = None }
 
--- the event of this number
+-- the event of this number; a number of which no event was made reads as a pending one
 abbrev pub event_at : Calendar → EventId → EventOf
 event_at c e = slice_index_or c.events e.0 (pending_event kind.Plain)
 
@@ -39,17 +39,17 @@ is_pending c e = is_none (event_at c e).outcome
 abbrev pub is_processed : Calendar → EventId → Bool
 is_processed c e = (event_at c e).processed
 
--- a triggered event has an outcome and waits in the agenda
+-- a triggered event has an outcome and waits in the agenda (SimPy's Event.triggered is true of processed ones too)
 abbrev pub is_triggered : Calendar → EventId → Bool
 is_triggered c e = not (is_pending c e) && not (is_processed c e)
 
--- whether the outcome is a failure
+-- whether there is an outcome, and it is a failure
 abbrev pub is_fail : Option Outcome → Bool
 is_fail None = false
 is_fail (Some (outcome.Ok v)) = false
 is_fail (Some (outcome.Fail t)) = true
 
--- the number that the next event takes
+-- the number that the next event takes: events are numbered from 0 as they are made (this project's own)
 abbrev pub next_event : Calendar → EventId
 next_event c = record { 0 = length c.events }
 
@@ -57,11 +57,11 @@ next_event c = record { 0 = length c.events }
 abbrev pub change_event : EventId → (EventOf → EventOf) → Calendar → Calendar
 change_event e change c = record c { events = slice_set c.events e.0 (change (event_at c e)) }
 
--- a failure of e no longer ends the run
+-- a failure of e no longer ends the run (SimPy's Event.defused)
 abbrev pub defuse : EventId → Calendar → Calendar
 defuse e c = change_event e (λ x. record x { defused = true }) c
 
--- e was taken out of its queue while it was pending
+-- e was taken out of its queue at a resource while it was pending; it stays pending
 abbrev pub cancel_event : EventId → Calendar → Calendar
 cancel_event e c = change_event e (λ x. record x { cancelled = true }) c
 
@@ -69,7 +69,7 @@ cancel_event e c = change_event e (λ x. record x { cancelled = true }) c
 abbrev pub callbacks_of : EventId → Calendar → List Callback
 callbacks_of e c = map (λ r. r.callback) (filter (λ r. is_same r.event e) c.registered)
 
--- a callback is appended to those of e
+-- a callback is appended to those of e, which are called in this order
 abbrev pub register : EventId → Callback → Calendar → Calendar
 register e x c = record c { registered = c.registered ++ record { event = e; callback = x } ∷ [] }
 

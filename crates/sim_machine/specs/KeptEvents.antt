@@ -1,4 +1,5 @@
--- Which events something can still come back to.
+-- Which events something can still come back to. All others may be forgotten, and their memory given again (this
+-- project's own: in Python it is collected).
 use Rattle.std.specs.Prelude.{Bool, ◌||◌, ◌&&◌, not, ℕ, List, false, [], ◌∷◌, length, if◌then◌else◌, zero, suc, nat_le}
 use Rattle.std.specs.List.{list_any}
 use Rattle.sim_types.specs.declared.event.EventId.{EventId}
@@ -12,17 +13,17 @@ use Rattle.sim_machine.specs.Processes.{tell}
 use Rattle.sim_machine.specs.Tellings.{Telling, is_class}
 use Rattle.sim_machine.specs.Standing.{left_of}
 
--- nothing happens at a closed event any more
+-- nothing happens any more at a closed event: it is processed, or was cancelled
 abbrev pub is_closed : Calendar → EventId → Bool
 is_closed c e = is_processed c e || (event_at c e).cancelled
 
--- an event is being processed from its pop until it is settled, or until it stops the run
+-- whether e is being processed: from its pop until it is settled, or until it stops the run
 abbrev pub is_in_process : Control → EventId → Bool
 is_in_process (Calling f left) e = is_same f e
 is_in_process (Active f left p x) e = is_same f e
 is_in_process _ e = false
 
--- a live process waits for e or holds it in a place
+-- whether a live process has e for its target or holds it in a place
 abbrev pub is_in_body : {B : Type 0} → Telling B → EventId → ProcessOf B → Bool
 is_in_body tell e x = is_same x.target e || list_any (λ y. not (is_class y.class class.Number) && is_same y.event e) (tell.places x.body)
 
@@ -35,7 +36,8 @@ triggers e _ = false
 abbrev pub is_to_be_triggered : {B : Type 0} → EventId → State B → Bool
 is_to_be_triggered e s = list_any (λ r. triggers e r.callback) s.facilities.calendar.registered || list_any (triggers e) (left_of s.control)
 
--- kept for a reason other than a condition
+-- whether e is kept for a reason other than a condition: it is not closed, or event 0 or named, or something can name
+-- it
 abbrev pub is_kept_alone : {B : Type 0} → ℕ → Telling B → State B → EventId → Bool
 is_kept_alone named tell s e =
     not (is_closed s.facilities.calendar e)
@@ -45,7 +47,7 @@ is_kept_alone named tell s e =
     || list_any (λ x. is_same x.request e) s.scopes
     || is_to_be_triggered e s
 
--- e is a member of one of these conditions
+-- whether e is a member of one of these conditions
 abbrev pub is_member_of_any : Calendar → EventId → List EventId → Bool
 is_member_of_any c e conds = list_any (λ cond. list_any (is_same e) (members_of c cond)) conds
 

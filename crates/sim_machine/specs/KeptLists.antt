@@ -1,4 +1,4 @@
--- What a journal keeps of what the posters posted.
+-- What a journal keeps of what the posters posted: how posters mix is left open, all else is not (this project's own).
 use Rattle.std.specs.Prelude.{◌==◌, ℕ, List, [], map, filter, length, slice_index_or, ◌+◌, ◌≡◌, ◌≤◌, ◌<◌, All}
 use Rattle.std.specs.List.{range_with_len}
 use Rattle.sim_types.specs.declared.setup.Arrival.{Arrival}

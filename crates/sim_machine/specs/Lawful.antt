@@ -1,4 +1,5 @@
--- What holds of every state that a run comes to.
+-- What is to hold of every state that a run comes to. (It is this project's own: SimPy's documentation says what
+-- happens, and not what stays true.)
 use Rattle.sim_machine.specs.State.{State, Plan}
 use Rattle.sim_machine.specs.Tellings.{Telling}
 use Rattle.sim_machine.specs.LawfulTimes.{LawfulTimes}

@@ -11,21 +11,22 @@ use Rattle.sim_machine.specs.Tellings.{Place, Telling, kind_fits}
 use Rattle.sim_machine.specs.MayFollow.{may_wait, may_be_told, makes_kind}
 use Rattle.sim_machine.specs.Standing.{was_made, kind_at}
 
--- a place holds event 0, or an event of its class
+-- whether a place holds event 0, or an event that was made and is of its class
 abbrev pub place_fits : Calendar → Place → Bool
 place_fits c x = (x.event.0 == 0) || was_made c x.event && kind_fits x.class (kind_at c x.event)
 
--- the body waits, or was never polled
+-- whether the body asked last for something to wait for, or was never polled
 abbrev pub waits_or_new : {B : Type 0} → Telling B → B → Bool
 waits_or_new tell b = elim (tell.last b) [ None ↦ true | Some asked ↦ may_wait asked ]
 
--- what the active process is told fits what it asked for last, and what was made is of the kind asked for
+-- whether what the active process is told fits what it asked for last, and what was made is of the kind asked for and
+-- not yet processed
 abbrev pub told_fits : {B : Type 0} → Telling B → Calendar → B → Signal → Bool
 told_fits tell c b (signal.Made e) =
     may_be_told (tell.last b) (signal.Made e) && was_made c e && not (is_processed c e) && makes_kind (tell.last b) (kind_at c e)
 told_fits tell c b x = may_be_told (tell.last b) x
 
--- the active process is told what fits; the others wait
+-- whether a process is told what fits, if it is active, and else waits
 abbrev pub is_told_well : {B : Type 0} → Telling B → Calendar → ProcId → B → Control → Bool
 is_told_well tell c p b (Active e left q x) = if is_process q p then told_fits tell c b x else waits_or_new tell b
 is_told_well tell c p b _ = waits_or_new tell b

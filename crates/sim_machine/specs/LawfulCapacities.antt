@@ -11,15 +11,16 @@ use Rattle.sim_machine.specs.MayAsk.{takes_requests}
 use Rattle.sim_machine.specs.Standing.{was_made, kind_at}
 use Rattle.sim_machine.specs.LawfulWaiting.{is_request_kind, is_put_kind, is_get_kind}
 
--- the request of a user has succeeded
+-- whether the request of a user was made and is not pending: it was granted
 abbrev pub is_in_use : Calendar → User → Bool
 is_in_use c u = was_made c u.request && not (is_pending c u.request)
 
--- puts and gets are for containers and stores, and at containers for more than nothing
+-- whether a put or get of this amount is for this kind: for a container or store, and at a container for more than
+-- nothing
 abbrev pub move_fits : ResourceKind → ℤ → Bool
 move_fits k amount = if is_container k then int_lt (pos 0) amount else not (takes_requests k)
 
--- a waiter waits for what its resource gives
+-- whether a waiter is of the kind of its want, and waits for what its resource gives
 abbrev pub waits_for_fitting : Calendar → Resource → Waiter → Want → Bool
 waits_for_fitting c r w (Slot p key) = is_request_kind (kind_at c w.event) && takes_requests r.kind
 waits_for_fitting c r w (Give amount priority) = is_put_kind (kind_at c w.event) && move_fits r.kind amount

@@ -14,19 +14,19 @@ abbrev pub is_build_of : EventId → Callback → Bool
 is_build_of e (callback.Build f) = is_same e f
 is_build_of e _ = false
 
--- members were made before their condition, and it does not weigh too much
+-- whether members were made before their condition, so that nesting ends, and it does not weigh too much
 abbrev pub members_are_older : Calendar → EventId → Bool
 members_are_older c e = list_all (λ f. nat_lt f.0 e.0) (members_of c e) && nat_le (weight_within (most_weight + 1) c e) most_weight
 
--- not all members are counted
+-- whether not all members are counted
 abbrev pub is_below_all : ConditionOf → Bool
 is_below_all x = nat_lt x.count (length x.members)
 
--- a pending condition has not counted all
+-- whether a condition, if it is pending, has not counted all
 abbrev pub counts_well : Calendar → EventId → Bool
 counts_well c e = not (is_condition c e && is_pending c e) || is_below_all (condition_at c e)
 
--- whether a condition is still to be built
+-- whether a condition is still to be built: it is not processed, or its build is still to call
 abbrev pub is_to_be_built : Calendar → Control → EventId → Bool
 is_to_be_built c control cond = not (is_processed c cond) || is_event_of control cond && list_any (is_build_of cond) (left_of control)
 
@@ -48,15 +48,15 @@ abbrev pub first_passes : (Callback → Bool) → List Callback → Bool
 first_passes test [] = false
 first_passes test (x ∷ xs) = test x
 
--- the build of a condition that has members and is not processed stands first at it
+-- whether a build must be registered for this condition: it is not processed and has members
 abbrev pub needs_build : Calendar → EventId → Bool
 needs_build c cond = is_condition c cond && not (is_processed c cond) && not (is_empty (members_of c cond))
 
--- the build of a condition comes before all else that it calls
+-- whether the build of a condition that needs one comes before all else that it calls, so that who waits finds a value
 abbrev pub builds_first : Calendar → EventId → Bool
 builds_first c cond = not (needs_build c cond) || first_passes (is_build_of cond) (callbacks_of cond c)
 
--- a build that is still to call is called first, and by its condition
+-- whether a build that is still to call is called first, and by its condition
 abbrev pub builds_left_first : Control → EventId → Bool
 builds_left_first control cond =
     (count_by (is_build_of cond) (left_of control) == 0)

@@ -20,21 +20,21 @@ abbrev pub is_interrupt_kind : EventKind → Bool
 is_interrupt_kind kind.Interrupt = true
 is_interrupt_kind _ = false
 
--- an event that nobody may wait for
+-- whether nobody may wait for events of this kind: interruptions and stops
 abbrev pub is_unheard_kind : EventKind → Bool
 is_unheard_kind kind.Interrupt = true
 is_unheard_kind kind.Stop = true
 is_unheard_kind _ = false
 
--- e is an interruption with one callback
+-- whether e is an interruption with one callback
 abbrev pub strikes_alone : Calendar → Control → EventId → Bool
 strikes_alone c control e = is_interrupt_kind (kind_at c e) && (length (all_callbacks_of c control e) == 1)
 
--- an interruption has failed from the start
+-- whether an event, if it is an interruption, has failed, as it has from the start
 abbrev pub is_failed_interruption : EventOf → Bool
 is_failed_interruption x = not (is_interrupt_kind x.kind) || is_fail x.outcome
 
--- no member of the condition is an event that nobody may wait for
+-- whether no member of a condition is an event that nobody may wait for
 abbrev pub has_heard_members : Calendar → EventOf → Bool
 has_heard_members c x = elim x.condition [ None ↦ true | Some y ↦ list_all (λ e. not (is_unheard_kind (kind_at c e))) y.members ]
 

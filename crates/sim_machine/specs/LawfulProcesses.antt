@@ -25,24 +25,24 @@ abbrev pub is_plain_kind : EventKind → Bool
 is_plain_kind kind.Plain = true
 is_plain_kind _ = false
 
--- a process that waits is resumed once, by its target; its own event is pending until it ends
+-- whether a process that is not active is resumed from one place only, by its target
 abbrev pub is_waiting_well : {B : Type 0} → State B → ProcessOf B → Bool
 is_waiting_well s x =
     let c = s.facilities.calendar in
     is_active s.control x.id || (callbacks_in_all (is_resume_of x.id) c s.control == 1) && (count_by (is_resume_of x.id) (all_callbacks_of c s.control x.target) == 1)
 
--- the target of a live process was made, and its own event is pending
+-- whether the target of a live process was made, and its own event is of a process and pending
 abbrev pub is_living_well : {B : Type 0} → State B → ProcessOf B → Bool
 is_living_well s x =
     let c = s.facilities.calendar in
     was_made c x.target && was_made c (event_of x.id) && is_pending c (event_of x.id) && is_process_kind (kind_at c (event_of x.id))
 
--- the outcome of event 0
+-- whether this is ok with 0, as event 0 is
 abbrev pub is_ok_zero : EventOf → Bool
 is_ok_zero x = elim x.outcome [ Some (outcome.Ok (pos n)) ↦ n == 0 | _ ↦ false ]
 
--- the process that runs is alive; no other is resumed but by what it waits for, and none that has ended or runs is resumed
--- at all
+-- the process that runs is alive; each other is resumed by what it waits for alone, and none that has ended or runs is
+-- resumed at all; event 0 and the named events are there
 pub record LawfulProcesses {B : Type 0} (named : ℕ) (s : State B) : Type 0 where
   pub distinct : AllPairs (λ x y. x.id ≢ y.id) s.processes
   pub active : (p : ProcId) → IsTrue (is_active s.control p) → IsTrue (is_alive p s)

@@ -5,7 +5,8 @@ use Rattle.sim_machine.specs.State.{Calendar}
 use Rattle.sim_machine.specs.Events.{is_same, is_triggered}
 use Rattle.sim_machine.specs.Standing.{one_if}
 
--- the agenda has each event that is triggered and not yet processed, once, and its times are from now to the last one
+-- the agenda has each event that is triggered and not yet processed, once, and its times are from now to the last one;
+-- its numbers differ and were given out, so one entry is due
 pub record LawfulTimes (c : Calendar) : Type 0 where
   pub not_negative : pos 0 ≤ℤ c.time
   pub in_limit : c.time ≤ℤ pos (2 ^ 62)

@@ -35,11 +35,11 @@ is_get_kind _ = false
 abbrev pub may_wait_kind : EventKind → Bool
 may_wait_kind k = is_request_kind k || is_put_kind k || is_get_kind k
 
--- what waits was made, is pending and was not cancelled
+-- whether what waits was made, is pending, was not cancelled, and is a request, put or get
 abbrev pub waits_well : Calendar → Waiter → Bool
 waits_well c w = was_made c w.event && is_pending c w.event && not (event_at c w.event).cancelled && may_wait_kind (kind_at c w.event)
 
--- only what may wait at a resource is cancelled
+-- whether an event, if it was cancelled, is one that may wait at a resource
 abbrev pub is_cancelled_well : EventOf → Bool
 is_cancelled_well x = not x.cancelled || may_wait_kind x.kind
 
@@ -48,17 +48,17 @@ abbrev pub has_scope : List OpenScope → EventId → ProcId → ℕ → Bool
 has_scope scopes request p res =
     (count_by (λ x. is_same x.request request) scopes == 1) && list_any (λ x. is_same x.request request && is_process x.process p && (x.res == res)) scopes
 
--- a request that waits stands in its scope; puts and gets need none
+-- whether a request that waits stands in its scope; puts and gets need none
 abbrev pub request_has_scope : List OpenScope → Waiter → Want → Bool
 request_has_scope scopes w (Slot p key) = has_scope scopes w.event p w.res
 request_has_scope scopes w _ = true
 
--- an open scope is of a live process, of a request, and at a resource that takes requests
+-- whether an open scope is of a live process, of a request, and at a resource that takes requests
 abbrev pub is_scope_well : {B : Type 0} → List Resource → State B → OpenScope → Bool
 is_scope_well rs s x =
     is_alive x.process s && was_made s.facilities.calendar x.request && is_request_kind (kind_at s.facilities.calendar x.request) && nat_lt x.res (length rs) && takes_requests (resource_at rs x.res).kind
 
--- the request that a process is just told of
+-- the request that this process is just told of, where it asked to enter; its body does not know of that scope yet
 abbrev pub entered_by : Control → ProcId → Bool → List EventId
 entered_by (Active e left q (signal.Made r)) p true = if is_process q p then r ∷ [] else []
 entered_by _ p _ = []
@@ -67,7 +67,8 @@ entered_by _ p _ = []
 abbrev pub requests_of : {B : Type 0} → ProcId → State B → List EventId
 requests_of p s = map (λ x. x.request) (filter (λ x. is_process x.process p) s.scopes)
 
--- the scopes of a process are those that its body knows of, and the one that it is just told of
+-- the scopes of a process are those that its body knows of, and the one that it is just told of; and they are not too
+-- many
 abbrev pub KnowsItsScopes : {B : Type 0} → Telling B → State B → ProcessOf B → Type 0
 KnowsItsScopes tell s x =
     (requests_of x.id s ≡ tell.scopes x.body ++ entered_by s.control x.id (is_enter (tell.last x.body))) × (length (requests_of x.id s) ≤ most_scopes)

@@ -1,4 +1,5 @@
--- Which operations a body may ask for.
+-- Which operations a body may ask for: those on events, resources and kinds that it knows of. With others the machine
+-- could leave what is lawful.
 use Rattle.std.specs.Prelude.{Bool, nat_lt, ◌==◌, ◌||◌, ◌&&◌, not, ℕ, ℤ, List, true, false, [], ◌∷◌, length, slice_index_or, pos, zero, suc, nat_le}
 use Rattle.std.specs.List.{list_any, list_all}
 use Rattle.sim_types.specs.declared.event.EventId.{EventId}
@@ -13,7 +14,7 @@ use Rattle.sim_types.specs.declared.setup.Class.TheVariants as class
 use Rattle.sim_machine.specs.Events.{is_same}
 use Rattle.sim_machine.specs.Tellings.{Place, CodeFacts, is_class}
 
--- whether this is event 0, which stands for none
+-- whether this is event 0, which stands for none and may be named everywhere but in a release
 abbrev pub is_zero : EventId → Bool
 is_zero e = e.0 == 0
 
@@ -51,7 +52,7 @@ has_resource [] test res = false
 has_resource (r ∷ rs) test zero = test r.kind
 has_resource (r ∷ rs) test (suc res) = has_resource rs test res
 
--- an argument fits its parameter; those that are no numbers are numbers of events
+-- whether an argument fits its parameter; those that are no numbers are numbers of events
 abbrev pub argument_fits : CodeFacts → ProcId → List Place → Class → ℤ → Bool
 argument_fits f own places class.Event (pos n) = is_known_event f places (record { 0 = n })
 argument_fits f own places class.Proc (pos n) = is_known_process own places n
@@ -64,11 +65,12 @@ arguments_fit f own places [] [] = true
 arguments_fit f own places (c ∷ cs) (v ∷ vs) = argument_fits f own places c v && arguments_fit f own places cs vs
 arguments_fit f own places _ _ = false
 
--- no process holds more scopes open
+-- no process holds more scopes open (this project's own: what a drop leaves at once is bounded by it)
 abbrev pub most_scopes : ℕ
 most_scopes = 32
 
--- the events, resources, kinds and arguments of an operation are such as the body knows, and its scopes are in order
+-- whether the events, resources, kinds and arguments of an operation are such as the body knows, and its scopes are in
+-- order
 abbrev pub may_ask : CodeFacts → ProcId → List Place → List EventId → Op → Bool
 may_ask f own places scopes op.Nop = true
 may_ask f own places scopes (op.Timeout delay value) = true

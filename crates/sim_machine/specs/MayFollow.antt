@@ -1,4 +1,5 @@
--- What a process may be told next, by what it asked for.
+-- What a process may be told next, by what it asked for: an answer of that operation, or what resumes a process that
+-- waits.
 use Rattle.std.specs.Prelude.{Bool, ◌==◌, ◌||◌, ℕ, List, Option, true, false, [], ◌∷◌, Some, None}
 use Rattle.std.specs.List.{list_any}
 use Rattle.sim_types.specs.declared.event.EventKind.{EventKind}
@@ -43,7 +44,7 @@ abbrev pub is_number : Signal → Bool
 is_number (signal.Number n) = true
 is_number _ = false
 
--- whether this may be told next to a process that asked for this and goes on
+-- whether this may be told next to a process that asked for this and goes on; after `Finish` and `Die` nothing may
 abbrev pub may_follow : Op → Signal → Bool
 may_follow op.Nop x = is_done x
 may_follow (op.Timeout delay value) x = is_made x || raises_one_of (1 ∷ 9 ∷ []) x

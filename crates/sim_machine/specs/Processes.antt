@@ -15,7 +15,7 @@ use Rattle.sim_machine.specs.Events.{is_process, without_first, event_at, is_pro
 use Rattle.sim_machine.specs.Triggering.{urgent, make, schedule, trigger}
 use Rattle.sim_machine.specs.Scopes.{on_events, leave_all}
 
--- the event that a process triggers when it ends
+-- the event that a process triggers when it ends; it has the number of the process
 abbrev pub event_of : ProcId → EventId
 event_of p = record { 0 = p.0 }
 
@@ -23,7 +23,7 @@ event_of p = record { 0 = p.0 }
 abbrev pub process_at : {B : Type 0} → ProcId → State B → Option (ProcessOf B)
 process_at p s = find (λ x. is_process x.id p) s.processes
 
--- whether a process has not ended
+-- whether a process has not ended (SimPy's Process.is_alive)
 abbrev pub is_alive : {B : Type 0} → ProcId → State B → Bool
 is_alive p s = list_any (λ x. is_process x.id p) s.processes
 
@@ -39,7 +39,7 @@ with_body p b s = change_process p (λ x. record x { body = b }) s
 abbrev pub write_line : {B : Type 0} → Line → State B → State B
 write_line line s = record s { lines = s.lines ++ line ∷ [] }
 
--- what the control says once the active process is told more, or waits or has ended
+-- the control once the active process goes on and is told this
 abbrev pub told_more : Signal → Control → Control
 told_more x (Active e left p y) = Active e left p x
 told_more x c = c
@@ -57,24 +57,24 @@ tell x s = record s { control = told_more x s.control }
 abbrev pub rest : {B : Type 0} → State B → State B
 rest s = record s { control = not_active s.control }
 
--- what a process is told of an event that turned out so
+-- what a process is told of an event that turned out so; a processed event always has an outcome
 abbrev pub signal_of : Option Outcome → Signal
 signal_of None = signal.Value (pos 0)
 signal_of (Some (outcome.Ok v)) = signal.Value v
 signal_of (Some (outcome.Fail t)) = signal.Thrown t
 
--- a failure that a process is told of ends no run
+-- a failure that a process is told of ends no run by itself
 abbrev pub defuse_failed : EventId → Calendar → Calendar
 defuse_failed e c = if is_fail (event_at c e).outcome then defuse e c else c
 
--- p waits for an event: at one that is processed it goes on at once, else it is resumed by it
+-- p waits for an event (SimPy's yield): at one that is processed it goes on at once, else it is resumed by it
 abbrev pub wait : {B : Type 0} → EventId → ProcId → State B → State B
 wait e p s =
     if is_processed s.facilities.calendar e
     then tell (signal_of (event_at s.facilities.calendar e).outcome) (on_events (defuse_failed e) s)
     else rest (change_process p (λ x. record x { target = e }) (on_events (register e (callback.Resume p)) s))
 
--- a process's event and its init event, which resumes it as soon as nothing urgent stands before
+-- a process's event, and then its init event, which is urgent and resumes it
 abbrev pub make_events_of_process : Calendar → Calendar
 make_events_of_process c =
     let p = next_event c in
@@ -91,17 +91,17 @@ make_process g k args s =
       processes = s.processes ++ record { id = p; body = g.start k args p; target = next_event (make kind.Process c) } ∷ [];
     })
 
--- p's event is triggered, and p is no longer alive
+-- p is no longer alive, and its event is triggered (SimPy's Process, once its generator has returned or raised)
 abbrev pub end_process : {B : Type 0} → ProcId → Outcome → State B → State B
 end_process p x s =
     on_events (trigger (event_of p) x) (record s { processes = filter (λ y. not (is_process y.id p)) s.processes })
 
--- what a process waits for; event 0 for none
+-- what a process waits for (SimPy's Process.target); event 0 where there is no such process
 abbrev pub target_of : {B : Type 0} → ProcId → Option (ProcessOf B) → EventId
 target_of p None = record { 0 = 0 }
 target_of p (Some x) = x.target
 
--- p no longer waits for its target
+-- p no longer waits for its target; what it waited for stays as it is
 abbrev pub stop_waiting : {B : Type 0} → ProcId → State B → State B
 stop_waiting p s = on_events (unregister (target_of p (process_at p s)) (is_resume_of p)) s
 
@@ -112,6 +112,7 @@ strip_resume p (Calling e left) = Calling e (without_first (is_resume_of p) left
 strip_resume p c = c
 
 -- p ends at once: nothing is to resume it, its scopes are left from the innermost outwards, and its event succeeds
+-- (this project's own: SimPy has no such call)
 abbrev pub drop_process : {B : Type 0} → ProcId → ℤ → State B → State B
 drop_process p value s =
     let t = stop_waiting p s in

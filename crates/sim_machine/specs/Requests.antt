@@ -17,7 +17,8 @@ use Rattle.sim_machine.specs.Triggering.{make, succeed}
 use Rattle.sim_machine.specs.Users.{resource_at, users, items, put_queue}
 use Rattle.sim_machine.specs.Trying.{on_calendar, write_deed, level, unqueue, victim_of, is_container, try_put, try_get}
 
--- an event is made that waits at the resource; once it is processed, the other queue is tried
+-- an event is made that waits at the resource behind all others; once it is processed, the other queue is tried
+-- (SimPy's resources.base)
 abbrev pub join : EventKind → ℕ → Want → Callback → Facilities → Facilities
 join k res want after f =
     let e = next_event f.calendar in
@@ -31,7 +32,7 @@ abbrev pub is_preemptive : ResourceKind → Bool
 is_preemptive resource.Preemptive = true
 is_preemptive _ = false
 
--- what a request made now waits by
+-- what a request made now waits by: priority, time, and whether it waits where it could preempt
 abbrev pub request_key : ResourceKind → ℤ → Bool → Facilities → RequestKey
 request_key k priority preempts f = record { priority = priority; time = f.calendar.time; wait = is_preemptive k && not preempts }
 
@@ -52,11 +53,11 @@ make_put rs res amount priority f = try_put rs res (join kind.Put res (Give amou
 abbrev pub make_get : List Resource → ℕ → ℤ → ℤ → Facilities → Facilities
 make_get rs res least greatest f = try_get rs res (join kind.Get res (Take least greatest) (callback.TryPut res) f)
 
--- a put or get of a container whose amount is not positive is not made
+-- a put or get of a container whose amount is not positive is not made (SimPy's ValueError)
 abbrev pub is_refused_amount : List Resource → ℕ → ℤ → Bool
 is_refused_amount rs res amount = is_container (resource_at rs res).kind && int_lt amount (pos 1)
 
--- whom the attempt at the first of these requests would preempt
+-- whom the attempt at a waiter that wants this would preempt; puts and gets preempt nobody
 abbrev pub victim_at_want : Resource → Want → List User → Option User
 victim_at_want r (Slot process key) us = victim_of r key us
 victim_at_want r _ us = None
@@ -71,7 +72,8 @@ abbrev pub is_of : ProcId → Option User → Bool
 is_of p None = false
 is_of p (Some u) = is_process u.process p
 
--- whether p's request, if it joined, would have the next attempt preempt p itself
+-- whether p's request, if it joined, would have the attempt at the front of the queue, which may be an older request,
+-- preempt p itself (this project's own: SimPy raises in the midst of it)
 abbrev pub is_own_victim : List Resource → ℕ → ProcId → ℤ → Bool → Facilities → Bool
 is_own_victim rs res p priority preempts f =
     is_of p (victim_at_first (resource_at rs res) (put_queue rs res (join_request rs res p priority preempts f).waiters) (users res f.ledger))
@@ -80,11 +82,12 @@ is_own_victim rs res p priority preempts f =
 abbrev pub is_user : ℕ → EventId → Facilities → Bool
 is_user res request f = list_any (λ u. is_same u.request request) (users res f.ledger)
 
--- the use of a slot ends, where there is one
+-- the request is a user no longer, where it is one
 abbrev pub end_use : ℕ → EventId → Facilities → Facilities
 end_use res request f = if is_user res request f then write_deed (Released res request) f else f
 
--- a release is served as soon as it is made, whether or not the request uses a slot; then the requests are tried
+-- a release is served as soon as it is made, whether or not the request uses a slot; once it is processed, the requests
+-- are tried (SimPy's Resource.release)
 abbrev pub make_release : ℕ → EventId → Facilities → Facilities
 make_release res request f =
     let e = next_event f.calendar in
@@ -94,11 +97,12 @@ make_release res request f =
 abbrev pub waits : EventId → Facilities → Bool
 waits e f = list_any (λ w. is_same w.event e) f.waiters
 
--- a waiter is taken out of its queue, and nothing is tried
+-- a waiter is taken out of its queue, and nothing is tried (SimPy's cancel); of what does not wait nothing is done,
+-- where SimPy may raise
 abbrev pub cancel : EventId → Facilities → Facilities
 cancel e f = if waits e f then on_calendar (cancel_event e) (unqueue e f) else f
 
--- a scope is left: a request that still waits is cancelled, and it is released in any case
+-- a scope is left: a request that still waits is cancelled, and it is released in any case (SimPy's end of `with`)
 abbrev pub leave : ℕ → EventId → Facilities → Facilities
 leave res request f = make_release res request (cancel request f)
 
@@ -110,6 +114,6 @@ held_of resource.Priority rs res f = pos (length (users res f.ledger))
 held_of resource.Preemptive rs res f = pos (length (users res f.ledger))
 held_of _ rs res f = pos (length (items res f.ledger))
 
--- how much is in use at a resource, or stands in it
+-- how much is in use at a resource, or stands in it (SimPy's count, level and length of items)
 abbrev pub held : List Resource → ℕ → Facilities → ℤ
 held rs res f = held_of (resource_at rs res).kind rs res f

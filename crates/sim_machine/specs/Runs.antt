@@ -24,7 +24,7 @@ use Rattle.sim_machine.specs.Effect.{calendar}
 use Rattle.sim_machine.specs.Steps.{Turn, TurnFunction}
 use Rattle.sim_machine.specs.Units.{Course, IsUnit, unit_of}
 
--- event 0, which is processed and ok from the start
+-- event 0, which is processed and ok from the start, and stands for none (this project's own)
 abbrev pub event_zero : EventOf
 event_zero = record (pending_event kind.Plain) { outcome = Some (outcome.Ok (pos 0)); processed = true }
 
@@ -49,14 +49,14 @@ blank_state g =
 abbrev pub start_process : {B : Type 0} → Plan B → State B → Start → State B
 start_process g s x = make_process g x.kind x.args s
 
--- what is to stop the run: an event of its own at a time, or a named event
+-- what is to stop the run: an urgent event of its own at a time, or a named event (SimPy's Environment.run until)
 abbrev pub set_stop : Until → Calendar → Calendar
 set_stop until.Never c = c
 set_stop (until.At time) c =
     let e = next_event c in schedule e (outcome.Ok (pos 0)) urgent time (register e callback.Stop (make kind.Stop c))
 set_stop (until.Event e) c = register e callback.Stop c
 
--- the state that a run begins with
+-- the state that a run begins with: named events, then processes, then what stops it, numbered in this order
 abbrev pub opening : {B : Type 0} → Plan B → State B
 opening g = on_events (set_stop g.setup.until) (fold (start_process g) (blank_state g) g.setup.starts)
 
@@ -64,7 +64,7 @@ opening g = on_events (set_stop g.setup.until) (fold (start_process g) (blank_st
 abbrev pub opening_course : {B : Type 0} → Plan B → List Arrival → Course B
 opening_course g journal = record { state = opening g; left = journal }
 
--- how a run ends for want of events
+-- how a run ends for want of events: one that was to stop at an event has starved (SimPy's RuntimeError)
 abbrev pub empty_end : Until → End
 empty_end (until.Event e) = end.Starved
 empty_end _ = end.Empty
@@ -104,7 +104,7 @@ after_units g turn (suc k) m = unit_of g turn (after_units g turn k m)
 abbrev pub run : {B : Type 0} → Plan B → TurnFunction B → List Arrival → ℕ → Course B
 run g turn journal limit = after_units g turn limit (opening_course g journal)
 
--- how a run is said to have ended
+-- how a run is said to have ended; one that has not was stopped by its limit
 abbrev pub end_word : {B : Type 0} → Plan B → Course B → End
 end_word g m = unwrap_or (end_of g m) end.Limit
 
@@ -123,7 +123,7 @@ abbrev pub total : List ℤ → ℤ
 total [] = pos 0
 total (v ∷ vs) = v +ℤ total vs
 
--- what a run comes to
+-- what a run comes to: its end, and the number and sum of what was logged
 abbrev pub summary_of : {B : Type 0} → Plan B → Course B → Summary
 summary_of g m =
     record {

@@ -1,4 +1,5 @@
--- Open scopes: each request stands in one, and leaving it releases (SimPy's requests as context managers).
+-- Open scopes: each request stands in one, and leaving it releases (SimPy's requests as context managers; that no
+-- request stands outside a scope is this project's own).
 use Rattle.std.specs.Prelude.{not, ℕ, List, Option, [], ◌∷◌, ◌++◌, filter, Some, None, fold, find, reverse}
 use Rattle.sim_types.specs.declared.event.EventId.{EventId}
 use Rattle.sim_types.specs.declared.event.ProcId.{ProcId}
@@ -34,7 +35,7 @@ abbrev pub close_if_any : {B : Type 0} → Option OpenScope → State B → Stat
 close_if_any None s = s
 close_if_any (Some x) s = close_scope s x
 
--- the innermost scope of p is left
+-- the innermost scope of p is left, where one is open
 abbrev pub leave_innermost : {B : Type 0} → ProcId → State B → State B
 leave_innermost p s = close_if_any (first_of_list (scopes_inwards p s)) s
 
@@ -47,6 +48,6 @@ abbrev pub release_if_any : {B : Type 0} → Option OpenScope → State B → St
 release_if_any None s = s
 release_if_any (Some x) s = on_facilities (make_release x.res x.request) s
 
--- a request is released early; its scope stays open
+-- a request is released early; its scope stays open, and leaving it releases once more
 abbrev pub release_request : {B : Type 0} → EventId → State B → State B
 release_request request s = release_if_any (find (λ x. is_same x.request request) s.scopes) s

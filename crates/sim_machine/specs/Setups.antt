@@ -16,7 +16,7 @@ use Rattle.sim_machine.specs.Tellings.{CodeFacts, is_class}
 abbrev pub is_within : ℤ → ℤ → ℤ → Bool
 is_within least greatest n = int_le least n && int_le n greatest
 
--- a run is stopped at a time from 1 to the last one, or by a named event
+-- whether a run is stopped at a time from 1 to the last one, or by a named event
 abbrev pub until_fits : ℕ → Until → Bool
 until_fits named until.Never = true
 until_fits named (until.At time) = is_within (pos 1) (pos (2 ^ 62)) time
@@ -30,23 +30,24 @@ most_capacity resource.Preemptive = pos (2 ^ 32 - 1)
 most_capacity resource.Container = pos (2 ^ 62)
 most_capacity _ = pos (2 ^ 32)
 
--- a capacity is in the range of its kind, and an opening is at most the capacity
+-- whether a capacity is in the range of its kind, and an opening is at most the capacity
 abbrev pub resource_fits : Resource → Bool
 resource_fits r = is_within (pos 1) (most_capacity r.kind) r.capacity && is_within (pos 0) r.capacity r.opening
 
--- a process that runs from the start is given numbers and named events, and no processes
+-- whether a process that runs from the start may be given this: numbers and named events, and no processes, since none
+-- was made before
 abbrev pub start_argument_fits : ℕ → Class → ℤ → Bool
 start_argument_fits named class.Number v = true
 start_argument_fits named class.Event (pos n) = nat_lt 0 n && nat_le n named
 start_argument_fits named _ v = false
 
--- one argument for each parameter, and each fits
+-- whether there is one argument for each parameter, and each fits
 abbrev pub start_arguments_fit : ℕ → List Class → List ℤ → Bool
 start_arguments_fit named [] [] = true
 start_arguments_fit named (c ∷ cs) (v ∷ vs) = start_argument_fits named c v && start_arguments_fit named cs vs
 start_arguments_fit named _ _ = false
 
--- the kind of the start is one of the code's, and its arguments fit
+-- whether the kind of the start is one of the code's, and its arguments fit
 abbrev pub start_fits : CodeFacts → Start → Bool
 start_fits f x = nat_lt x.kind (length f.params) && start_arguments_fit f.named (slice_index_or f.params x.kind []) x.args
 
@@ -55,7 +56,7 @@ abbrev pub takes_one_number : List Class → Bool
 takes_one_number (c ∷ []) = is_class c class.Number
 takes_one_number _ = false
 
--- the kind that a port starts is one of the code's, and takes the value that comes in
+-- whether the kind that a port starts is one of the code's, and takes the value that comes in
 abbrev pub port_fits : CodeFacts → ℕ → Bool
 port_fits f k = nat_lt k (length f.params) && takes_one_number (slice_index_or f.params k [])
 

@@ -6,7 +6,7 @@ use Rattle.sim_types.specs.declared.event.Callback.{Callback}
 use Rattle.sim_machine.specs.State.{Calendar, Control, Idle, Calling, Active, Over}
 use Rattle.sim_machine.specs.Events.{is_same, event_at, callbacks_of}
 
--- 1 where it holds, else 0
+-- 1 where the test holds, else 0
 abbrev pub one_if : Bool → ℕ
 one_if true = 1
 one_if false = 0
@@ -19,14 +19,14 @@ was_made c e = nat_lt e.0 (length c.events)
 abbrev pub kind_at : Calendar → EventId → EventKind
 kind_at c e = (event_at c e).kind
 
--- the callbacks still to call, those that a run left uncalled among them, and the event that they are of
+-- the callbacks still to call, and those that a run which is over left uncalled
 abbrev pub left_of : Control → List Callback
 left_of Idle = []
 left_of (Calling e left) = left
 left_of (Active e left p x) = left
 left_of (Over why e left) = left
 
--- whether the control speaks of this event
+-- whether the control speaks of this event: it is the one whose callbacks are called, or were when the run was over
 abbrev pub is_event_of : Control → EventId → Bool
 is_event_of Idle e = false
 is_event_of (Calling f left) e = is_same f e

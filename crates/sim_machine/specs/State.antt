@@ -13,7 +13,7 @@ use Rattle.sim_types.specs.declared.line.End.{End}
 use Rattle.sim_types.specs.declared.line.Line.{Line}
 use Rattle.sim_types.specs.declared.setup.Setup.{Setup}
 
--- whether a condition waits for all of its members or for one
+-- whether a condition waits for all of its members or for one (SimPy's AllOf and AnyOf)
 pub data Sort : Type 0 where
   Every : Sort
   Either : Sort
@@ -25,7 +25,8 @@ pub record ConditionOf : Type 0 where
   pub count : ℕ
   pub value : List EventId
 
--- an event; one that has an outcome is triggered, and a defused one may fail without ending the run
+-- an event (SimPy's Event): it is pending until it has an outcome, and processed once it was popped. A defused one may
+-- fail without ending the run; a cancelled one was taken out of its queue while it was pending
 pub record EventOf : Type 0 where
   pub kind : EventKind
   pub outcome : Option Outcome
@@ -34,12 +35,12 @@ pub record EventOf : Type 0 where
   pub cancelled : Bool
   pub condition : Option ConditionOf
 
--- a callback that is to be called when the event is processed
+-- a callback that is to be called when the event is processed (SimPy's Event.callbacks)
 pub record Registration : Type 0 where
   pub event : EventId
   pub callback : Callback
 
--- time, and what happens in it
+-- time, and what happens in it (SimPy's Environment)
 pub record Calendar : Type 0 where
   pub time : ℤ
   -- how many entries the agenda was ever given
@@ -51,7 +52,8 @@ pub record Calendar : Type 0 where
   -- all registrations, in the order made
   pub registered : List Registration
 
--- what is waited for at a resource: a slot, to put an amount or item, or to get an amount or an item of a range
+-- what is waited for at a resource: a slot; to put an amount or item, of this priority; or to get an amount, or an item
+-- from the least to the greatest
 pub data Want : Type 0 where
   Slot : (process : ProcId) → (key : RequestKey) → Want
   Give : (amount : ℤ) → (priority : ℤ) → Want
@@ -63,7 +65,8 @@ pub record Waiter : Type 0 where
   pub res : ℕ
   pub want : Want
 
--- a user of a resource: the request that was granted, whose it is, its key, and the time since when
+-- a user of a resource: the request that was granted, whose it is, its key, and the time since when (SimPy's
+-- usage_since)
 pub record User : Type 0 where
   pub request : EventId
   pub process : ProcId
@@ -76,7 +79,8 @@ pub record Item : Type 0 where
   pub value : ℤ
   pub priority : ℤ
 
--- what was done at the resource of this place
+-- what was done at the resource of this place: a slot was granted, released or preempted; an item was deposited by a
+-- put, or taken, told by the put that brought it; an amount was filled into a container or drained from it
 pub data Deed : Type 0 where
   Granted : (res : ℕ) → (user : User) → Deed
   Released : (res : ℕ) → (request : EventId) → Deed
@@ -94,19 +98,22 @@ pub record Facilities : Type 0 where
   -- all deeds, in order
   pub ledger : List Deed
 
--- a request whose scope is open
+-- a request whose scope is open (SimPy's `with` statement; that a request stands only in a scope is this project's own)
 pub record OpenScope : Type 0 where
   pub process : ProcId
   pub request : EventId
   pub res : ℕ
 
--- a live process: its number, the state of its body, and the event that it waits for
+-- a live process (SimPy's Process): its number, the state of its body, and the event that it waits for, or that it
+-- waited for last while it is active
 pub record ProcessOf (B : Type 0) : Type 0 where
   pub id : ProcId
   pub body : B
   pub target : EventId
 
--- what is being done: nothing; an event's callbacks are called; one of these runs a process; the run is over
+-- what is being done: nothing; an event's callbacks are called; one of these runs a process, which is told this; or the
+-- run is over, and the callbacks that are left are never called. (SimPy's step is whole; that it is cut is this
+-- project's own.)
 pub data Control : Type 0 where
   Idle : Control
   Calling : (event : EventId) → (left : List Callback) → Control

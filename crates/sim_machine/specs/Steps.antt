@@ -1,5 +1,5 @@
 -- One step: the pop of an event, the call of one callback, one operation of a process, or the settling of an event
--- (SimPy's step, cut into pieces).
+-- (SimPy's Environment.step, which this project cuts into pieces).
 use Rattle.std.specs.Prelude.{Bool, ◌&&◌, not, ℤ, List, Option, [], ◌∷◌, Some, None, if◌then◌else◌, ◌+◌, pos, ◌≡◌}
 use Rattle.sim_types.specs.declared.event.EventId.{EventId}
 use Rattle.sim_types.specs.declared.event.ProcId.{ProcId}
@@ -26,7 +26,8 @@ use Rattle.sim_machine.specs.Scopes.{on_facilities, on_events}
 use Rattle.sim_machine.specs.Processes.{process_at, is_alive, with_body, write_line, signal_of, defuse_failed, stop_waiting}
 use Rattle.sim_machine.specs.Effect.{calendar, pass_on, effect}
 
--- a relation of a body: its state, the time, what it is told, the operation that it asks for, and its new state
+-- what a body does when it is polled, as a relation: its state, the time, what it is told, the operation that it asks
+-- for, and its new state (in place of SimPy's generator)
 abbrev pub Turn : Type 0 → Type 1
 Turn B = B → ℤ → Signal → Op → B → Type 0
 
@@ -38,7 +39,7 @@ TurnFunction B = B → ℤ → Signal → Op × B
 abbrev pub control_to : {B : Type 0} → Control → State B → State B
 control_to control s = record s { control = control }
 
--- the outcome, which a popped event has
+-- the outcome of a popped event, which always has one
 abbrev pub outcome_or_zero : Option Outcome → Outcome
 outcome_or_zero None = outcome.Ok (pos 0)
 outcome_or_zero (Some x) = x
@@ -55,25 +56,26 @@ pop_entry x s =
       control = Calling x.event (callbacks_of x.event (calendar s));
     }))
 
--- what a process is told by the event that resumes it
+-- what a process is told by the event that resumes it: an init event begins it
 abbrev pub signal_by : EventKind → Option Outcome → Signal
 signal_by kind.Init x = signal.Begin
 signal_by _ x = signal_of x
 
--- p runs within the call of a callback of e
+-- p runs within the call of a callback of e, and a failure of e is defused (SimPy's Process)
 abbrev pub resume : {B : Type 0} → EventId → List Callback → ProcId → State B → State B
 resume e left p s =
     control_to (Active e left p (signal_by (event_at (calendar s) e).kind (event_at (calendar s) e).outcome)) (on_events (defuse_failed e) s)
 
--- an interruption comes: where its process has ended nothing happens
+-- an interruption comes: its process waits no longer for its target and is thrown the interruption; where it has ended
+-- nothing happens (SimPy's Interruption)
 abbrev pub strike : {B : Type 0} → EventId → List Callback → ProcId → State B → State B
 strike e left p s = if is_alive p s then control_to (Active e left p (signal_of (event_at (calendar s) e).outcome)) (stop_waiting p s) else control_to (Calling e left) s
 
--- how a run ends that e stops: by a crash where e failed
+-- how a run ends that e stops: by a crash where e failed (SimPy's Environment.run)
 abbrev pub end_at : {B : Type 0} → EventId → State B → End
 end_at e s = if is_fail (event_at (calendar s) e).outcome then end.Crash else end.Until
 
--- a callback of e, which is being processed, is called
+-- a callback of e, which is being processed, is called, and these are left to call
 abbrev pub call : {B : Type 0} → Plan B → EventId → Callback → List Callback → State B → State B
 call g e (callback.Resume p) left s = resume e left p s
 call g e (callback.Strike p) left s = strike e left p s
@@ -84,11 +86,11 @@ call g e (callback.TryGet res) left s = control_to (Calling e left) (on_faciliti
 call g e callback.Stop left s = control_to (Over (end_at e s) e left) s
 call g e (callback.Trigger y) left s = control_to (Calling e left) (on_events (pass_on (event_at (calendar s) e).outcome y) s)
 
--- e failed and nobody defused it
+-- whether e failed and nobody defused it
 abbrev pub is_crash : {B : Type 0} → EventId → State B → Bool
 is_crash e s = is_fail (event_at (calendar s) e).outcome && not (event_at (calendar s) e).defused
 
--- all callbacks of e were called: a failure that nobody defused ends the run
+-- all callbacks of e were called: a failure that nobody defused ends the run (SimPy's Environment.step raises it)
 abbrev pub settle : {B : Type 0} → EventId → State B → State B
 settle e s = control_to (if is_crash e s then Over end.Crash e [] else Idle) s
 
@@ -107,7 +109,8 @@ pub record IsPop {B : Type 0} (s t : State B) : Type 0 where
   pub is_due : due (calendar s).agenda ≡ Some entry
   pub then_is : t ≡ pop_entry entry s
 
--- the active process p, which is told x, is polled, and what it asks for is done
+-- the active process p, which is told x, is polled, and what it asks for is done; its body's relation decides what that
+-- may be
 pub record IsPoll {B : Type 0} (g : Plan B) (turn : B → ℤ → Signal → Op → B → Type 0) (p : ProcId) (x : Signal) (s t : State B) : Type 0 where
   pub process : ProcessOf B
   pub found : process_at p s ≡ Some process
@@ -116,7 +119,7 @@ pub record IsPoll {B : Type 0} (g : Plan B) (turn : B → ℤ → Signal → Op 
   pub turned : turn process.body (calendar s).time x asked body
   pub then_is : t ≡ polled g p asked body s
 
--- what comes next, by what is being done
+-- what comes next, by what is being done; after a run that is over nothing does
 abbrev pub IsStepAt : {B : Type 0} → Plan B → Turn B → State B → State B → Control → Type 0
 IsStepAt g turn s t Idle = IsPop s t
 IsStepAt g turn s t (Calling e left) = t ≡ call_or_settle g e left s

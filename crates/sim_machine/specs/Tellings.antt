@@ -1,4 +1,5 @@
--- What a body tells of itself besides its state, and what its code tells.
+-- What a body tells of itself besides its state, and what its code tells. Bodies, which take the place of SimPy's
+-- generators, are this project's own.
 use Rattle.std.specs.Prelude.{Bool, ℕ, List, Option, true, false}
 use Rattle.sim_types.specs.declared.event.EventId.{EventId}
 use Rattle.sim_types.specs.declared.event.ProcId.{ProcId}
@@ -9,7 +10,8 @@ use Rattle.sim_types.specs.declared.op.Op.{Op}
 use Rattle.sim_types.specs.declared.setup.Class.{Class}
 use Rattle.sim_types.specs.declared.setup.Class.TheVariants as class
 
--- a place of a body: what class of event it is for, and the event that it holds, or event 0
+-- a place of a body, where it remembers an event: what class of event it is for, and the event that it holds, or event
+-- 0
 pub record Place : Type 0 where
   pub class : Class
   pub event : EventId
@@ -39,7 +41,7 @@ is_class class.Request class.Request = true
 is_class class.Move class.Move = true
 is_class _ _ = false
 
--- the events of a class, by their kinds
+-- whether an event of this kind may stand in a place of this class; in a number no event stands
 abbrev pub kind_fits : Class → EventKind → Bool
 kind_fits class.Event kind.Plain = true
 kind_fits class.Event kind.Timeout = true

@@ -19,15 +19,15 @@ urgent = 0
 abbrev pub normal : ℕ
 normal = 1
 
--- whether the time would pass 2 ^ 62, the last one
+-- whether the time would pass 2 ^ 62, the last one (this project's own: SimPy's time has no end)
 abbrev pub is_too_late : ℤ → Calendar → Bool
 is_too_late delay c = int_lt (pos (2 ^ 62)) (c.time +ℤ delay)
 
--- a pending event more
+-- a pending event more, which takes the next number
 abbrev pub make : EventKind → Calendar → Calendar
 make k c = record c { events = c.events ++ pending_event k ∷ [] }
 
--- e gets its outcome, and an entry in the agenda
+-- e gets its outcome, and an entry in the agenda with the next number of scheduling (SimPy's Environment.schedule)
 abbrev pub schedule : EventId → Outcome → ℕ → ℤ → Calendar → Calendar
 schedule e x priority delay c =
     change_event e (λ y. record y { outcome = Some x }) (record c {
@@ -47,11 +47,12 @@ succeed e value c = trigger e (outcome.Ok value) c
 abbrev pub fail : EventId → Throw → Calendar → Calendar
 fail e t c = trigger e (outcome.Fail t) c
 
--- a timeout event (SimPy's Timeout)
+-- a timeout event: it has its outcome from the start, and is popped after the delay (SimPy's Timeout)
 abbrev pub make_timeout : ℤ → ℤ → Calendar → Calendar
 make_timeout delay value c = schedule (next_event c) (outcome.Ok value) normal delay (make kind.Timeout c)
 
--- an interruption of p: an urgent event that throws into p when it is processed (SimPy's Interruption)
+-- an interruption of p: an urgent event that throws into p when it is processed, and ends no run by itself (SimPy's
+-- Interruption)
 abbrev pub make_interruption : ProcId → Throw → Calendar → Calendar
 make_interruption p t c =
     let e = next_event c in

@@ -25,7 +25,7 @@ write_deed deed f = record f { ledger = f.ledger ++ deed ∷ [] }
 abbrev pub level : List Resource → ℕ → Facilities → ℤ
 level rs res f = level_after (resource_at rs res).opening res f.ledger
 
--- e no longer waits
+-- e waits no longer
 abbrev pub unqueue : EventId → Facilities → Facilities
 unqueue e f = record f { waiters = filter (λ w. not (is_same w.event e)) f.waiters }
 
@@ -37,27 +37,27 @@ serve w value deed f = write_deed deed (on_calendar (succeed w.event value) (unq
 abbrev pub has_free_slot : Resource → List User → Bool
 has_free_slot r us = int_lt (pos (length us)) r.capacity
 
--- of the users the one that a request of this key takes the place of: only at a preemptive resource whose slots are all
--- used, only for a request that preempts, and only one whose key is greater (SimPy's PreemptiveResource)
+-- the user, where the request of this key preempts and its key comes before the user's
 abbrev pub beaten : RequestKey → Option User → Option User
 beaten key None = None
 beaten key (Some u) = if not key.wait && is_served_first key u.key then Some u else None
 
--- whose slot a request of this key would take
+-- the user whose slot a request of this key would take: only at a preemptive resource whose slots are all used (SimPy's
+-- PreemptiveResource)
 abbrev pub victim_of : Resource → RequestKey → List User → Option User
 victim_of r key us = elim r.kind [ resource.Preemptive ↦ (if has_free_slot r us then None else beaten key (last_served us)) | _ ↦ None ]
 
--- the victim's slot is free, and the victim is interrupted with the time since which it used the slot
+-- the victim is a user no longer, and is interrupted with the time since which it used the slot (SimPy's Preempted)
 abbrev pub preempt : ℕ → Option User → Facilities → Facilities
 preempt res None f = f
 preempt res (Some u) f = on_calendar (make_interruption u.process (record { kind = 2; value = u.since })) (write_deed (Preempted res u.request) f)
 
--- the request is granted where a slot is free
+-- the request is granted where a slot is free, and is a user since now
 abbrev pub grant : Resource → Waiter → ProcId → RequestKey → Facilities → Facilities
 grant r w process key f =
     if has_free_slot r (users w.res f.ledger) then serve w (pos 0) (Granted w.res (record { request = w.event; process = process; key = key; since = f.calendar.time })) f else f
 
--- the item that a get is given leaves the store
+-- the item that a get is given leaves the store; without one nothing happens
 abbrev pub hand_out : Waiter → Option Item → Facilities → Facilities
 hand_out w None f = f
 hand_out w (Some x) f = serve w x.value (Taken w.res x.put) f
@@ -67,7 +67,8 @@ abbrev pub is_container : ResourceKind → Bool
 is_container resource.Container = true
 is_container _ = false
 
--- an attempt at one waiter: it is served if it can be, else nothing happens
+-- an attempt at one waiter: it is served if it can be, else nothing happens. A request may preempt first; a put fits
+-- into what is free, a get takes what is there (SimPy's Resource, Container and Store)
 abbrev pub attempt_for : List Resource → Resource → Waiter → Want → Facilities → Facilities
 attempt_for rs r w (Slot process key) f = grant r w process key (preempt w.res (victim_of r key (users w.res f.ledger)) f)
 attempt_for rs r w (Give amount priority) f =
@@ -87,7 +88,8 @@ attempt rs w f = attempt_for rs (resource_at rs w.res) w w.want f
 abbrev pub still_waits : Waiter → Facilities → Bool
 still_waits w f = list_any (λ v. is_same v.event w.event) f.waiters
 
--- how far a try goes: to the first waiter alone, on after each that is served, or along all
+-- how far a try goes: to the first waiter alone, on after each that is served, or along all (this project's rule:
+-- SimPy's documentation does not say)
 pub data Reach : Type 0 where
   First : Reach
   WhileServed : Reach
@@ -104,13 +106,14 @@ get_reach resource.Container = WhileServed
 get_reach resource.FStore = All
 get_reach _ = First
 
--- whether a try goes on after this waiter
+-- whether a try goes on after this waiter, by the facilities after the attempt at it
 abbrev pub goes_on : Reach → Waiter → Facilities → Bool
 goes_on First w after = false
 goes_on WhileServed w after = not (still_waits w after)
 goes_on All w after = true
 
--- a try of a queue: attempts from the front for as long as its rule says
+-- a try of a queue: attempts from the front for as long as its rule says, along the queue as it stood when the try
+-- began
 abbrev pub try_along : List Resource → Reach → List Waiter → Facilities → Facilities
 try_along rs reach [] f = f
 try_along rs reach (w ∷ ws) f =

@@ -1,4 +1,4 @@
--- One unit: an arrival, or else a step.
+-- One unit: an arrival, or else a step. Units, which limits count, and arrivals are this project's own.
 use Rattle.std.specs.Prelude.{Bool, ◌||◌, ◌&&◌, ℕ, ℤ, List, Option, true, false, [], ◌∷◌, slice_index_or, Some, None, is_none, if◌then◌else◌, ◌≡◌, nat_le, drop}
 use Rattle.sim_types.specs.declared.line.Line.TheVariants as line
 use Rattle.sim_types.specs.declared.setup.Arrival.{Arrival}
@@ -27,7 +27,7 @@ abbrev pub due_arrival : {B : Type 0} → State B → List Arrival → Option Ar
 due_arrival s [] = None
 due_arrival s (a ∷ later) = if is_idle s.control && (nat_le a.after s.processed || is_none (due (calendar s).agenda)) then Some a else None
 
--- the first arrival that is left comes in
+-- the first arrival that is left comes in; this is a unit too
 abbrev pub inject : {B : Type 0} → Plan B → Arrival → Course B → Course B
 inject g a m = record { state = arrive g a.port a.value m.state; left = drop 1 m.left }
 

@@ -10,7 +10,7 @@ use Rattle.sim_machine.specs.Keys.{is_served_first}
 use Rattle.sim_machine.specs.State.{Want, Slot, Take, Waiter, User, Item, Deed, Granted, Released, Preempted, Deposited, Taken, Filled, Drained}
 use Rattle.sim_machine.specs.Events.{is_same}
 
--- the resource at this place of the scenario
+-- the resource at this place of the scenario, counted from 0
 abbrev pub resource_at : List Resource → ℕ → Resource
 resource_at rs res = slice_index_or rs res (record { kind = resource.Plain; capacity = pos 0; opening = pos 0 })
 
@@ -25,7 +25,7 @@ abbrev pub user_by : ℕ → Deed → List Deed → List User
 user_by res (Granted at user) later = if (at == res) && not (list_any (ends_use user.request) later) then user ∷ [] else []
 user_by res _ later = []
 
--- the users of a resource, in the order granted
+-- the users of a resource, in the order granted (SimPy's Resource.users)
 abbrev pub users : ℕ → List Deed → List User
 users res [] = []
 users res (deed ∷ later) = user_by res deed later ++ users res later
@@ -36,7 +36,7 @@ change_of_level res (Filled at amount) = if at == res then amount else pos 0
 change_of_level res (Drained at amount) = if at == res then pos 0 -ℤ amount else pos 0
 change_of_level res _ = pos 0
 
--- what a container holds that held so much before these deeds
+-- what a container holds that held so much before these deeds (SimPy's Container.level)
 abbrev pub level_after : ℤ → ℕ → List Deed → ℤ
 level_after level res [] = level
 level_after level res (deed ∷ later) = level_after (level +ℤ change_of_level res deed) res later
@@ -51,7 +51,7 @@ abbrev pub item_by : ℕ → Deed → List Deed → List Item
 item_by res (Deposited at item) later = if (at == res) && not (list_any (takes_item item.put) later) then item ∷ [] else []
 item_by res _ later = []
 
--- the items of a store, in the order put
+-- the items of a store, in the order put (SimPy's Store.items)
 abbrev pub items : ℕ → List Deed → List Item
 items res [] = []
 items res (deed ∷ later) = item_by res deed later ++ items res later
@@ -66,17 +66,18 @@ abbrev pub key_of : Want → RequestKey
 key_of (Slot process key) = key
 key_of _ = record { priority = pos 0; time = pos 0; wait = false }
 
--- the waiter joins behind those that are served before it; those that it stands with came later
+-- the waiter joins behind those that are served before it; it came before all others here, so it stands before those
+-- that are its equals
 abbrev pub insert_waiter : Waiter → List Waiter → List Waiter
 insert_waiter w [] = w ∷ []
 insert_waiter w (v ∷ vs) = if is_served_first (key_of v.want) (key_of w.want) then v ∷ insert_waiter w vs else w ∷ v ∷ vs
 
--- by key, and those with equal keys as they came
+-- by key, and those with equal keys as they came (SimPy's SortedQueue)
 abbrev pub sorted_waiters : List Waiter → List Waiter
 sorted_waiters [] = []
 sorted_waiters (w ∷ ws) = insert_waiter w (sorted_waiters ws)
 
--- only requests of a priority or preemptive resource go by their keys
+-- only requests of a priority or preemptive resource go by their keys; all else waits as it came
 abbrev pub in_order : ResourceKind → List Waiter → List Waiter
 in_order resource.Priority ws = sorted_waiters ws
 in_order resource.Preemptive ws = sorted_waiters ws
@@ -95,17 +96,18 @@ abbrev pub first_of_list : {X : Type 0} → List X → Option X
 first_of_list [] = None
 first_of_list (x ∷ xs) = Some x
 
--- the user with the greatest key, among equals the last granted
+-- of u and the others the user with the greatest key, among equals the last granted
 abbrev pub last_served_from : User → List User → User
 last_served_from u [] = u
 last_served_from u (v ∷ vs) = last_served_from (if is_served_first v.key u.key then u else v) vs
 
--- the user whose slot a preemption takes, if there is a user
+-- the user that a preemption looks at, if there is a user: the one with the greatest key, among equals the last granted
 abbrev pub last_served : List User → Option User
 last_served [] = None
 last_served (u ∷ us) = Some (last_served_from u us)
 
--- the item with the least priority, among equals the first put
+-- of x and the others the item with the least priority; that the first put goes first among equals is this project's
+-- own
 abbrev pub least_item_from : Item → List Item → Item
 least_item_from x [] = x
 least_item_from x (y ∷ ys) = least_item_from (if int_lt y.priority x.priority then y else x) ys
@@ -115,7 +117,8 @@ abbrev pub least_item : List Item → Option Item
 least_item [] = None
 least_item (x ∷ xs) = Some (least_item_from x xs)
 
--- the item that a get from least to greatest is given; only a filter store looks at the range
+-- the item that a get from least to greatest is given; only a filter store looks at the range (SimPy's Store,
+-- PriorityStore and FilterStore; a range in place of a filter function is this project's own)
 abbrev pub item_for : ResourceKind → ℤ → ℤ → List Item → Option Item
 item_for resource.PStore least greatest xs = least_item xs
 item_for resource.FStore least greatest xs = find (λ x. int_le least x.value && int_le x.value greatest) xs

@@ -13,7 +13,7 @@ use Rattle.sim_script_model.specs.Arithmetic.{Answer, Number, Error, is_equal, c
 
 -- ---- what is told is taken in
 
--- the variable that a statement gives to what it makes or counts
+-- the variable that a statement gives to what it makes, counts or draws
 abbrev pub given_by : Stmt → Option ℕ
 given_by (stmt.Count to res) = Some to
 given_by (stmt.Timer to delay value) = Some to
@@ -38,11 +38,12 @@ abbrev pub open_with : Stmt → EventId → Script → Script
 open_with (stmt.With to res priority preempt) e b = push_frame (InScope e) b
 open_with _ e b = b
 
--- the statement that was done last, where it made or counted something: it stands before the place
+-- the statement that was done last, where it made or told something: it stands before the place
 abbrev pub last_stmt : List Stmt → Script → Stmt
 last_stmt code b = stmt_at code (b.place - 1)
 
--- what the script is told changes its variables, its blocks or its mode
+-- what the script is told changes its variables, its blocks or its mode; an error that it was refused by is thrown as
+-- kind 4
 abbrev pub take_in : List Stmt → Signal → Script → Script
 take_in code signal.Begin b = b
 take_in code signal.Done b = b
@@ -79,7 +80,7 @@ end_by_mode (Throwing t) = op.Die t
 end_by_mode (Finishing v) = op.Finish v
 end_by_mode _ = op.Nop
 
--- the innermost block is left, for the reason that the mode tells
+-- the innermost block is left, for the reason that the mode tells; each block takes a poll of its own
 abbrev pub unwind : List Stmt → Script → List Frame → Op × Script
 unwind code b [] = (end_by_mode b.mode, b)
 unwind code b (InScope request ∷ frames) = (op.Leave, set_frames frames b)
@@ -94,7 +95,7 @@ abbrev pub answer_to : ℕ → Answer → Script → Script
 answer_to to (Number n) b = set_variable to n b
 answer_to to (Error n) b = set_mode (Throwing (record { kind = 4; value = pos n })) b
 
--- the end of a repeat: once more from its first statement, or on with what follows
+-- the end of a repeat: once more from its first statement while turns are left, or on with what follows
 abbrev pub end_repeat : ℕ → List Frame → Script → Script
 end_repeat first (InRepeat count past ∷ frames) b =
     if int_lt (pos 1) count then set_place first (set_frames (InRepeat (count -ℤ pos 1) past ∷ frames) b) else set_frames frames b

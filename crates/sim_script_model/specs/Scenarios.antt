@@ -1,4 +1,4 @@
--- The run of a scenario.
+-- The run of a scenario: its setup, its scripts and the random words of a seed, put into the machine.
 use Rattle.std.specs.Prelude.{ℕ, zero, suc, ◌+◌, ◌%◌, ◌^◌, List, [], ◌∷◌, map, take, drop}
 use Rattle.sim_types.specs.Scenarios.{ScenarioOf}
 use Rattle.sim_types.specs.declared.setup.Arrival.{Arrival}
@@ -28,7 +28,7 @@ trace_with x word journal limit = trace_of (plan_with x word) (run_with x word j
 abbrev pub summary_with : ScenarioOf → (ℕ → ℕ) → List Arrival → ℕ → Summary
 summary_with x word journal limit = summary_of (plan_with x word) (run_with x word journal limit)
 
--- the same with the words of a seed
+-- the lines of a run with the words of a seed
 abbrev pub trace : ScenarioOf → ℕ → List Arrival → ℕ → List Line
 trace x seed journal limit = trace_with x (word_of seed) journal limit
 
@@ -42,7 +42,7 @@ replications x limit from zero = []
 replications x limit from (suc count) =
     summary x ((x.seed + from) % 2 ^ 64) x.journal limit ∷ replications x limit (from + 1) count
 
--- what a scenario's code tells
+-- what a scenario's code tells: the classes of parameters, which stand behind `val` among the variables
 abbrev pub facts_of : ScenarioOf → CodeFacts
 facts_of x =
     record {

@@ -1,4 +1,5 @@
--- The state of a script: its variables, its place in the code, the blocks that it stands in, and its mode.
+-- The state of a script: its variables, its place in the code, the blocks that it stands in, and its mode. Scripts,
+-- which take the place of Python's generators, are this project's own.
 use Rattle.std.specs.Prelude.{ℕ, zero, suc, ◌-◌, ℤ, pos, nat_abs, List, [], ◌∷◌, ◌++◌, length, slice_index_or, slice_set, replicate, reverse, Option, None, if◌then◌else◌}
 use Rattle.sim_types.specs.declared.event.EventId.{EventId}
 use Rattle.sim_types.specs.declared.event.ProcId.{ProcId}
@@ -80,7 +81,7 @@ tail_of (x ∷ xs) = xs
 abbrev pub pop_frame : Script → Script
 pop_frame b = set_frames (tail_of b.frames) b
 
--- the statement at a place
+-- the statement at a place; behind the code the process ends
 abbrev pub stmt_at : List Stmt → ℕ → Stmt
 stmt_at code at = slice_index_or code at stmt.EndProcess
 
@@ -90,7 +91,7 @@ value_of_num time b (num.Lit n) = n
 value_of_num time b (num.Var at) = variable b at
 value_of_num time b num.Now = time
 
--- the event that a variable holds
+-- the event that a variable holds, by its number; 0 where none was given to it yet
 abbrev pub event_in : Script → ℕ → EventId
 event_in b at = record { 0 = nat_abs (variable b at) }
 

@@ -1,4 +1,5 @@
--- Which states a script can be in: its frames are those of the blocks that its place stands in.
+-- Which states a script can be in: its frames are those of the blocks that its place stands in. The law of a body is
+-- meant for these states alone.
 use Rattle.std.specs.Prelude.{ℕ, ◌-◌, pos, Bool, true, false, ◌==◌, ◌&&◌, ◌||◌, int_lt, List, [], ◌∷◌, length, take, drop, Option, Some, None, if◌then◌else◌}
 use Rattle.sim_types.specs.declared.op.Op.{Op}
 use Rattle.sim_types.specs.declared.op.Op.TheVariants as op
@@ -21,7 +22,7 @@ abbrev pub tail_blocks : List Block → List Block
 tail_blocks [] = []
 tail_blocks (x ∷ xs) = xs
 
--- the blocks behind a statement, the innermost first, given those before it
+-- the blocks that the place behind a statement stands in, the innermost first, given those that the statement stands in
 abbrev pub blocks_behind : List Block → Stmt → List Block
 blocks_behind blocks (stmt.With to res priority preempt) = Scoped ∷ blocks
 blocks_behind blocks (stmt.Try catch) = Tried catch ∷ blocks
@@ -33,12 +34,12 @@ blocks_behind blocks (stmt.EndRepeat first) = tail_blocks blocks
 blocks_behind blocks stmt.EndWith = tail_blocks blocks
 blocks_behind blocks _ = blocks
 
--- the blocks behind some statements, given those before them
+-- the blocks that the place behind some statements stands in, given those before them
 abbrev pub blocks_after : List Block → List Stmt → List Block
 blocks_after blocks [] = blocks
 blocks_after blocks (x ∷ code) = blocks_after (blocks_behind blocks x) code
 
--- the blocks that a place of a process kind stands in
+-- the blocks that a place of a process kind stands in, from the statements of the kind before it
 abbrev pub blocks_at : List Stmt → ℕ → ℕ → List Block
 blocks_at code first place = blocks_after [] (take (place - first) (drop first code))
 
@@ -56,17 +57,18 @@ frames_of [] [] = true
 frames_of (b ∷ bs) (f ∷ fs) = is_frame_of b f && frames_of bs fs
 frames_of _ _ = false
 
--- the frames are those of the outer blocks
+-- whether the frames are those of some outer blocks, as while inner ones are left
 abbrev pub outer_frames : List Block → List Frame → Bool
 outer_frames [] frames = frames_of [] frames
 outer_frames (b ∷ bs) frames = frames_of (b ∷ bs) frames || outer_frames bs frames
 
--- a script that runs has a frame for each block, but none yet for a scope whose request is just asked for
+-- whether a script that runs has a frame for each block, but none yet for a scope whose request is just asked for; one
+-- that leaves blocks has those of outer blocks
 abbrev pub frames_fit : List Block → Option Op → Mode → List Frame → Bool
 frames_fit blocks asked Running frames = frames_of (if is_enter asked then tail_blocks blocks else blocks) frames
 frames_fit blocks asked _ frames = outer_frames blocks frames
 
--- whether the operation is the one that the statement asks for, where it makes an event
+-- whether the operation, which makes an event, is one that the statement asks for
 abbrev pub is_maker_of : Stmt → Op → Bool
 is_maker_of (stmt.Timer to delay value) (op.Timeout d v) = true
 is_maker_of (stmt.Fresh to) op.NewEvent = true
@@ -90,7 +92,7 @@ makes_event (op.Put res amount priority) = true
 makes_event (op.Get res least greatest) = true
 makes_event _ = false
 
--- the statement before the place is the one that asked for what is made
+-- whether, where an event is being made, the statement before the place is the one that asked for it
 abbrev pub last_fits : Stmt → Option Op → Bool
 last_fits last None = true
 last_fits last (Some asked) = if makes_event asked then is_maker_of last asked else true
