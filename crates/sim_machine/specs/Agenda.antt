@@ -5,7 +5,7 @@ use Rattle.sim_machine.specs.Keys.{comes_first}
 use Rattle.sim_machine.specs.State.{Calendar}
 use Rattle.sim_machine.specs.Events.{is_same, change_event}
 
--- of e and the others the one that comes first, found by going through them
+-- of e and the others the one that comes first
 abbrev pub first_from : Entry → List Entry → Entry
 first_from e [] = e
 first_from e (f ∷ fs) = first_from (if comes_first f.key e.key then f else e) fs

@@ -39,14 +39,13 @@ change_condition e change c = change_event e (λ x. record x { condition = Some 
 abbrev pub most_weight : ℕ
 most_weight = 64
 
--- the events that e counts for, down to this depth: itself, and where it is a condition those that its members count
--- for
+-- what e weighs, down to this depth: 1, and where it is a condition what its members weigh besides
 abbrev pub weight_within : ℕ → Calendar → EventId → ℕ
 weight_within zero c e = 1
 weight_within (suc depth) c e = 1 + sum_by (weight_within depth c) (members_of c e)
 
--- the weight of a condition of these members; no member weighs more than the most, so none is nested too deep to be
--- counted
+-- the weight of a condition of these members; since no member weighs more than the most, none is nested deeper than
+-- this
 abbrev pub weight_of : List EventId → Calendar → ℕ
 weight_of members c = 1 + sum_by (weight_within most_weight c) members
 

@@ -36,8 +36,7 @@ triggers e _ = false
 abbrev pub is_to_be_triggered : {B : Type 0} → EventId → State B → Bool
 is_to_be_triggered e s = list_any (λ r. triggers e r.callback) s.facilities.calendar.registered || list_any (triggers e) (left_of s.control)
 
--- whether e is kept for a reason other than a condition: it is not closed, or event 0 or named, or something can name
--- it
+-- whether e is kept for a reason other than a condition: it is not closed, is event 0 or named, or may still be named
 abbrev pub is_kept_alone : {B : Type 0} → ℕ → Telling B → State B → EventId → Bool
 is_kept_alone named tell s e =
     not (is_closed s.facilities.calendar e)

@@ -15,8 +15,7 @@ use Rattle.sim_machine.specs.LawfulWaiting.{is_request_kind, is_put_kind, is_get
 abbrev pub is_in_use : Calendar → User → Bool
 is_in_use c u = was_made c u.request && not (is_pending c u.request)
 
--- whether a put or get of this amount is for this kind: for a container or store, and at a container for more than
--- nothing
+-- whether a put or get of this amount is for this kind: a container, and then for more than nothing, or a store
 abbrev pub move_fits : ResourceKind → ℤ → Bool
 move_fits k amount = if is_container k then int_lt (pos 0) amount else not (takes_requests k)
 

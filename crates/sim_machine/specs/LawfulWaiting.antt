@@ -67,8 +67,7 @@ entered_by _ p _ = []
 abbrev pub requests_of : {B : Type 0} → ProcId → State B → List EventId
 requests_of p s = map (λ x. x.request) (filter (λ x. is_process x.process p) s.scopes)
 
--- the scopes of a process are those that its body knows of, and the one that it is just told of; and they are not too
--- many
+-- the scopes of a process are those that its body knows of, with the one that it is just told of, and not too many
 abbrev pub KnowsItsScopes : {B : Type 0} → Telling B → State B → ProcessOf B → Type 0
 KnowsItsScopes tell s x =
     (requests_of x.id s ≡ tell.scopes x.body ++ entered_by s.control x.id (is_enter (tell.last x.body))) × (length (requests_of x.id s) ≤ most_scopes)

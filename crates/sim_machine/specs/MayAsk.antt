@@ -69,8 +69,7 @@ arguments_fit f own places _ _ = false
 abbrev pub most_scopes : ℕ
 most_scopes = 32
 
--- whether the events, resources, kinds and arguments of an operation are such as the body knows, and its scopes are in
--- order
+-- whether the events, resources and arguments of an operation are such as the body knows, and its scopes are in order
 abbrev pub may_ask : CodeFacts → ProcId → List Place → List EventId → Op → Bool
 may_ask f own places scopes op.Nop = true
 may_ask f own places scopes (op.Timeout delay value) = true

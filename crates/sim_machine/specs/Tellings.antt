@@ -10,8 +10,7 @@ use Rattle.sim_types.specs.declared.op.Op.{Op}
 use Rattle.sim_types.specs.declared.setup.Class.{Class}
 use Rattle.sim_types.specs.declared.setup.Class.TheVariants as class
 
--- a place of a body, where it remembers an event: what class of event it is for, and the event that it holds, or event
--- 0
+-- a place of a body, where it remembers an event: the class of event that it is for, and the event, or event 0 for none
 pub record Place : Type 0 where
   pub class : Class
   pub event : EventId

@@ -25,7 +25,7 @@ write_deed deed f = record f { ledger = f.ledger ++ deed ∷ [] }
 abbrev pub level : List Resource → ℕ → Facilities → ℤ
 level rs res f = level_after (resource_at rs res).opening res f.ledger
 
--- e waits no longer
+-- e no longer waits
 abbrev pub unqueue : EventId → Facilities → Facilities
 unqueue e f = record f { waiters = filter (λ w. not (is_same w.event e)) f.waiters }
 
@@ -112,8 +112,7 @@ goes_on First w after = false
 goes_on WhileServed w after = not (still_waits w after)
 goes_on All w after = true
 
--- a try of a queue: attempts from the front for as long as its rule says, along the queue as it stood when the try
--- began
+-- a try: attempts along the queue as it stood when the try began, from the front for as long as its rule says
 abbrev pub try_along : List Resource → Reach → List Waiter → Facilities → Facilities
 try_along rs reach [] f = f
 try_along rs reach (w ∷ ws) f =

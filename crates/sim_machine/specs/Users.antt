@@ -106,8 +106,7 @@ abbrev pub last_served : List User → Option User
 last_served [] = None
 last_served (u ∷ us) = Some (last_served_from u us)
 
--- of x and the others the item with the least priority; that the first put goes first among equals is this project's
--- own
+-- of x and the others the item with the least priority; among equals the first put, which is this project's own rule
 abbrev pub least_item_from : Item → List Item → Item
 least_item_from x [] = x
 least_item_from x (y ∷ ys) = least_item_from (if int_lt y.priority x.priority then y else x) ys
