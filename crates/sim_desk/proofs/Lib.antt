@@ -1,0 +1,5 @@
+mod CommandWords
+mod Digits
+mod FirstLines
+pub mod Processes
+mod PlainScenarios

@@ -1,0 +1,13 @@
+//! The calls that the program makes.
+#![tactic(auto)]
+
+mod command;
+mod line;
+mod name;
+mod number;
+mod reader;
+mod sketch;
+mod step;
+mod word;
+
+pub use word::Word;
