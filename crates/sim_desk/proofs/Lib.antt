@@ -2,4 +2,5 @@ mod CommandWords
 mod Digits
 mod FirstLines
 pub mod Processes
+pub mod LineTexts
 mod PlainScenarios

@@ -8,6 +8,7 @@ mod number;
 mod reader;
 mod sketch;
 mod step;
+mod text;
 mod word;
 
 pub use word::Word;
