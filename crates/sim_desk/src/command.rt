@@ -18,3 +18,40 @@ pub fn command(words: &[Word]) -> Option<Command>
         _ => None,
     }
 }
+
+#[cfg(test)]
+mod tests {
+    use super::*;
+    use std::test::Fail;
+
+    #[test]
+    fn run_takes_a_limit(rt: HostRuntime) -> Result<(), Fail> {
+        let cases = [
+            ("run 1", Some(1)),
+            ("run 10000000", Some(10_000_000)),
+            ("run 00000007", Some(7)),
+            ("run 0", None),
+            ("run 10000001", None),
+            ("run 123456789", None),
+            ("run", None),
+            ("run 5 5", None),
+            ("walk 5", None),
+            ("walk", None),
+            ("", None),
+            ("run 5x", None),
+            ("run -1", None),
+        ];
+        for (text, want) in cases {
+            let mut words = Vec::new(rt.alloc());
+            for word in text.split_whitespace() {
+                words.push(Word::new(rt.alloc(), word.as_bytes())?)?;
+            }
+            let limit = match command(words.as_slice()) {
+                Some(Command::Run(limit)) => Some(limit),
+                _ => None,
+            };
+            assert_eq!(rt; limit, want, "at {text}");
+        }
+        Ok(())
+    }
+}

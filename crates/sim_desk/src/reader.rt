@@ -128,3 +128,103 @@ fn is_start(name: &[u8], line: &[u8]) -> bool
         None => false,
     }
 }
+
+#[cfg(test)]
+mod tests {
+    use super::*;
+    use std::test::Fail;
+
+    #[test]
+    fn reads_plain_scenarios(rt: HostRuntime) -> Result<(), Fail> {
+        let text = "scenario 1\nuntil empty\nprocess p\ntimeout 5\nlog now\nend\nstart p\n";
+        let sketch = read_plain(rt.alloc(), text.as_bytes())?.ok_or("refused")?;
+        let steps = sketch.steps.as_slice();
+        assert!(rt; matches!(steps, [Step::Sleep(5), Step::LogNow]));
+        assert_eq!(rt; sketch.starts, 1);
+
+        let text = "scenario 1\nuntil empty\n";
+        let sketch = read_plain(rt.alloc(), text.as_bytes())?.ok_or("refused")?;
+        assert!(rt; sketch.steps.is_empty());
+        assert_eq!(rt; sketch.starts, 0);
+
+        let text =
+            "scenario 1\nuntil empty\nprocess car_2\ntimeout 4294967296\nend\nstart car_2\nstart car_2\n";
+        let sketch = read_plain(rt.alloc(), text.as_bytes())?.ok_or("refused")?;
+        let steps = sketch.steps.as_slice();
+        assert!(rt; matches!(steps, [Step::Sleep(4_294_967_296)]));
+        assert_eq!(rt; sketch.starts, 2);
+        Ok(())
+    }
+
+    #[test]
+    fn refuses_all_others(rt: HostRuntime) -> Result<(), Fail> {
+        let cases = [
+            ("an empty text", ""),
+            (
+                "no last line feed",
+                "scenario 1\nuntil empty\nprocess p\nend\nstart p",
+            ),
+            (
+                "two spaces",
+                "scenario 1\nuntil empty\nprocess p\ntimeout  5\nend\n",
+            ),
+            ("a tab", "scenario 1\nuntil\tempty\n"),
+            ("a carriage return", "scenario 1\r\nuntil empty\r\n"),
+            (
+                "a space behind the last word",
+                "scenario 1\nuntil empty\nprocess p\nend \n",
+            ),
+            (
+                "a start of another name",
+                "scenario 1\nuntil empty\nprocess p\nend\nstart q\n",
+            ),
+            (
+                "a reserved name",
+                "scenario 1\nuntil empty\nprocess proc\nend\n",
+            ),
+            (
+                "a name of 33 letters",
+                "scenario 1\nuntil empty\nprocess abcdefghijklmnopqrstuvwxyzabcdefg\nend\n",
+            ),
+            (
+                "a delay of 11 digits",
+                "scenario 1\nuntil empty\nprocess p\ntimeout 00000000005\nend\n",
+            ),
+            (
+                "a delay too great",
+                "scenario 1\nuntil empty\nprocess p\ntimeout 4294967297\nend\n",
+            ),
+            (
+                "a statement behind a start",
+                "scenario 1\nuntil empty\nprocess p\nend\nstart p\nlog now\n",
+            ),
+            (
+                "two processes",
+                "scenario 1\nuntil empty\nprocess p\nend\nprocess q\nend\n",
+            ),
+            (
+                "a process that is not ended",
+                "scenario 1\nuntil empty\nprocess p\nlog now\n",
+            ),
+        ];
+        for (what, text) in cases {
+            let sketch = read_plain(rt.alloc(), text.as_bytes())?;
+            assert!(rt; sketch.is_none(), "{what}");
+        }
+        Ok(())
+    }
+
+    #[test]
+    fn lines_and_bytes_are_limited(rt: HostRuntime) -> Result<(), Fail> {
+        for (lines, accepted) in [(65_536, true), (65_537, false)] {
+            let mut text = Vec::from_slice(rt.alloc(), b"scenario 1\nuntil empty\nprocess p\n")?;
+            for _line in 4..lines {
+                text.extend_from_slice(b"log now\n")?;
+            }
+            text.extend_from_slice(b"end\n")?;
+            let sketch = read_plain(rt.alloc(), text.as_slice())?;
+            assert_eq!(rt; sketch.is_some(), accepted, "at {lines}");
+        }
+        Ok(())
+    }
+}

@@ -241,3 +241,58 @@ fn fault_word(kind: FaultKind) -> &'static [u8]
         FaultKind::BadOrder => b"BadOrder",
     }
 }
+
+#[cfg(test)]
+mod tests {
+    use super::*;
+    use sim_types::Throw;
+    use std::test::Fail;
+
+    #[test]
+    fn writes_lines(rt: HostRuntime) -> Result<(), Fail> {
+        let lines = [
+            Line::Event {
+                time: 5,
+                priority: 1,
+                number: 2,
+                kind: EventKind::Plain,
+                event: EventId(7),
+                outcome: Outcome::Ok(-3),
+            },
+            Line::Event {
+                time: i64::MIN,
+                priority: 255,
+                number: u64::MAX,
+                kind: EventKind::Interrupt,
+                event: EventId(u64::MAX),
+                outcome: Outcome::Fail(Throw {
+                    kind: 255,
+                    value: i64::MIN,
+                }),
+            },
+            Line::Log {
+                time: 5,
+                process: ProcId(1),
+                value: 9,
+            },
+            Line::Finish {
+                end: End::Starved,
+                time: 5,
+                processed: 3,
+            },
+        ];
+        let mut out = Vec::new(rt.alloc());
+        for line in &lines {
+            render(line, &mut out)?;
+        }
+        let fault = Fault {
+            line: 0,
+            kind: FaultKind::UnknownWord,
+        };
+        render_fault(&fault, &mut out)?;
+        let want =
+            "@5 1 2 event 7 ok -3\n@-9223372036854775808 255 18446744073709551615 interrupt 18446744073709551615 fail 255 -9223372036854775808\nlog 5 1 9\nend starved 5 3\nfault 0 UnknownWord\n";
+        assert_eq!(rt; out.as_slice(), want.as_bytes());
+        Ok(())
+    }
+}
