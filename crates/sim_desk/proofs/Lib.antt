@@ -1,3 +1,4 @@
+pub mod Bounds
 mod CommandWords
 mod Digits
 mod FirstLines

@@ -1,3 +1,4 @@
+pub mod Bounds
 pub mod Names
 pub mod Numbers
 pub mod Plain

@@ -24,6 +24,14 @@ use Rattle.sim_desk.specs.Numbers.{number, within}
 abbrev pub behind : Word → Word → Option Word
 behind beginning line = if bytes_eq (take (length beginning) line) beginning then Some (drop (length beginning) line) else None
 
+-- the name in `process NAME`
+abbrev pub process_name : Word → Option Word
+process_name line = if_name (behind (codes "process ") line)
+  where
+    if_name : Option Word → Option Word
+    if_name None = None
+    if_name (Some w) = if is_name w then Some w else None
+
 -- the delay of `timeout DELAY`: 1 to 10 digits, at most 2^32
 abbrev pub delay : Option Word → Option ℕ
 delay None = None
@@ -77,14 +85,6 @@ sketch_with (Some steps) (Some starts) = Some (record { steps = steps; starts = 
 -- the lines behind `process NAME`
 abbrev pub process_of : Word → List Word → Option Sketch
 process_of name ls = sketch_with (steps_of (body ls)) (starts_of name (behind_end ls))
-
--- the name in `process NAME`
-abbrev pub process_name : Word → Option Word
-process_name line = if_name (behind (codes "process ") line)
-  where
-    if_name : Option Word → Option Word
-    if_name None = None
-    if_name (Some w) = if is_name w then Some w else None
 
 abbrev pub named_process : Option Word → List Word → Option Sketch
 named_process None ls = None

@@ -1,7 +1,8 @@
 //! Reads a plain scenario.
-ghost use Rattle.std.specs.Prelude.{◌≡◌, ◌≤◌, length, IfOk, Some, option_copied};
+ghost use Rattle.std.specs.Prelude.{◌≡◌, ◌≤◌, length, IfOk, IfSome, Some, option_copied};
 ghost use Rattle.sim_language.specs.Lines.{lines};
-ghost use Rattle.sim_desk.specs.Plain.{step_of, is_start, starts_of, process_name, process_of, rest_of, is_laid_out, sketch_of};
+ghost use Rattle.sim_desk.specs.Bounds.{IsBounded};
+ghost use Rattle.sim_desk.specs.Plain.{step_of, is_start, starts_of, process_name, process_of, rest_of, scenario_of, is_laid_out, sketch_of};
 
 use crate::line::{count_lines, first_line};
 use crate::name::is_name;
@@ -19,21 +20,32 @@ const LONGEST_DELAY: u64 = 4_294_967_296;
 
 /// What the text says, or nothing where it is no plain scenario.
 pub fn read_plain(alloc: Global, text: &[u8]) -> Result<Option<Sketch>, AllocError>
-    ensures { IfOk result (λ sketch. sketch ≡ sketch_of text.now) }
+    ensures sketch { IfOk result (λ sketch. sketch ≡ sketch_of text.now) }
+    ensures bounded { IfOk result (λ sketch. IfSome sketch IsBounded) }
 {
-    if !is_laid_out(text) {
-        return Ok(None);
+    if is_laid_out(text) {
+        read_lines(alloc, text)
+    } else {
+        Ok(None)
     }
+}
+
+/// Reads a text that is laid out.
+fn read_lines(alloc: Global, text: &[u8]) -> Result<Option<Sketch>, AllocError>
+    requires { length text.now ≤ 4194304 }
+    ensures { IfOk result (λ sketch. sketch ≡ scenario_of (lines text.now)) }
+{
     let Some((first, behind_first)) = first_line(text) else {
         return Ok(None);
     };
     let Some((second, rest)) = first_line(behind_first) else {
         return Ok(None);
     };
-    if first != b"scenario 1".as_slice() || second != b"until empty".as_slice() {
-        return Ok(None);
+    if first == b"scenario 1".as_slice() && second == b"until empty".as_slice() {
+        read_rest(alloc, rest)
+    } else {
+        Ok(None)
     }
-    read_rest(alloc, rest)
 }
 
 /// Whether the text is within the limits, its last line ended too.
