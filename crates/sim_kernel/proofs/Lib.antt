@@ -2,3 +2,4 @@ pub mod Calendars
 pub mod Signed
 pub mod Due
 pub mod Moving
+pub mod Calling

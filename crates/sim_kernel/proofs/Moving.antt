@@ -25,7 +25,7 @@ use Rattle.sim_kernel.specs.PartsOf.{PartsOf, RoomOf, plan_of}
 use Rattle.sim_kernel.specs.StandsFor.{StandsFor, StandsForSome, LawfulOf, Moves}
 
 -- what comes next is what the control says
-at_control : {B : Type 0} (g : Plan B) (turn : Turn B) (s t : State B) (c : Control) → c ≡ s.control → IsStepAt g turn s t c → IsStep g turn s t
+pub at_control : {B : Type 0} (g : Plan B) (turn : Turn B) (s t : State B) (c : Control) → c ≡ s.control → IsStepAt g turn s t c → IsStep g turn s t
 at_control g turn s t c h step = subst (λ d. IsStepAt g turn s t d) h step
 
 -- ---- the pop

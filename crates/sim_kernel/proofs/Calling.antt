@@ -1,0 +1,119 @@
+-- Calls of callbacks, and the settling of an event, are those of the machine.
+use Rattle.std.proofs.Common.{◌≡◌, ℕ, ◌<◌, ℤ, Bool, true, false, List, [], ◌∷◌, ◌++◌, length, refl, sym, ap, subst, ◌∙◌, if◌then◌else◌}
+use Rattle.std.proofs.lemmas.List.{append-nil}
+use Rattle.sim_types.specs.declared.event.ProcId.{ProcId}
+use Rattle.sim_types.specs.declared.event.EventId.{EventId}
+use Rattle.sim_types.specs.declared.event.Callback.{Callback}
+use Rattle.sim_types.specs.declared.event.Callback.TheVariants as callback
+use Rattle.sim_types.specs.declared.line.End.TheVariants as end
+use Rattle.sim_machine.specs.State.{Calendar, Control, Idle, Calling, Active, Over, State, Plan}
+use Rattle.sim_machine.specs.Events.{event_at, is_fail, is_same, defuse, is_processed}
+use Rattle.sim_machine.specs.Processes.{defuse_failed}
+use Rattle.sim_machine.specs.Tellings.{Telling}
+use Rattle.sim_machine.specs.Standing.{left_of, is_event_of}
+use Rattle.sim_machine.specs.Steps.{Turn, IsStepAt, IsStep, signal_by, resume, settle, call, end_at}
+use Rattle.sim_machine.proofs.EventLaws.{is_same-self}
+use Rattle.sim_machine.proofs.KeptRegistrationsCalendar.{processed_made}
+use Rattle.sim_kernel.specs.declared.mode.Mode.{Mode}
+use Rattle.sim_kernel.specs.declared.mode.Mode.TheVariants as mode
+use Rattle.sim_kernel.specs.declared.mode.Unit.TheVariants as unit
+use Rattle.sim_kernel.specs.Same.{SameCalendar}
+use Rattle.sim_kernel.specs.PartsOf.{PartsOf, RoomOf, control_of, is_unhandled, IsCalling, plan_of}
+use Rattle.sim_kernel.specs.StandsFor.{StandsFor, StandsForSome, LawfulOf, Moves}
+use Rattle.sim_kernel.proofs.Moving.{at_control}
+
+-- ---- what the control says
+
+pub calling_is : (m : Mode) (left : List Callback) (event : EventId) → IsCalling event (control_of m left) → control_of m left ≡ Calling event left
+calling_is mode.Idle left event h = absurd h
+calling_is (mode.Calling e) left event h = ap (λ d. Calling d left) h
+calling_is (mode.Active e p x) left event h = absurd h
+calling_is (mode.Over why e) left event h = absurd h
+
+-- the event whose callbacks are called was made
+event_made : (c : Control) (event : EventId) → IsCalling event c → is_event_of c event ≡ true
+event_made Idle event h = absurd h
+event_made (Calling e left) event h = rw h (is_same-self event)
+event_made (Active e left p x) event h = absurd h
+event_made (Over why e left) event h = absurd h
+
+pub calling_made : {B Code : Type 0} (filled : Code → ℕ → List ℤ → B) (owned : B → ProcId → B) (tell : Code → Telling B) (sound : Code → B → Type 0) (parts : PartsOf B Code) (event : EventId) → StandsForSome filled owned tell sound parts → IsCalling event parts.control → event.0 < length parts.calendar.events
+calling_made filled owned tell sound parts event h calling =
+    rw h.stands.calendar.events
+    (processed_made h.state.facilities.calendar event (h.lawful.registrations.processing event (event_made h.state.control event (subst (λ c. IsCalling event c) h.stands.control calling))))
+
+-- ---- calendars that are the same stay so
+
+by_test : (x y : Bool) (a b c d : Calendar) → x ≡ y → SameCalendar a b → SameCalendar c d → SameCalendar (if x then a else c) (if y then b else d)
+by_test true true a b c d e p q = p
+by_test false false a b c d e p q = q
+by_test true false a b c d e p q = cc
+by_test false true a b c d e p q = cc
+
+same_defuse : (e : EventId) (a b : Calendar) → SameCalendar a b → SameCalendar (defuse e a) (defuse e b)
+same_defuse e a b h = record { time = h.time; scheduled = h.scheduled; agenda = h.agenda; events = rw h.events refl; registered = h.registered }
+
+pub same_defuse_failed : (e : EventId) (a b : Calendar) → SameCalendar a b → SameCalendar (defuse_failed e a) (defuse_failed e b)
+same_defuse_failed e a b h = by_test _ _ (defuse e a) (defuse e b) a b (rw h.events refl) (same_defuse e a b h) h
+
+-- ---- the calls
+
+pub settle_moves : {B Code : Type 0} (filled : Code → ℕ → List ℤ → B) (owned : B → ProcId → B) (tell : Code → Telling B) (sound : Code → B → Type 0) (turn : Turn B) (old : PartsOf B Code) (event : EventId) (room : RoomOf) → old.control ≡ Calling event [] → Moves filled owned tell sound (IsStep (plan_of filled owned old) turn) old unit.Quiet (record old { control = if is_unhandled event old.calendar then Over end.Crash event [] else Idle; room = room })
+settle_moves filled owned tell sound turn old event room calling =
+    record {
+      each = λ s h st. record {
+        state = settle event s;
+        stepped = at_control (plan_of filled owned old) turn s (settle event s) (Calling event []) (sym calling ∙ st.control) refl;
+        stands = record {
+          calendar = st.calendar;
+          processed = st.processed;
+          generator = st.generator;
+          processes = st.processes;
+          scopes = st.scopes;
+          control = rw st.calendar.events refl;
+          waiters = st.waiters;
+          ledger = st.ledger;
+        };
+        lines = rw append-nil;
+      };
+    }
+
+pub stop_moves : {B Code : Type 0} (filled : Code → ℕ → List ℤ → B) (owned : B → ProcId → B) (tell : Code → Telling B) (sound : Code → B → Type 0) (turn : Turn B) (old : PartsOf B Code) (event : EventId) (left : List Callback) (room : RoomOf) → old.control ≡ Calling event (callback.Stop ∷ left) → Moves filled owned tell sound (IsStep (plan_of filled owned old) turn) old unit.Quiet (record old { control = Over (if is_fail (event_at old.calendar event).outcome then end.Crash else end.Until) event left; room = room })
+stop_moves filled owned tell sound turn old event left room calling =
+    record {
+      each = λ s h st. record {
+        state = call (plan_of filled owned old) event callback.Stop left s;
+        stepped = at_control (plan_of filled owned old) turn s (call (plan_of filled owned old) event callback.Stop left s) (Calling event (callback.Stop ∷ left)) (sym calling ∙ st.control) refl;
+        stands = record {
+          calendar = st.calendar;
+          processed = st.processed;
+          generator = st.generator;
+          processes = st.processes;
+          scopes = st.scopes;
+          control = rw st.calendar.events refl;
+          waiters = st.waiters;
+          ledger = st.ledger;
+        };
+        lines = rw append-nil;
+      };
+    }
+
+pub resume_moves : {B Code : Type 0} (filled : Code → ℕ → List ℤ → B) (owned : B → ProcId → B) (tell : Code → Telling B) (sound : Code → B → Type 0) (turn : Turn B) (old : PartsOf B Code) (event : EventId) (p : ProcId) (left : List Callback) (room : RoomOf) → old.control ≡ Calling event (callback.Resume p ∷ left) → Moves filled owned tell sound (IsStep (plan_of filled owned old) turn) old unit.Quiet (record old { calendar = defuse_failed event old.calendar; control = Active event left p (signal_by (event_at old.calendar event).kind (event_at old.calendar event).outcome); room = room })
+resume_moves filled owned tell sound turn old event p left room calling =
+    record {
+      each = λ s h st. record {
+        state = resume event left p s;
+        stepped = at_control (plan_of filled owned old) turn s (resume event left p s) (Calling event (callback.Resume p ∷ left)) (sym calling ∙ st.control) refl;
+        stands = record {
+          calendar = same_defuse_failed event old.calendar s.facilities.calendar st.calendar;
+          processed = st.processed;
+          generator = st.generator;
+          processes = st.processes;
+          scopes = st.scopes;
+          control = rw st.calendar.events refl;
+          waiters = st.waiters;
+          ledger = st.ledger;
+        };
+        lines = rw append-nil;
+      };
+    }
