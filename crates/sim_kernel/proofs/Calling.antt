@@ -30,6 +30,13 @@ calling_is (mode.Calling e) left event h = ap (λ d. Calling d left) h
 calling_is (mode.Active e p x) left event h = absurd h
 calling_is (mode.Over why e) left event h = absurd h
 
+-- with fewer callbacks left the same event is called
+pub left_is : (m : Mode) (left fewer : List Callback) (event : EventId) → IsCalling event (control_of m left) → left_of (control_of m fewer) ≡ fewer
+left_is mode.Idle left fewer event h = absurd h
+left_is (mode.Calling e) left fewer event h = refl
+left_is (mode.Active e p x) left fewer event h = absurd h
+left_is (mode.Over why e) left fewer event h = absurd h
+
 -- the event whose callbacks are called was made
 event_made : (c : Control) (event : EventId) → IsCalling event c → is_event_of c event ≡ true
 event_made Idle event h = absurd h
