@@ -3,3 +3,5 @@ pub mod Signed
 pub mod Due
 pub mod Moving
 pub mod Calling
+pub mod Drawing
+pub mod Running

@@ -1,8 +1,11 @@
--- What the code does where a process pauses or ends.
+-- What the code does where a process is polled, pauses or ends.
 use Rattle.std.specs.Prelude.{◌≡◌, ℕ, ℤ, pos, List, ◌∷◌, Some}
+use Rattle.std.specs.Option.{option_map}
 use Rattle.std.specs.List.Sorted.{IsPermutation}
 use Rattle.sim_types.specs.declared.event.ProcId.{ProcId}
+use Rattle.sim_types.specs.declared.event.Signal.{Signal}
 use Rattle.sim_types.specs.declared.event.Outcome.{Outcome}
+use Rattle.sim_types.specs.declared.op.Op.{Op}
 use Rattle.sim_types.specs.declared.event.Callback.TheVariants as callback
 use Rattle.sim_machine.specs.Events.{next_event, register}
 use Rattle.sim_machine.specs.Triggering.{make_timeout, trigger}
@@ -10,6 +13,14 @@ use Rattle.sim_machine.specs.Processes.{event_of, not_active}
 use Rattle.sim_procs.specs.RecordOf.{RecordOf, change_record, record_of}
 use Rattle.sim_kernel.specs.Same.{SameCalendar}
 use Rattle.sim_kernel.specs.PartsOf.{PartsOf}
+
+-- the process is polled: it is told this, it asks for an operation, and its body is in a new state
+pub record Asks {B Code : Type 0} (turn : B → ℤ → Signal → Op → B → Type 0) (p : ProcId) (told : Signal) (old : PartsOf B Code) (asked : Op) (new : PartsOf B Code) : Type 0 where
+  pub body : B
+  pub later : B
+  pub found : option_map (λ r. r.body) (record_of p old.live) ≡ Some body
+  pub turned : turn body old.calendar.time told asked later
+  pub others : new ≡ record old { live = change_record p (λ r. record r { body = later }) old.live }
 
 -- a timeout is made that resumes the process, which waits for it
 pub record Pauses {B Code : Type 0} (p : ProcId) (delay value : ℤ) (old new : PartsOf B Code) : Type 0 where

@@ -3,6 +3,7 @@
 
 mod agenda;
 mod calendar;
+mod draw;
 mod event;
 mod mode;
 mod parts;

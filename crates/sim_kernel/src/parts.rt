@@ -1,26 +1,30 @@
-ghost use Rattle.std.specs.Prelude.{◌≡◌, ◌≢◌, ℕ, ◌+◌, ◌<◌, ◌≤◌, ◌^◌, pos, ◌≤ℤ◌, int_lt, IsTrue, IsFalse, IsSome, List, [], ◌∷◌, length, OnOk, if◌then◌else◌};
+ghost use Rattle.std.specs.Prelude.{◌≡◌, ◌≢◌, ℕ, ◌+◌, ◌<◌, ◌≤◌, ◌^◌, pos, ◌≤ℤ◌, int_lt, IsTrue, IsFalse, IsSome, IsSomeAnd, List, [], ◌∷◌, length, OnOk, if◌then◌else◌};
 ghost use Rattle.sim_types.specs.declared.event.EventId.{EventId};
 ghost use Rattle.sim_types.specs.declared.event.Callback.{Callback};
 ghost use Rattle.sim_machine.specs.State.{Idle, Calling, Active, Over};
 ghost use Rattle.sim_machine.specs.Events.{event_at, is_fail};
 ghost use Rattle.sim_machine.specs.Processes.{defuse_failed, told_more, not_active};
+ghost use Rattle.rand_pcg.specs.Pcg.{pcg64};
+ghost use Rattle.sim_machine.specs.Effect.{drawn_number};
 ghost use Rattle.sim_machine.specs.Standing.{left_of};
 ghost use Rattle.sim_machine.specs.Triggering.{is_too_late};
 ghost use Rattle.sim_procs.specs.RecordOf.{record_of};
-ghost use Rattle.sim_kernel.specs.Built.{HasBuiltCallbacks};
+ghost use Rattle.sim_kernel.specs.Built.{AsksForBuilt, HasBuiltCallbacks};
 ghost use Rattle.sim_kernel.specs.CalendarOf.{HasRoom};
-ghost use Rattle.sim_kernel.specs.Polling.{Pauses};
+ghost use Rattle.sim_kernel.specs.Polling.{Asks, Pauses, Ends};
 ghost use Rattle.sim_machine.specs.Steps.{IsStep, signal_by};
 ghost use Rattle.sim_types.specs.declared.line.End.TheVariants as end;
 ghost use Rattle.sim_kernel.specs.PartsOf.{HasUnitRoom, IsCalling, IsRunning, IsRunningIn, IsRunningAt, is_unhandled, plan_of};
 ghost use Rattle.sim_kernel.specs.StandsFor.{StandsForSome, Moves};
 
 use crate::calendar::Calendar;
+use crate::draw::number_between;
 use crate::mode::{Mode, Unit};
+use rand_core::utils::NextWord;
 use rand_pcg::Pcg64;
 use sim_memo::Memo;
 use sim_procs::{Body, Procs};
-use sim_types::{Callback, End, EventId, EventKind, Line, Outcome, ProcId, Setup, Signal};
+use sim_types::{Callback, End, EventId, EventKind, Line, Op, Outcome, ProcId, Setup, Signal};
 use std::alloc::AllocError;
 use std::collections::VecDeque;
 use std::marker::Model;
@@ -177,5 +181,82 @@ impl<B: Body> Parts<B> {
             self.processes.set_target(process, timeout);
             self.rest(event);
         }
+    }
+
+    // The running process draws a number of a range, unless the range is empty.
+    fn draw(&mut self, event: EventId, process: ProcId, lo: i64, hi: i64)
+        requires running { IsRunningIn event process self.old.control }
+        ensures empty { IsTrue (int_lt hi lo) → self.new ≡ record self.old { control = told_more (Signal.Raised 8) self.old.control } }
+        ensures drawn { IsFalse (int_lt hi lo) → self.new ≡ record self.old { generator = (pcg64 self.old.generator).1; control = told_more (Signal.Number (drawn_number (pcg64 self.old.generator).0 lo hi)) self.old.control } }
+    {
+        if hi < lo {
+            self.tell(event, process, Signal::Raised(8));
+        } else {
+            let word = self.generator.next_word();
+            self.tell(event, process, Signal::Number(number_between(word, lo, hi)));
+        }
+    }
+
+    // The running process ends: its event gets this outcome.
+    fn end(&mut self, event: EventId, process: ProcId, outcome: Outcome)
+        requires running { IsRunningIn event process self.old.control }
+        requires alive { IsSomeAnd (record_of process self.old.live) (λ r. r.scopes ≡ []) }
+        requires made { process.0 < length self.old.calendar.events }
+        requires room { HasRoom 1 self.old.room.calendar }
+        requires number { self.old.calendar.scheduled < 2 ^ 62 }
+        requires low { pos 0 ≤ℤ self.old.calendar.time }
+        requires high { self.old.calendar.time ≤ℤ pos (2 ^ 62) }
+        ensures { Ends process outcome self.old self.new }
+    {
+        match self.processes.take(process) {
+            Some(record) => record.end(),
+            None => unreachable!(),
+        }
+        self.calendar
+            .schedule(EventId(process.0), outcome, NORMAL, 0);
+        self.rest(event);
+    }
+
+    // Polls the running process: it is told this, and asks for an operation.
+    fn ask(&mut self, code: &B::Code, event: EventId, process: ProcId, told: Signal) -> Op
+        requires code { code.now ≡ self.old.code }
+        requires stands { StandsForSome B.filled B.owned B.tell B.sound self.old }
+        requires running { IsRunning event process told self.old.control }
+        requires events { length self.old.calendar.events < 2 ^ 62 }
+        ensures { Asks (B.turn self.old.code) process told self.old result self.new }
+    {
+        let time = self.calendar.time();
+        self.processes.body_mut(process).poll(code, time, told)
+    }
+
+    // Polls the running process, and does what it asks for.
+    fn poll(&mut self, code: &B::Code, event: EventId, process: ProcId, told: Signal) -> Unit
+        requires code { code.now ≡ self.old.code }
+        requires stands { StandsForSome B.filled B.owned B.tell B.sound self.old }
+        requires running { IsRunning event process told self.old.control }
+        requires built { AsksForBuilt (B.turn code.now) }
+        requires room { HasRoom 1 self.old.room.calendar }
+        requires events { length self.old.calendar.events < 2 ^ 62 }
+        requires number { self.old.calendar.scheduled < 2 ^ 62 }
+        ensures moves { Moves B.filled B.owned B.tell B.sound (IsStep (plan_of B.filled B.owned self.old) (B.turn self.old.code)) self.old result self.new }
+    {
+        match self.ask(code, event, process, told) {
+            Op::Nop => self.tell(event, process, Signal::Done),
+            Op::Pause(delay, value) => self.pause(event, process, delay, value),
+            Op::Draw(lo, hi) => self.draw(event, process, lo, hi),
+            Op::Finish(value) => self.end(event, process, Outcome::Ok(value)),
+            Op::Die(what) => self.end(event, process, Outcome::Fail(what)),
+            Op::Log(value) => {
+                self.tell(event, process, Signal::Done);
+                let time = self.calendar.time();
+                return Unit::Line(Line::Log {
+                    time,
+                    process,
+                    value,
+                });
+            }
+            _ => unreachable!(),
+        }
+        Unit::Quiet
     }
 }

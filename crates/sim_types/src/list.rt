@@ -115,6 +115,16 @@ impl Args {
         }
     }
 
+    /// The same numbers once more.
+    pub fn copied(&self) -> Args
+        ensures { result ≡ self.now }
+    {
+        Args {
+            values: self.values,
+            len: self.len,
+        }
+    }
+
     /// False where eight are held.
     pub fn push(&mut self, value: i64) -> bool
         ensures room { IsTrue result ↔ length self.old < 8 }
