@@ -5,3 +5,6 @@ pub mod Moving
 pub mod Calling
 pub mod Drawing
 pub mod Running
+pub mod SameCalendars
+pub mod Polls
+pub mod Pausing

@@ -1,0 +1,63 @@
+-- A process that pauses waits for its timeout, as the machine has it.
+use Rattle.std.proofs.Common.{◌≡◌, ℕ, suc, ◌+◌, ◌<◌, ℤ, pos, Bool, true, false, List, [], ◌∷◌, ◌++◌, length, refl, sym, ap, subst, ◌∙◌, if◌then◌else◌}
+use Rattle.std.specs.Prelude.{int_lt, IsTrue, IsFalse}
+use Rattle.std.proofs.lemmas.List.{append-nil}
+use Rattle.sim_types.specs.declared.event.EventId.{EventId}
+use Rattle.sim_types.specs.declared.event.EventKind.TheVariants as kind
+use Rattle.sim_types.specs.declared.event.ProcId.{ProcId}
+use Rattle.sim_types.specs.declared.event.Callback.TheVariants as callback
+use Rattle.sim_types.specs.declared.event.Outcome.TheVariants as outcome
+use Rattle.sim_types.specs.declared.event.Signal.{Signal}
+use Rattle.sim_types.specs.declared.event.Signal.TheVariants as signal
+use Rattle.sim_types.specs.declared.op.Op.TheVariants as op
+use Rattle.sim_machine.specs.State.{EventOf, Calendar, State}
+use Rattle.sim_machine.specs.Events.{event_at, is_processed, next_event, register}
+use Rattle.sim_machine.specs.Triggering.{is_too_late, make, make_timeout}
+use Rattle.sim_machine.specs.Processes.{told_more, not_active, tell, wait, with_body}
+use Rattle.sim_machine.specs.Effect.{with_timeout}
+use Rattle.sim_machine.specs.Tellings.{Telling}
+use Rattle.sim_machine.specs.Steps.{Turn, IsStep, polled}
+use Rattle.sim_machine.proofs.EventLaws.{change_event-keeps, make-new}
+use Rattle.sim_procs.specs.RecordOf.{RecordOf, change_record}
+use Rattle.sim_kernel.specs.declared.mode.Unit.TheVariants as unit
+use Rattle.sim_kernel.specs.Same.{SameCalendar}
+use Rattle.sim_kernel.specs.PartsOf.{PartsOf, IsRunning, plan_of}
+use Rattle.sim_kernel.specs.StandsFor.{StandsFor, LawfulOf, Moves}
+use Rattle.sim_kernel.specs.Polling.{Asks, Pauses}
+use Rattle.sim_kernel.proofs.SameCalendars.{same_trans, same_register, same_timeout, next_same}
+use Rattle.sim_kernel.proofs.Polls.{polled_step, changed_stands, body_stands, told_stands}
+
+-- a timeout is not processed as soon as it is made
+new_unprocessed : (delay value : ℤ) (c : Calendar) → is_processed (make_timeout delay value c) (next_event c) ≡ false
+new_unprocessed delay value c = ?
+
+timeouts_same : (delay value : ℤ) (p : ProcId) (a b d : Calendar) → SameCalendar a b → SameCalendar d (register (next_event a) (callback.Resume p) (make_timeout delay value a)) → SameCalendar d (register (next_event b) (callback.Resume p) (make_timeout delay value b))
+timeouts_same delay value p a b d h k =
+    let P : EventId → Type 0 = λ e. SameCalendar d (register e (callback.Resume p) (make_timeout delay value b)) in
+    subst P (next_same a b h) (same_trans d (register (next_event a) (callback.Resume p) (make_timeout delay value a)) (register (next_event a) (callback.Resume p) (make_timeout delay value b)) k (same_register (next_event a) (callback.Resume p) (make_timeout delay value a) (make_timeout delay value b) (same_timeout delay value a b h)))
+
+made_stands : {B Code : Type 0} (old new : PartsOf B Code) (s : State B) (p : ProcId) (delay value : ℤ) → Pauses p delay value old new → StandsFor old s → StandsFor new (wait (next_event s.facilities.calendar) p (record s { facilities = record s.facilities { calendar = make_timeout delay value s.facilities.calendar } }))
+made_stands old new s p delay value k st =
+    let e : EventId = next_event s.facilities.calendar in
+    let same : next_event old.calendar ≡ e = next_same old.calendar s.facilities.calendar st.calendar in
+    let changed = changed_stands old s p (λ r. record r { target = e }) (λ x. record x { target = e }) (λ r. refl) (λ r. refl) (λ r. refl) st in
+    let live : new.live ≡ change_record p (λ r. record r { target = e }) old.live = k.live ∙ ap (λ (t : EventId). change_record p (λ r. record r { target = t }) old.live) same in
+    rw (new_unprocessed delay value s.facilities.calendar) (rw k.others (record {
+      calendar = timeouts_same delay value p old.calendar s.facilities.calendar new.calendar st.calendar k.calendar;
+      processed = st.processed;
+      generator = st.generator;
+      processes = rw live changed.processes;
+      scopes = rw live changed.scopes;
+      control = k.control ∙ ap not_active st.control;
+      waiters = st.waiters;
+      ledger = st.ledger;
+    }))
+
+pause_stands : {B Code : Type 0} (old new : PartsOf B Code) (s : State B) (p : ProcId) (delay value : ℤ) (b d : Bool) → int_lt delay (pos 0) ≡ b → is_too_late delay old.calendar ≡ d → (b ≡ true → new ≡ record old { control = told_more (signal.Raised 1) old.control }) → (b ≡ false → d ≡ true → new ≡ record old { control = told_more (signal.Raised 9) old.control }) → (b ≡ false → d ≡ false → Pauses p delay value old new) → StandsFor old s → StandsFor new (with_timeout delay value (λ e t. wait e p t) s)
+pause_stands old new s p delay value true d h l negative late made st = rw (h, negative refl) (told_stands old s (signal.Raised 1) st)
+pause_stands old new s p delay value false true h l negative late made st =
+    let too_late : is_too_late delay s.facilities.calendar ≡ true = rw (← st.calendar.time) l in
+    rw (h, too_late, late refl refl) (told_stands old s (signal.Raised 9) st)
+pause_stands old new s p delay value false false h l negative late made st =
+    let in_time : is_too_late delay s.facilities.calendar ≡ false = rw (← st.calendar.time) l in
+    rw (h, in_time) (made_stands old new s p delay value (made refl refl) st)
