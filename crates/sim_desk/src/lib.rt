@@ -6,6 +6,7 @@ mod line;
 mod name;
 mod number;
 mod reader;
+mod routine;
 mod sketch;
 mod step;
 mod text;
