@@ -5,3 +5,5 @@ mod FirstLines
 pub mod Processes
 pub mod LineTexts
 mod PlainScenarios
+mod SetupFits
+mod WorkedRuns

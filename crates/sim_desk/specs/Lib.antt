@@ -1,5 +1,6 @@
 pub mod Asked
 pub mod Bounds
+pub mod Headline
 pub mod Names
 pub mod Numbers
 pub mod Plain

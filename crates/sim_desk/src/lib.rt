@@ -7,6 +7,7 @@ mod name;
 mod number;
 mod reader;
 mod routine;
+mod setup;
 mod sketch;
 mod step;
 mod text;
