@@ -5,5 +5,6 @@ mod FirstLines
 pub mod Processes
 pub mod LineTexts
 mod PlainScenarios
-mod SetupFits
+pub mod SetupFits
 mod WorkedRuns
+pub mod RoutineAsks
