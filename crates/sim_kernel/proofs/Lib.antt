@@ -8,3 +8,4 @@ pub mod Running
 pub mod SameCalendars
 pub mod Polls
 pub mod Pausing
+pub mod Ending

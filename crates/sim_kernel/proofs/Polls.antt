@@ -26,6 +26,7 @@ use Rattle.sim_machine.specs.Processes.{process_at, with_body, change_process, t
 use Rattle.sim_machine.specs.Effect.{draw, drawn_number}
 use Rattle.sim_machine.specs.Tellings.{Telling}
 use Rattle.sim_machine.specs.Steps.{Turn, IsStepAt, IsStep, polled}
+use Rattle.sim_machine.proofs.KeptTimesCases.{draw_cases}
 use Rattle.sim_procs.specs.RecordOf.{RecordOf, record_of, change_record}
 use Rattle.sim_kernel.specs.declared.mode.Unit.TheVariants as unit
 use Rattle.sim_kernel.specs.PartsOf.{PartsOf, IsRunning, plan_of}
@@ -37,13 +38,13 @@ use Rattle.sim_kernel.proofs.Running.{process_found}
 -- ---- the process that runs is polled
 
 -- the process that runs, and what is left to call
-running_is : (c : Control) (event : EventId) (p : ProcId) (told : Signal) → IsRunning event p told c → (left : List Callback) × (c ≡ Active event left p told)
+pub running_is : (c : Control) (event : EventId) (p : ProcId) (told : Signal) → IsRunning event p told c → (left : List Callback) × (c ≡ Active event left p told)
 running_is Idle event p told h = absurd h
 running_is (Calling e left) event p told h = absurd h
 running_is (Active e left q x) event p told h = (left, rw (h.0, h.1, h.2) refl)
 running_is (Over why e left) event p told h = absurd h
 
-found_record : {B : Type 0} (o : Option (RecordOf B)) (body : B) → option_map (λ r. r.body) o ≡ Some body → (r : RecordOf B) × (o ≡ Some r) × (r.body ≡ body)
+pub found_record : {B : Type 0} (o : Option (RecordOf B)) (body : B) → option_map (λ r. r.body) o ≡ Some body → (r : RecordOf B) × (o ≡ Some r) × (r.body ≡ body)
 found_record None body h = absurd (none-some body h)
 found_record (Some r) body h = (r, refl, same_Some _ body h)
 
@@ -178,15 +179,15 @@ draw_stands filled owned old new s lo hi false h empty drawn st =
     let number : ℤ = drawn_number (pcg64 old.generator).0 lo hi in
     rw (h, drawn refl) (rw (← st.generator) (told_stands (record old { generator = (pcg64 old.generator).1 }) (record s { drawn = s.drawn + 1 }) (signal.Number number) (drawn_stands old s st)))
 
-pub draw_moves : {B Code : Type 0} (filled : Code → ℕ → List ℤ → B) (owned : B → ProcId → B) (tell : Code → Telling B) (sound : Code → B → Type 0) (turn : Turn B) (old mid new : PartsOf B Code) (event : EventId) (p : ProcId) (told : Signal) (lo hi : ℤ) → IsRunning event p told old.control → Asks turn p told old (op.Draw lo hi) mid → (IsTrue (int_lt hi lo) → new ≡ record mid { control = told_more (signal.Raised 8) mid.control }) → (IsFalse (int_lt hi lo) → new ≡ record mid { generator = (pcg64 mid.generator).1; control = told_more (signal.Number (drawn_number (pcg64 mid.generator).0 lo hi)) mid.control }) → Moves filled owned tell sound (IsStep (plan_of filled owned old) turn) old unit.Quiet new
-draw_moves filled owned tell sound turn old mid new event p told lo hi running a empty drawn =
+pub draw_moves : {B Code : Type 0} (filled : Code → ℕ → List ℤ → B) (owned : B → ProcId → B) (tell : Code → Telling B) (sound : Code → B → Type 0) (turn : Turn B) (old mid new : PartsOf B Code) (event : EventId) (p : ProcId) (told : Signal) (lo hi low high : ℤ) → IsRunning event p told old.control → Asks turn p told old (op.Draw lo hi) mid → low ≡ lo → high ≡ hi → (IsTrue (int_lt high low) → new ≡ record mid { control = told_more (signal.Raised 8) mid.control }) → (IsFalse (int_lt high low) → new ≡ record mid { generator = (pcg64 mid.generator).1; control = told_more (signal.Number (drawn_number (pcg64 mid.generator).0 low high)) mid.control }) → Moves filled owned tell sound (IsStep (plan_of filled owned old) turn) old unit.Quiet new
+draw_moves filled owned tell sound turn old mid new event p told lo hi low high running a is_low is_high empty drawn =
     record {
       each = λ s h st. record {
         state = polled (plan_of filled owned old) p (op.Draw lo hi) a.later s;
         stepped = polled_step filled owned tell sound turn old mid event p told (op.Draw lo hi) s running a h st;
         stands =
             draw_stands filled owned (record old { live = change_record p (λ r. record r { body = a.later }) old.live }) new (with_body p a.later s) lo hi (int_lt hi lo) refl
-            (rw a.others at empty) (rw a.others at drawn) (body_stands old s p a.later st);
-        lines = ?;
+            (rw (is_low, is_high, a.others) at empty) (rw (is_low, is_high, a.others) at drawn) (body_stands old s p a.later st);
+        lines = draw_cases (λ t. t.lines ≡ s.lines ++ []) (plan_of filled owned old) lo hi (with_body p a.later s) (rw append-nil) (λ h. rw append-nil);
       };
     }
