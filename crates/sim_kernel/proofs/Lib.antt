@@ -9,3 +9,5 @@ pub mod SameCalendars
 pub mod Polls
 pub mod Pausing
 pub mod Ending
+pub mod Opened
+pub mod StepsKeep

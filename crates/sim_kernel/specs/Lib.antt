@@ -5,3 +5,5 @@ pub mod PartsOf
 pub mod StandsFor
 pub mod Built
 pub mod Polling
+pub mod Resting
+pub mod Holding

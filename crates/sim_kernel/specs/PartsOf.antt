@@ -72,6 +72,12 @@ abbrev pub IsRunningAt : EventId → Control → Type 0
 IsRunningAt event (Active e left p x) = e ≡ event
 IsRunningAt event _ = ⊥
 
+-- two kernels were opened with the same code, setup and seed
+pub record IsOpenedAs {B Code : Type 0} (old new : PartsOf B Code) : Type 0 where
+  pub code : new.code ≡ old.code
+  pub setup : new.setup ≡ old.setup
+  pub seed : new.seed ≡ old.seed
+
 -- room for all that one unit takes
 pub record HasUnitRoom {B Code : Type 0} (parts : PartsOf B Code) : Type 0 where
   pub calendar : HasRoom 1 parts.room.calendar
@@ -80,3 +86,8 @@ pub record HasUnitRoom {B Code : Type 0} (parts : PartsOf B Code) : Type 0 where
 -- the plan of the machine that a kernel was opened with, by how a body is filled and told its number
 abbrev pub plan_of : {B Code : Type 0} → (Code → ℕ → List ℤ → B) → (B → ProcId → B) → PartsOf B Code → Plan B
 plan_of filled owned parts = record { setup = parts.setup; word = word_of parts.seed; start = λ kind args id. owned (filled parts.code kind args) id }
+
+-- a kernel, and how many units it has made
+pub record KernelOf (B Code : Type 0) : Type 0 where
+  pub parts : PartsOf B Code
+  pub units : ℕ

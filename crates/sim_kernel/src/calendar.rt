@@ -1,4 +1,4 @@
-ghost use Rattle.std.specs.Prelude.{◌≡◌, true, ℕ, ◌+◌, ◌<◌, ◌≤◌, ◌^◌, pos, ◌≤ℤ◌, ◌+ℤ◌, length, IfOk, OnOk, List, [], All, filter, not, ◌==◌, ◌&&◌, MatchOption};
+ghost use Rattle.std.specs.Prelude.{◌≡◌, ◌↔◌, IsTrue, true, ℕ, ◌+◌, ◌<◌, ◌≤◌, ◌^◌, pos, ◌≤ℤ◌, ◌+ℤ◌, length, IfOk, OnOk, List, [], All, filter, not, ◌==◌, ◌&&◌, MatchOption};
 ghost use Rattle.std.specs.VecDeque.{deque_capacity};
 ghost use Rattle.sim_machine.specs.Events as events;
 ghost use Rattle.sim_machine.specs.Triggering as triggering;
@@ -90,6 +90,13 @@ impl Calendar {
         ensures { self.new ≡ record self.old { calendar = events.defuse event self.old.calendar } }
     {
         self.events[event.0 as usize].defuse();
+    }
+
+    /// Whether the agenda is empty.
+    pub(crate) fn is_empty(&self) -> bool
+        ensures { IsTrue result ↔ (self.now.calendar.agenda ≡ []) }
+    {
+        self.agenda.is_empty()
     }
 
     /// How many callbacks are registered.

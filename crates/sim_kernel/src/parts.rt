@@ -11,15 +11,16 @@ ghost use Rattle.sim_machine.specs.Triggering.{is_too_late};
 ghost use Rattle.sim_procs.specs.RecordOf.{record_of};
 ghost use Rattle.sim_kernel.specs.Built.{AsksForBuilt, HasBuiltCallbacks};
 ghost use Rattle.sim_kernel.specs.CalendarOf.{HasRoom};
+ghost use Rattle.sim_kernel.specs.Resting.{can_step, rest_of};
 ghost use Rattle.sim_kernel.specs.Polling.{Asks, Pauses, Ends};
 ghost use Rattle.sim_machine.specs.Steps.{IsStep, signal_by};
 ghost use Rattle.sim_types.specs.declared.line.End.TheVariants as end;
-ghost use Rattle.sim_kernel.specs.PartsOf.{HasUnitRoom, IsCalling, IsRunning, IsRunningIn, IsRunningAt, is_unhandled, plan_of};
+ghost use Rattle.sim_kernel.specs.PartsOf.{HasUnitRoom, IsOpenedAs, IsCalling, IsRunning, IsRunningIn, IsRunningAt, is_unhandled, plan_of};
 ghost use Rattle.sim_kernel.specs.StandsFor.{StandsForSome, Moves};
 
 use crate::calendar::Calendar;
 use crate::draw::number_between;
-use crate::mode::{Mode, Unit};
+use crate::mode::{Mode, Rest, Unit};
 use rand_core::utils::NextWord;
 use rand_pcg::Pcg64;
 use sim_memo::Memo;
@@ -77,6 +78,7 @@ impl<B: Body> Parts<B> {
         requires room { HasUnitRoom self.old }
         requires number { self.old.processed < 2 ^ 62 }
         ensures moves { Moves B.filled B.owned B.tell B.sound (IsStep (plan_of B.filled B.owned self.old) (B.turn self.old.code)) self.old result self.new }
+        ensures opened { IsOpenedAs self.old self.new }
     {
         match self.calendar.pop(&mut self.left) {
             None => unreachable!(),
@@ -132,6 +134,7 @@ impl<B: Body> Parts<B> {
         requires calling { IsCalling event self.old.control }
         requires built { HasBuiltCallbacks self.old }
         ensures moves { Moves B.filled B.owned B.tell B.sound (IsStep (plan_of B.filled B.owned self.old) (B.turn self.old.code)) self.old Unit.Quiet self.new }
+        ensures opened { IsOpenedAs self.old self.new }
     {
         match self.left.pop_front() {
             None => self.settle(event),
@@ -168,6 +171,7 @@ impl<B: Body> Parts<B> {
         ensures negative { IsTrue (int_lt delay (pos 0)) → self.new ≡ record self.old { control = told_more (Signal.Raised 1) self.old.control } }
         ensures late { IsFalse (int_lt delay (pos 0)) → IsTrue (is_too_late delay self.old.calendar) → self.new ≡ record self.old { control = told_more (Signal.Raised 9) self.old.control } }
         ensures made { IsFalse (int_lt delay (pos 0)) → IsFalse (is_too_late delay self.old.calendar) → Pauses process delay value self.old self.new }
+        ensures opened { IsOpenedAs self.old self.new }
     {
         if delay < 0 {
             self.tell(event, process, Signal::Raised(1));
@@ -188,6 +192,7 @@ impl<B: Body> Parts<B> {
         requires running { IsRunningIn event process self.old.control }
         ensures empty { IsTrue (int_lt hi lo) → self.new ≡ record self.old { control = told_more (Signal.Raised 8) self.old.control } }
         ensures drawn { IsFalse (int_lt hi lo) → self.new ≡ record self.old { generator = (pcg64 self.old.generator).1; control = told_more (Signal.Number (drawn_number (pcg64 self.old.generator).0 lo hi)) self.old.control } }
+        ensures opened { IsOpenedAs self.old self.new }
     {
         if hi < lo {
             self.tell(event, process, Signal::Raised(8));
@@ -206,7 +211,8 @@ impl<B: Body> Parts<B> {
         requires number { self.old.calendar.scheduled < 2 ^ 62 }
         requires low { pos 0 ≤ℤ self.old.calendar.time }
         requires high { self.old.calendar.time ≤ℤ pos (2 ^ 62) }
-        ensures { Ends process outcome self.old self.new }
+        ensures ended { Ends process outcome self.old self.new }
+        ensures opened { IsOpenedAs self.old self.new }
     {
         match self.processes.take(process) {
             Some(record) => record.end(),
@@ -223,13 +229,15 @@ impl<B: Body> Parts<B> {
         requires stands { StandsForSome B.filled B.owned B.tell B.sound self.old }
         requires running { IsRunning event process told self.old.control }
         requires events { length self.old.calendar.events < 2 ^ 62 }
-        ensures { Asks (B.turn self.old.code) process told self.old result self.new }
+        ensures asked { Asks (B.turn self.old.code) process told self.old result self.new }
+        ensures opened { IsOpenedAs self.old self.new }
     {
         let time = self.calendar.time();
         self.processes.body_mut(process).poll(code, time, told)
     }
 
     // Polls the running process, and does what it asks for.
+    #[tactic(auto, using(crate::proofs::Opened::opened_then))]
     fn poll(&mut self, code: &B::Code, event: EventId, process: ProcId, told: Signal) -> Unit
         requires code { code.now ≡ self.old.code }
         requires stands { StandsForSome B.filled B.owned B.tell B.sound self.old }
@@ -239,6 +247,7 @@ impl<B: Body> Parts<B> {
         requires events { length self.old.calendar.events < 2 ^ 62 }
         requires number { self.old.calendar.scheduled < 2 ^ 62 }
         ensures moves { Moves B.filled B.owned B.tell B.sound (IsStep (plan_of B.filled B.owned self.old) (B.turn self.old.code)) self.old result self.new }
+        ensures opened { IsOpenedAs self.old self.new }
     {
         match self.ask(code, event, process, told) {
             Op::Nop => self.tell(event, process, Signal::Done),
@@ -258,5 +267,42 @@ impl<B: Body> Parts<B> {
             _ => unreachable!(),
         }
         Unit::Quiet
+    }
+
+    /// Where the kernel stands.
+    pub(crate) fn rest_now(&self) -> Rest
+        ensures { result ≡ rest_of self.now.control self.now.calendar.agenda }
+    {
+        match self.mode {
+            Mode::Idle if self.calendar.is_empty() => Rest::Empty,
+            Mode::Idle => Rest::Idle,
+            Mode::Calling(_) | Mode::Active(_, _, _) => Rest::Busy,
+            Mode::Over(why, _) => Rest::Over(why),
+        }
+    }
+
+    /// One unit: an event is popped, a callback is called, an event is settled, or a process is polled.
+    pub(crate) fn unit(&mut self, code: &B::Code) -> Unit
+        requires code { code.now ≡ self.old.code }
+        requires stands { StandsForSome B.filled B.owned B.tell B.sound self.old }
+        requires can { IsTrue (can_step (rest_of self.old.control self.old.calendar.agenda)) }
+        requires asks { AsksForBuilt (B.turn code.now) }
+        requires built { HasBuiltCallbacks self.old }
+        requires room { HasUnitRoom self.old }
+        requires events { length self.old.calendar.events < 2 ^ 62 }
+        requires scheduled { self.old.calendar.scheduled < 2 ^ 62 }
+        requires processed { self.old.processed < 2 ^ 62 }
+        ensures moves { Moves B.filled B.owned B.tell B.sound (IsStep (plan_of B.filled B.owned self.old) (B.turn self.old.code)) self.old result self.new }
+        ensures opened { IsOpenedAs self.old self.new }
+    {
+        match self.mode {
+            Mode::Idle => self.pop(),
+            Mode::Calling(event) => {
+                self.call(event);
+                Unit::Quiet
+            }
+            Mode::Active(event, process, told) => self.poll(code, event, process, told),
+            Mode::Over(_, _) => unreachable!(),
+        }
     }
 }
