@@ -1,5 +1,5 @@
--- Each unit adds lines at the end or none, so a longer run writes what a shorter one wrote, and more.
-use Rattle.std.proofs.Common.{◌≡◌, ℕ, suc, ℤ, arith, Bool, true, false, List, [], ◌∷◌, ◌++◌, Option, Some, None, refl, sym, ◌∙◌, if◌then◌else◌, append-nil}
+-- Each unit adds a line at the end, or none.
+use Rattle.std.proofs.Common.{◌≡◌, ℕ, ℤ, arith, Bool, true, false, List, [], ◌∷◌, ◌++◌, Option, Some, None, refl, sym, ◌∙◌, if◌then◌else◌, append-nil, length, ◌≤◌}
 use Rattle.std.specs.Prelude.{fold, find}
 use Rattle.sim_machine.specs.Events.{is_same}
 use Rattle.sim_machine.specs.Users.{first_of_list}
@@ -22,7 +22,6 @@ use Rattle.sim_machine.specs.Effect.{calendar, tell_made, with_timeout, with_mov
 use Rattle.sim_machine.specs.Steps.{TurnFunction, pop_if_any, poll_if_any, step_at, call, call_or_settle}
 use Rattle.sim_machine.specs.Units.{Course, due_arrival, unit_at, unit_of}
 use Rattle.sim_machine.specs.Agenda.{due}
-use Rattle.sim_machine.specs.Runs.{after_units}
 
 if_lines : {B : Type 0} (ls : List Line) (b : Bool) (x y : State B) → x.lines ≡ ls → y.lines ≡ ls → (if b then x else y).lines ≡ ls
 if_lines ls true x y p q = p
@@ -52,48 +51,51 @@ close_all_lines : {B : Type 0} (xs : List OpenScope) (s : State B) → (fold clo
 close_all_lines [] s = refl
 close_all_lines (x ∷ xs) s = close_all_lines xs (close_scope s x)
 
--- what was written stays, and more may come behind
-abbrev pub Grows : List Line → List Line → Type 0
-Grows before after = (added : List Line) × (after ≡ before ++ added)
+-- what was written stays, and at most one line comes behind
+abbrev pub AddsAtMostOne : List Line → List Line → Type 0
+AddsAtMostOne before after = (added : List Line) × (length added ≤ 1) × (after ≡ before ++ added)
 
-grows_not : (ls ms : List Line) → ms ≡ ls → Grows ls ms
-grows_not ls ms h = ([], h ∙ sym (append-nil ls))
+adds_none : (before after : List Line) → after ≡ before → AddsAtMostOne before after
+adds_none before after h = ([], omega arith, h ∙ sym (append-nil before))
+
+adds_one : (before : List Line) (x : Line) → AddsAtMostOne before (before ++ x ∷ [])
+adds_one before x = (x ∷ [], omega arith, refl)
 
 abbrev stripped : {B : Type 0} → ProcId → State B → State B
 stripped q s = let t = stop_waiting q s in record t { control = strip_resume q t.control }
 
-pub effect_grows : {B : Type 0} (g : Plan B) (p : ProcId) (o : Op) (s : State B) → Grows s.lines (effect g p o s).lines
-effect_grows g p op.Nop s = grows_not _ _ refl
-effect_grows g p (op.Timeout delay value) s = grows_not _ _ (timeout_lines delay value tell_made s (λ e t. refl))
-effect_grows g p (op.Pause delay value) s = grows_not _ _ (timeout_lines delay value (λ e t. wait e p t) s (λ e t. wait_lines e p t))
-effect_grows g p (op.Wait e) s = grows_not _ _ (wait_lines e p s)
-effect_grows g p op.NewEvent s = grows_not _ _ refl
-effect_grows g p (op.Succeed e value) s = grows_not _ _ (grind arith)
-effect_grows g p (op.Fail e code) s = grows_not _ _ (grind arith)
-effect_grows g p (op.Spawn k args) s = grows_not _ _ refl
-effect_grows g p (op.Interrupt q cause) s = grows_not _ _ (another_lines p q (on_events (make_interruption q (record { kind = 1; value = cause }))) s refl)
-effect_grows g p (op.Drop q value) s = grows_not _ _ (another_lines p q (drop_process q value) s (close_all_lines (scopes_inwards q (stripped q s)) (stripped q s)))
-effect_grows g p (op.AllOf members) s = grows_not _ _ (grind arith)
-effect_grows g p (op.AnyOf members) s = grows_not _ _ (grind arith)
-effect_grows g p (op.Has cond e) s = grows_not _ _ refl
-effect_grows g p (op.Enter res priority preempts) s = grows_not _ _ (grind arith)
-effect_grows g p op.Leave s = grows_not _ _ (close_lines (first_of_list (scopes_inwards p s)) s)
-effect_grows g p (op.Release request) s = grows_not _ _ (release_lines (find (λ x. is_same x.request request) s.scopes) s)
-effect_grows g p (op.Put res amount priority) s = grows_not _ _ (move_lines g res amount (make_put g.setup.resources res amount priority) tell_made s (λ e t. refl))
-effect_grows g p (op.PutWait res amount priority) s = grows_not _ _ (move_lines g res amount (make_put g.setup.resources res amount priority) (λ e t. wait e p t) s (λ e t. wait_lines e p t))
-effect_grows g p (op.Get res least greatest) s = grows_not _ _ (move_lines g res least (make_get g.setup.resources res least greatest) tell_made s (λ e t. refl))
-effect_grows g p (op.GetWait res least greatest) s = grows_not _ _ (move_lines g res least (make_get g.setup.resources res least greatest) (λ e t. wait e p t) s (λ e t. wait_lines e p t))
-effect_grows g p (op.Cancel e) s = grows_not _ _ refl
-effect_grows g p (op.Count res) s = grows_not _ _ refl
-effect_grows g p (op.Draw lo hi) s = grows_not _ _ (grind arith)
-effect_grows g p (op.Log value) s = (_, refl)
-effect_grows g p (op.Finish value) s = grows_not _ _ refl
-effect_grows g p (op.Die t) s = grows_not _ _ refl
-effect_grows g p (op.Chain e y) s = grows_not _ _ (grind arith)
+pub effect_adds : {B : Type 0} (g : Plan B) (p : ProcId) (o : Op) (s : State B) → AddsAtMostOne s.lines (effect g p o s).lines
+effect_adds g p op.Nop s = adds_none _ _ refl
+effect_adds g p (op.Timeout delay value) s = adds_none _ _ (timeout_lines delay value tell_made s (λ e t. refl))
+effect_adds g p (op.Pause delay value) s = adds_none _ _ (timeout_lines delay value (λ e t. wait e p t) s (λ e t. wait_lines e p t))
+effect_adds g p (op.Wait e) s = adds_none _ _ (wait_lines e p s)
+effect_adds g p op.NewEvent s = adds_none _ _ refl
+effect_adds g p (op.Succeed e value) s = adds_none _ _ (grind arith)
+effect_adds g p (op.Fail e code) s = adds_none _ _ (grind arith)
+effect_adds g p (op.Spawn k args) s = adds_none _ _ refl
+effect_adds g p (op.Interrupt q cause) s = adds_none _ _ (another_lines p q (on_events (make_interruption q (record { kind = 1; value = cause }))) s refl)
+effect_adds g p (op.Drop q value) s = adds_none _ _ (another_lines p q (drop_process q value) s (close_all_lines (scopes_inwards q (stripped q s)) (stripped q s)))
+effect_adds g p (op.AllOf members) s = adds_none _ _ (grind arith)
+effect_adds g p (op.AnyOf members) s = adds_none _ _ (grind arith)
+effect_adds g p (op.Has cond e) s = adds_none _ _ refl
+effect_adds g p (op.Enter res priority preempts) s = adds_none _ _ (grind arith)
+effect_adds g p op.Leave s = adds_none _ _ (close_lines (first_of_list (scopes_inwards p s)) s)
+effect_adds g p (op.Release request) s = adds_none _ _ (release_lines (find (λ x. is_same x.request request) s.scopes) s)
+effect_adds g p (op.Put res amount priority) s = adds_none _ _ (move_lines g res amount (make_put g.setup.resources res amount priority) tell_made s (λ e t. refl))
+effect_adds g p (op.PutWait res amount priority) s = adds_none _ _ (move_lines g res amount (make_put g.setup.resources res amount priority) (λ e t. wait e p t) s (λ e t. wait_lines e p t))
+effect_adds g p (op.Get res least greatest) s = adds_none _ _ (move_lines g res least (make_get g.setup.resources res least greatest) tell_made s (λ e t. refl))
+effect_adds g p (op.GetWait res least greatest) s = adds_none _ _ (move_lines g res least (make_get g.setup.resources res least greatest) (λ e t. wait e p t) s (λ e t. wait_lines e p t))
+effect_adds g p (op.Cancel e) s = adds_none _ _ refl
+effect_adds g p (op.Count res) s = adds_none _ _ refl
+effect_adds g p (op.Draw lo hi) s = adds_none _ _ (grind arith)
+effect_adds g p (op.Log value) s = adds_one _ _
+effect_adds g p (op.Finish value) s = adds_none _ _ refl
+effect_adds g p (op.Die t) s = adds_none _ _ refl
+effect_adds g p (op.Chain e y) s = adds_none _ _ (grind arith)
 
-pop_grows : {B : Type 0} (x : Option Entry) (s : State B) → Grows s.lines (pop_if_any x s).lines
-pop_grows None s = grows_not _ _ refl
-pop_grows (Some x) s = (_, refl)
+pop_adds : {B : Type 0} (x : Option Entry) (s : State B) → AddsAtMostOne s.lines (pop_if_any x s).lines
+pop_adds None s = adds_none _ _ refl
+pop_adds (Some x) s = adds_one _ _
 
 call_lines : {B : Type 0} (g : Plan B) (e : EventId) (x : Callback) (left : List Callback) (s : State B) → (call g e x left s).lines ≡ s.lines
 call_lines g e (callback.Resume p) left s = refl
@@ -109,24 +111,20 @@ call_or_settle_lines : {B : Type 0} (g : Plan B) (e : EventId) (left : List Call
 call_or_settle_lines g e [] s = refl
 call_or_settle_lines g e (x ∷ left) s = call_lines g e x left s
 
-poll_grows : {B : Type 0} (g : Plan B) (turn : TurnFunction B) (p : ProcId) (x : Signal) (o : Option (ProcessOf B)) (s : State B) → Grows s.lines (poll_if_any g turn p x o s).lines
-poll_grows g turn p x None s = grows_not _ _ refl
-poll_grows g turn p x (Some y) s = effect_grows g p (turn y.body (calendar s).time x).0 (with_body p (turn y.body (calendar s).time x).1 s)
+poll_adds : {B : Type 0} (g : Plan B) (turn : TurnFunction B) (p : ProcId) (x : Signal) (o : Option (ProcessOf B)) (s : State B) → AddsAtMostOne s.lines (poll_if_any g turn p x o s).lines
+poll_adds g turn p x None s = adds_none _ _ refl
+poll_adds g turn p x (Some y) s = effect_adds g p (turn y.body (calendar s).time x).0 (with_body p (turn y.body (calendar s).time x).1 s)
 
-step_grows : {B : Type 0} (g : Plan B) (turn : TurnFunction B) (s : State B) (c : Control) → Grows s.lines (step_at g turn s c).lines
-step_grows g turn s Idle = pop_grows (due (calendar s).agenda) s
-step_grows g turn s (Calling e left) = grows_not _ _ (call_or_settle_lines g e left s)
-step_grows g turn s (Active e left p x) = poll_grows g turn p x (process_at p s) s
-step_grows g turn s (Over why e left) = grows_not _ _ refl
+step_adds : {B : Type 0} (g : Plan B) (turn : TurnFunction B) (s : State B) (c : Control) → AddsAtMostOne s.lines (step_at g turn s c).lines
+step_adds g turn s Idle = pop_adds (due (calendar s).agenda) s
+step_adds g turn s (Calling e left) = adds_none _ _ (call_or_settle_lines g e left s)
+step_adds g turn s (Active e left p x) = poll_adds g turn p x (process_at p s) s
+step_adds g turn s (Over why e left) = adds_none _ _ refl
 
-unit_grows_at : {B : Type 0} (g : Plan B) (turn : TurnFunction B) (m : Course B) (o : Option Arrival) → Grows m.state.lines (unit_at g turn m o).state.lines
-unit_grows_at g turn m None = step_grows g turn m.state m.state.control
-unit_grows_at g turn m (Some a) = (_, refl)
+unit_adds_at : {B : Type 0} (g : Plan B) (turn : TurnFunction B) (m : Course B) (o : Option Arrival) → AddsAtMostOne m.state.lines (unit_at g turn m o).state.lines
+unit_adds_at g turn m None = step_adds g turn m.state m.state.control
+unit_adds_at g turn m (Some a) = adds_one _ _
 
--- a unit more keeps the lines and may add some
-pub unit_grows : {B : Type 0} (g : Plan B) (turn : TurnFunction B) (m : Course B) → Grows m.state.lines (unit_of g turn m).state.lines
-unit_grows g turn m = unit_grows_at g turn m (due_arrival m.state m.left)
-
--- the lines of n units begin those of n + 1
-pub units_grow : {B : Type 0} (g : Plan B) (turn : TurnFunction B) (n : ℕ) (m : Course B) → Grows (after_units g turn n m).state.lines (after_units g turn (suc n) m).state.lines
-units_grow g turn n m = unit_grows g turn (after_units g turn n m)
+-- a unit adds at most one line
+pub unit_adds : {B : Type 0} (g : Plan B) (turn : TurnFunction B) (m : Course B) → AddsAtMostOne m.state.lines (unit_of g turn m).state.lines
+unit_adds g turn m = unit_adds_at g turn m (due_arrival m.state m.left)
