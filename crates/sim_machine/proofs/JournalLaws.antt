@@ -27,10 +27,6 @@ use Rattle.sim_machine.specs.Units.{Course, is_idle, due_arrival, unit_at, unit_
 use Rattle.sim_machine.specs.Agenda.{due}
 use Rattle.sim_machine.specs.Runs.{after_units}
 
-if_processed : {B : Type 0} (n : ℕ) (b : Bool) (x y : State B) → x.processed ≡ n → y.processed ≡ n → (if b then x else y).processed ≡ n
-if_processed n true x y p q = p
-if_processed n false x y p q = q
-
 wait_processed : {B : Type 0} (e : EventId) (p : ProcId) (s : State B) → (wait e p s).processed ≡ s.processed
 wait_processed e p s = grind arith
 

@@ -1,5 +1,5 @@
 -- Each unit adds a line at the end, or none.
-use Rattle.std.proofs.Common.{◌≡◌, ℕ, ℤ, arith, Bool, true, false, List, [], ◌∷◌, ◌++◌, Option, Some, None, refl, sym, ◌∙◌, if◌then◌else◌, append-nil, length, ◌≤◌}
+use Rattle.std.proofs.Common.{◌≡◌, ℕ, ℤ, arith, List, [], ◌∷◌, ◌++◌, Option, Some, None, refl, sym, ◌∙◌, append-nil, length, ◌≤◌}
 use Rattle.std.specs.Prelude.{fold, find}
 use Rattle.sim_machine.specs.Events.{is_same}
 use Rattle.sim_machine.specs.Users.{first_of_list}
@@ -22,10 +22,6 @@ use Rattle.sim_machine.specs.Effect.{calendar, tell_made, with_timeout, with_mov
 use Rattle.sim_machine.specs.Steps.{TurnFunction, pop_if_any, poll_if_any, step_at, call, call_or_settle}
 use Rattle.sim_machine.specs.Units.{Course, due_arrival, unit_at, unit_of}
 use Rattle.sim_machine.specs.Agenda.{due}
-
-if_lines : {B : Type 0} (ls : List Line) (b : Bool) (x y : State B) → x.lines ≡ ls → y.lines ≡ ls → (if b then x else y).lines ≡ ls
-if_lines ls true x y p q = p
-if_lines ls false x y p q = q
 
 wait_lines : {B : Type 0} (e : EventId) (p : ProcId) (s : State B) → (wait e p s).lines ≡ s.lines
 wait_lines e p s = grind arith
