@@ -1,7 +1,8 @@
-ghost use Rattle.std.specs.Prelude.{◌≡◌, ◌≢◌, ℕ, ◌+◌, ◌<◌, ◌≤◌, ◌==◌, List, [], ◌∷◌, ◌++◌, length, IfOk, OnOk, OnErr, IsOk, IfSome, IsSome, MatchOption, IsSomeAnd, is_some, option_and_then, slice_index_or};
+ghost use Rattle.std.specs.Prelude.{◌≡◌, ◌≢◌, ℕ, ◌+◌, ◌<◌, ◌≤◌, ◌==◌, List, [], ◌∷◌, ◌++◌, length, IfOk, OnOk, IsOk, IfSome, IsSome, IsNone, MatchOption, IsSomeAnd, is_some, option_and_then, slice_index_or};
 ghost use Rattle.std.specs.Option.{option_map};
 ghost use Rattle.std.specs.List.{position};
 ghost use Rattle.std.specs.List.Sorted.{IsPermutation};
+ghost use Rattle.sim_types.specs.declared.event.ProcId.{ProcId};
 ghost use Rattle.sim_procs.specs.RecordOf.{RecordOf, record_of, change_record, change_at, scope_of, innermost, without_innermost, StandsAt};
 
 use crate::record::ProcRecord;
@@ -39,17 +40,20 @@ impl<B> Procs<B> {
     pub fn reserve(&mut self) -> Result<(), AllocError>
         ensures live { self.new.live ≡ self.old.live }
         ensures room { OnOk result (1 ≤ self.new.spare) }
+        ensures never_less { self.old.spare ≤ self.new.spare }
         ensures succeeds { 1 ≤ self.old.spare → IsOk result }
     {
         self.records.reserve(1)
     }
 
     /// A process more is alive.
-    #[tactic(auto, using(crate::proofs::Records::added))]
+    #[tactic(auto, using(crate::proofs::Records::added, crate::proofs::Records::found_once_added, crate::proofs::Records::others_once_added))]
     pub fn add(&mut self, id: ProcId, body: B, target: EventId)
         requires room { 1 ≤ self.old.spare }
         requires new { record_of id self.old.live ≡ None }
         ensures live { IsPermutation (record { id = id; body = body; target = target; scopes = [] } ∷ self.old.live) self.new.live }
+        ensures found { record_of id self.new.live ≡ Some (record { id = id; body = body; target = target; scopes = [] }) }
+        ensures others { (other : ProcId) → other.0 ≢ id.0 → record_of other self.new.live ≡ record_of other self.old.live }
         ensures spare { self.new.spare + 1 ≡ self.old.spare }
     {
         self.records
@@ -155,9 +159,14 @@ impl<B> Procs<B> {
     }
 
     /// Takes the record of a process, which is then no longer alive.
-    #[tactic(auto, using(crate::proofs::Records::taken, crate::proofs::Records::taken_apart))]
+    #[tactic(auto, using(crate::proofs::Records::taken, crate::proofs::Records::taken_apart, crate::proofs::Records::gone_once_taken, crate::proofs::Records::others_once_taken))]
     pub fn take(&mut self, id: ProcId) -> Option<ProcRecord<B>>
-        ensures taken { MatchOption result ((record_of id self.old.live ≡ None) × (self.new ≡ self.old)) (λ r. (record_of id self.old.live ≡ Some r) × IsPermutation self.old.live (r ∷ self.new.live)) }
+        ensures taken { result ≡ record_of id self.old.live }
+        ensures none { IsNone result → self.new ≡ self.old }
+        ensures live { IfSome result (λ r. IsPermutation self.old.live (r ∷ self.new.live)) }
+        ensures gone { record_of id self.new.live ≡ None }
+        ensures others { (other : ProcId) → other.0 ≢ id.0 → record_of other self.new.live ≡ record_of other self.old.live }
+        ensures spare { IfSome result (λ r. self.new.spare ≡ self.old.spare + 1) }
     {
         let at = self.place(id)?;
         Some(self.records.swap_remove(at))
