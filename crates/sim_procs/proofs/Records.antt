@@ -118,6 +118,12 @@ pub taken_apart : {B : Type 0} (xs : List (RecordOf B)) (i : ℕ) (x : RecordOf 
 taken_apart xs i x apart below is =
     AllPairs-tail HasOtherId x (swap_remove xs i x) (AllPairs-IsPermutation HasOtherId (λ a b d. λ e. d (sym e)) xs (x ∷ swap_remove xs i x) (taken xs i x below is) apart)
 
+chosen : {X : Type 0} (a b : ℕ) (y x : X) → a ≡ b → cond (a == b) y x ≡ y
+chosen a b y x h = grind (arith, nat_tests)
+
+not_chosen : {X : Type 0} (a b : ℕ) (y x : X) → a ≢ b → cond (a == b) y x ≡ x
+not_chosen a b y x h = grind (arith, nat_tests)
+
 -- ---- what is found once a record was added or taken out
 
 same_number : {B : Type 0} (x y : RecordOf B) → x ≡ y → x.id.0 ≡ y.id.0
@@ -164,3 +170,19 @@ or_none (Some x) = refl
 pub others_once_added : {B : Type 0} (q : ProcId) (x : RecordOf B) (xs : List (RecordOf B)) → q.0 ≢ x.id.0 → record_of q (xs ++ x ∷ []) ≡ record_of q xs
 others_once_added q x xs other =
     find-append (λ r. r.id.0 == q.0) xs (x ∷ []) ∙ rw (skips x.id.0 q.0 (λ e. other (sym e)) None x) (or_none (record_of q xs))
+
+found_in_changed : {B : Type 0} (p : ProcId) (change : RecordOf B → RecordOf B) (x r : RecordOf B) (xs : List (RecordOf B)) → ((y : RecordOf B) → (change y).id.0 ≡ y.id.0) → cond (x.id.0 == p.0) (Some x) (record_of p xs) ≡ Some r → (record_of p xs ≡ Some r → record_of p (change_record p change xs) ≡ Some (change r)) → (x.id.0 ≡ p.0) ⊎ (x.id.0 ≢ p.0) →
+    record_of p (cond (x.id.0 == p.0) (change x) x ∷ change_record p change xs) ≡ Some (change r)
+found_in_changed p change x r xs keeps found later (inl same) =
+    let is : cond (x.id.0 == p.0) (change x) x ≡ change x = chosen x.id.0 p.0 (change x) x same in
+    let here : x ≡ r = same_Some x r (sym (passes x.id.0 p.0 same (record_of p xs) x) ∙ found) in
+    rw is (passes (change x).id.0 p.0 (keeps x ∙ same) (record_of p (change_record p change xs)) (change x) ∙ ap (λ y. Some (change y)) here)
+found_in_changed p change x r xs keeps found later (inr differ) =
+    let is : cond (x.id.0 == p.0) (change x) x ≡ x = not_chosen x.id.0 p.0 (change x) x differ in
+    rw is (skips x.id.0 p.0 differ (record_of p (change_record p change xs)) x ∙ later (sym (skips x.id.0 p.0 differ (record_of p xs) x) ∙ found))
+
+-- a record that is changed, and keeps its number, is found as changed
+pub found_once_changed : {B : Type 0} (p : ProcId) (change : RecordOf B → RecordOf B) (xs : List (RecordOf B)) (r : RecordOf B) → ((y : RecordOf B) → (change y).id.0 ≡ y.id.0) → record_of p xs ≡ Some r → record_of p (change_record p change xs) ≡ Some (change r)
+found_once_changed p change [] r keeps found = absurd (none-some r found)
+found_once_changed p change (x ∷ xs) r keeps found =
+    found_in_changed p change x r xs keeps found (λ h. found_once_changed p change xs r keeps h) (cases_eq x.id.0 p.0)

@@ -50,3 +50,19 @@ found_nowhere request [] zero h = refl
 found_nowhere request [] (suc i) h = refl
 found_nowhere request (x ∷ xs) zero h = absurd (omega (arith, h))
 found_nowhere request (x ∷ xs) (suc i) h = found_nowhere request xs i (omega (arith, h))
+
+never_none : (x : Scope) (xs : List Scope) → innermost (x ∷ xs) ≡ None → ⊥
+never_none x [] h = cc
+never_none x (y ∷ xs) h = never_none y xs h
+
+-- where no scope is the innermost, none is open
+pub none_left : (xs : List Scope) → innermost xs ≡ None → without_innermost xs ≡ []
+none_left [] h = refl
+none_left (x ∷ []) h = refl
+none_left (x ∷ y ∷ xs) h = absurd (never_none x (y ∷ xs) h)
+
+-- one scope fewer is open once the innermost was left
+pub fewer_left : (xs : List Scope) (s : Scope) → innermost xs ≡ Some s → length (without_innermost xs) < length xs
+fewer_left [] s h = absurd (cc)
+fewer_left (x ∷ []) s h = omega arith
+fewer_left (x ∷ y ∷ xs) s h = omega (arith, fewer_left (y ∷ xs) s h)

@@ -8,3 +8,6 @@ mod record;
 pub use body::Body;
 pub use procs::Procs;
 pub use record::ProcRecord;
+
+#[cfg(test)]
+mod tests;
