@@ -52,8 +52,11 @@ impl<B> Procs<B> {
         requires room { 1 ≤ self.old.spare }
         requires new { record_of id self.old.live ≡ None }
         ensures live { IsPermutation (record { id = id; body = body; target = target; scopes = [] } ∷ self.old.live) self.new.live }
+
+        // By their numbers, this one is found, and the others are as before.
         ensures found { record_of id self.new.live ≡ Some (record { id = id; body = body; target = target; scopes = [] }) }
         ensures others { (other : ProcId) → other.0 ≢ id.0 → record_of other self.new.live ≡ record_of other self.old.live }
+
         ensures spare { self.new.spare + 1 ≡ self.old.spare }
     {
         self.records
@@ -164,8 +167,11 @@ impl<B> Procs<B> {
         ensures taken { result ≡ record_of id self.old.live }
         ensures none { IsNone result → self.new ≡ self.old }
         ensures live { IfSome result (λ r. IsPermutation self.old.live (r ∷ self.new.live)) }
+
+        // By their numbers, this one is found no more, and the others are as before.
         ensures gone { record_of id self.new.live ≡ None }
         ensures others { (other : ProcId) → other.0 ≢ id.0 → record_of other self.new.live ≡ record_of other self.old.live }
+
         ensures spare { IfSome result (λ r. self.new.spare ≡ self.old.spare + 1) }
     {
         let at = self.place(id)?;

@@ -171,9 +171,9 @@ fn same_targets(rt: &impl Abort, procs: &Procs<u8>, rows: &[(u64, Option<u64>)])
 
 // Leaves what is open and spends the record.
 #[tactic(auto, using(crate::proofs::Scopes::none_left, crate::proofs::Scopes::fewer_left))]
-fn spent(mut record: ProcRecord<u8>) {
-    while let Some(_scope) = record.pop_scope() {}
-    record.end();
+fn spent(mut taken: ProcRecord<u8>) {
+    while let Some(_scope) = taken.pop_scope() {}
+    taken.end();
 }
 
 // Takes the record of a process and spends it, if the process is alive.
