@@ -73,13 +73,13 @@ told_here : {B : Type 0} (tell : Telling B) (c : Calendar) (b : B) (x told : Sig
 told_here tell c b x told true w h same fits = subst (λ z. told_fits tell c b z ≡ true) same fits
 told_here tell c b x told false w h same fits = absurd (false≢true h)
 
-running_fits : {B : Type 0} (tell : Telling B) (d : Calendar) (event : EventId) (p : ProcId) (told : Signal) (b : B) (c : Control) → IsRunning event p told c → is_told_well tell d p b c ≡ true → told_fits tell d b told ≡ true
+pub running_fits : {B : Type 0} (tell : Telling B) (d : Calendar) (event : EventId) (p : ProcId) (told : Signal) (b : B) (c : Control) → IsRunning event p told c → is_told_well tell d p b c ≡ true → told_fits tell d b told ≡ true
 running_fits tell d event p told b Idle h fits = absurd h
 running_fits tell d event p told b (Calling e left) h fits = absurd h
 running_fits tell d event p told b (Active e left q x) h fits = told_here tell d b x told (is_process q p) _ (running_active event p told (Active e left q x) h) h.2 fits
 running_fits tell d event p told b (Over why e left) h fits = absurd h
 
-fits_told : {B : Type 0} (tell : Telling B) (c : Calendar) (b : B) (x : Signal) → told_fits tell c b x ≡ true → may_be_told (tell.last b) x ≡ true
+pub fits_told : {B : Type 0} (tell : Telling B) (c : Calendar) (b : B) (x : Signal) → told_fits tell c b x ≡ true → may_be_told (tell.last b) x ≡ true
 fits_told tell c b (signal.Made e) h = (four_parts (may_be_told (tell.last b) (signal.Made e)) (was_made c e) (not (is_processed c e)) (makes_kind (tell.last b) (kind_at c e)) h).0
 fits_told tell c b _ h = h
 
