@@ -11,3 +11,4 @@ pub mod Pausing
 pub mod Ending
 pub mod Opened
 pub mod StepsKeep
+pub mod Starting

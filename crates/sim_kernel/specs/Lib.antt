@@ -7,3 +7,4 @@ pub mod Built
 pub mod Polling
 pub mod Resting
 pub mod Holding
+pub mod Opening

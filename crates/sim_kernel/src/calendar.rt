@@ -43,6 +43,25 @@ impl Model for Calendar {
 }
 
 impl Calendar {
+    /// Event 0 and the named events, before anything is scheduled.
+    #[tactic(auto, using(crate::proofs::Starting::replicate_more))]
+    pub(crate) fn opened(alloc: Global, named: u64) -> Result<Calendar, AllocError>
+        ensures { IfOk result (λ c. c.calendar ≡ first_calendar named) }
+    {
+        let mut events = Vec::new(alloc);
+        events.push(Event::zero())?;
+        for made in 0..named {
+            events.push(Event::pending(EventKind::Plain))?;
+        }
+        Ok(Calendar {
+            time: 0,
+            scheduled: 0,
+            agenda: Vec::new(alloc),
+            events,
+            registered: Vec::new(alloc),
+        })
+    }
+
     /// Makes room for so many more events, entries and registrations.
     pub(crate) fn reserve(&mut self, more: usize) -> Result<(), AllocError>
         ensures calendar { self.new.calendar ≡ self.old.calendar }

@@ -1,5 +1,6 @@
 ghost use Rattle.std.specs.Prelude.{◌≡◌, Some, true};
 ghost use Rattle.sim_machine.specs.Events.{pending_event};
+ghost use Rattle.sim_machine.specs.Runs.{event_zero};
 
 use sim_types::{Callback, EventId, EventKind, Outcome};
 use std::marker::Model;
@@ -23,6 +24,18 @@ impl Model for Event {
 }
 
 impl Event {
+    /// Event 0, which is processed and ok from the start.
+    pub(crate) fn zero() -> Event
+        ensures { result ≡ event_zero }
+    {
+        Event {
+            kind: EventKind::Plain,
+            outcome: Some(Outcome::Ok(0)),
+            defused: false,
+            processed: true,
+        }
+    }
+
     /// A pending event.
     pub(crate) fn pending(kind: EventKind) -> Event
         ensures { result ≡ pending_event kind }
