@@ -12,3 +12,7 @@ pub mod Ending
 pub mod Opened
 pub mod StepsKeep
 pub mod Starting
+pub mod Beginning
+pub mod Stopping
+pub mod StartingAll
+pub mod OpeningHolds

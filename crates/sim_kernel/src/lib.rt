@@ -6,6 +6,7 @@ mod calendar;
 mod draw;
 mod event;
 mod mode;
+mod opening;
 mod parts;
 
 pub use mode::{Rest, Unit};

@@ -1,0 +1,101 @@
+-- What the code sets to stop a run is what the machine sets.
+use Rattle.std.proofs.Common.{Some, ◌≡◌, ℕ, ◌+◌, ◌<◌, ◌≤◌, ℤ, pos, true, List, [], ◌∷◌, ◌++◌, length, refl, sym, ap, subst, ◌∙◌, arith}
+use Rattle.std.specs.Prelude.{All, fold}
+use Rattle.std.proofs.lemmas.List.Elements.{All-cons, All-nil, All-append}
+use Rattle.sim_types.specs.declared.event.EventId.{EventId}
+use Rattle.sim_types.specs.declared.event.ProcId.{ProcId}
+use Rattle.sim_types.specs.declared.event.EventKind.TheVariants as kind
+use Rattle.sim_types.specs.declared.event.Outcome.TheVariants as outcome
+use Rattle.sim_types.specs.declared.event.Callback.TheVariants as callback
+use Rattle.sim_types.specs.declared.setup.Until.{Until}
+use Rattle.sim_types.specs.declared.setup.Until.TheVariants as until
+use Rattle.sim_machine.specs.State.{Calendar, Registration, State, Plan}
+use Rattle.sim_machine.specs.Events.{next_event, register}
+use Rattle.sim_machine.specs.Triggering.{urgent, make, schedule}
+use Rattle.sim_machine.specs.Scopes.{on_events}
+use Rattle.sim_machine.specs.Runs.{blank_state, start_process, set_stop, opening}
+use Rattle.sim_machine.proofs.EventLaws.{change_event-length, make-length}
+use Rattle.sim_kernel.specs.Built.{HasBuiltCallbacks, IsBounded, is_built_callback, most_opened}
+use Rattle.sim_kernel.specs.Same.{SameCalendar}
+use Rattle.sim_kernel.specs.PartsOf.{PartsOf, plan_of}
+use Rattle.sim_kernel.specs.StandsFor.{StandsFor}
+use Rattle.sim_kernel.proofs.SameCalendars.{same_trans, same_make, same_register, same_schedule, next_same}
+
+pub same_stop : (x : Until) (a b : Calendar) → SameCalendar a b → SameCalendar (set_stop x a) (set_stop x b)
+same_stop until.Never a b h = h
+same_stop (until.At time) a b h =
+    let P : EventId → Type 0 = λ e. SameCalendar (set_stop (until.At time) a) (schedule e (outcome.Ok (pos 0)) urgent time (register e callback.Stop (make kind.Stop b))) in
+    subst P (next_same a b h) (same_schedule (next_event a) (outcome.Ok (pos 0)) urgent time _ _ (same_register (next_event a) callback.Stop _ _ (same_make kind.Stop a b h)))
+same_stop (until.Event e) a b h = same_register e callback.Stop a b h
+
+-- what is to stop the run is set in a calendar, and all else stays
+pub record StopsBy {B Code : Type 0} (x : Until) (old new : PartsOf B Code) : Type 0 where
+  pub kept : new ≡ record old { calendar = new.calendar; room = new.room }
+  pub calendar : SameCalendar new.calendar (set_stop x old.calendar)
+
+pub stop_stands : {B Code : Type 0} (x : Until) (old new : PartsOf B Code) (s : State B) → StopsBy x old new → StandsFor old s → StandsFor new (on_events (set_stop x) s)
+stop_stands {B} {Code} x old new s h st =
+    record {
+      calendar = same_trans new.calendar (set_stop x old.calendar) (set_stop x s.facilities.calendar) h.calendar (same_stop x old.calendar s.facilities.calendar st.calendar);
+      processed = ap (λ (n : PartsOf B Code). n.processed) h.kept ∙ st.processed;
+      generator = rw h.kept st.generator;
+      processes = rw h.kept st.processes;
+      scopes = rw h.kept st.scopes;
+      control = ap (λ (n : PartsOf B Code). n.control) h.kept ∙ st.control;
+      waiters = st.waiters;
+      ledger = st.ledger;
+    }
+
+abbrev IsBuilt : Registration → Type 0
+IsBuilt r = is_built_callback r.callback ≡ true
+
+with_stop : (e : EventId) (rs : List Registration) → All IsBuilt rs → All IsBuilt (rs ++ record { event = e; callback = callback.Stop } ∷ [])
+with_stop e rs h =
+    let r : Registration = record { event = e; callback = callback.Stop } in
+    All-append IsBuilt rs (r ∷ []) h (All-cons IsBuilt r [] refl (All-nil IsBuilt))
+
+stop_registered : (x : Until) (c : Calendar) → All IsBuilt c.registered → All IsBuilt (set_stop x c).registered
+stop_registered until.Never c h = h
+stop_registered (until.At time) c h = with_stop (next_event c) c.registered h
+stop_registered (until.Event e) c h = with_stop e c.registered h
+
+pub stop_built : {B Code : Type 0} (x : Until) (old new : PartsOf B Code) → StopsBy x old new → HasBuiltCallbacks old → HasBuiltCallbacks new
+stop_built x old new h built =
+    record {
+      registered = rw h.calendar.registered (stop_registered x old.calendar built.registered);
+      left = rw h.kept built.left;
+    }
+
+-- once all that run from the start are started, the kernel stands for the opening state
+pub opened_stands : {B Code : Type 0} (filled : Code → ℕ → List ℤ → B) (owned : B → ProcId → B) (first old new : PartsOf B Code) (x : Until) → x ≡ first.setup.until → old ≡ record first { calendar = old.calendar; live = old.live; room = old.room } → StopsBy x old new → StandsFor old (fold (start_process (plan_of filled owned first)) (blank_state (plan_of filled owned first)) first.setup.starts) → StandsFor new (opening (plan_of filled owned new))
+opened_stands {B} {Code} filled owned first old new x is kept stops st =
+    let g : Plan B = plan_of filled owned first in
+    let s : State B = fold (start_process g) (blank_state g) g.setup.starts in
+    let plan : PartsOf B Code → Plan B = λ parts. plan_of filled owned parts in
+    let same : plan new ≡ g = ap plan stops.kept ∙ ap plan kept in
+    let P : Until → Type 0 = λ y. StandsFor new (on_events (set_stop y) s) in
+    let Q : Plan B → Type 0 = λ h. StandsFor new (opening h) in
+    subst Q (sym same) (subst P is (stop_stands x old new s stops st))
+
+-- ---- numbers
+
+stop_events : (x : Until) (c : Calendar) → length (set_stop x c).events ≤ length c.events + 1
+stop_events until.Never c = omega arith
+stop_events (until.At time) c = omega (arith, change_event-length (next_event c) (λ y. record y { outcome = Some (outcome.Ok (pos 0)) }) (make kind.Stop c), make-length kind.Stop c)
+stop_events (until.Event e) c = omega arith
+
+stop_scheduled : (x : Until) (c : Calendar) → (set_stop x c).scheduled ≤ c.scheduled + 1
+stop_scheduled until.Never c = omega arith
+stop_scheduled (until.At time) c = omega arith
+stop_scheduled (until.Event e) c = omega arith
+
+-- what is to stop the run makes one event at most
+pub stop_bounded : {B Code : Type 0} (x : Until) (old new : PartsOf B Code) → StopsBy x old new → length old.calendar.events < most_opened → old.calendar.scheduled < most_opened → old.processed ≡ 0 → IsBounded 0 new
+stop_bounded {B} {Code} x old new h events scheduled processed =
+    let made : length new.calendar.events ≡ length (set_stop x old.calendar).events = ap length h.calendar.events in
+    let done : new.processed ≡ 0 = ap (λ (n : PartsOf B Code). n.processed) h.kept ∙ processed in
+    record {
+      events = omega (arith, made, stop_events x old.calendar);
+      scheduled = omega (arith, h.calendar.scheduled, stop_scheduled x old.calendar);
+      processed = omega (arith, done);
+    }
