@@ -1,17 +1,17 @@
 -- Calls of callbacks, and the settling of an event, are those of the machine.
-use Rattle.std.proofs.Common.{◌≡◌, ℕ, ◌<◌, ℤ, Bool, true, false, List, [], ◌∷◌, ◌++◌, length, refl, sym, ap, subst, ◌∙◌, if◌then◌else◌}
+use Rattle.std.proofs.Common.{◌≡◌, ℕ, ◌<◌, ℤ, Bool, true, false, List, [], ◌∷◌, length, refl, sym, ap, subst, ◌∙◌, if◌then◌else◌}
 use Rattle.std.proofs.lemmas.List.{append-nil}
 use Rattle.sim_types.specs.declared.event.ProcId.{ProcId}
 use Rattle.sim_types.specs.declared.event.EventId.{EventId}
 use Rattle.sim_types.specs.declared.event.Callback.{Callback}
 use Rattle.sim_types.specs.declared.event.Callback.TheVariants as callback
 use Rattle.sim_types.specs.declared.line.End.TheVariants as end
-use Rattle.sim_machine.specs.State.{Calendar, Control, Idle, Calling, Active, Over, State, Plan}
-use Rattle.sim_machine.specs.Events.{event_at, is_fail, is_same, defuse, is_processed}
+use Rattle.sim_machine.specs.State.{Calendar, Control, Idle, Calling, Active, Over}
+use Rattle.sim_machine.specs.Events.{event_at, is_fail, defuse}
 use Rattle.sim_machine.specs.Processes.{defuse_failed}
 use Rattle.sim_machine.specs.Tellings.{Telling}
 use Rattle.sim_machine.specs.Standing.{left_of, is_event_of}
-use Rattle.sim_machine.specs.Steps.{Turn, IsStepAt, IsStep, signal_by, resume, settle, call, end_at}
+use Rattle.sim_machine.specs.Steps.{Turn, IsStep, signal_by, resume, settle, call}
 use Rattle.sim_machine.proofs.EventLaws.{is_same-self}
 use Rattle.sim_machine.proofs.KeptRegistrationsCalendar.{processed_made}
 use Rattle.sim_kernel.specs.declared.mode.Mode.{Mode}
@@ -19,7 +19,7 @@ use Rattle.sim_kernel.specs.declared.mode.Mode.TheVariants as mode
 use Rattle.sim_kernel.specs.declared.mode.Unit.TheVariants as unit
 use Rattle.sim_kernel.specs.Same.{SameCalendar}
 use Rattle.sim_kernel.specs.PartsOf.{PartsOf, RoomOf, control_of, is_unhandled, IsCalling, plan_of}
-use Rattle.sim_kernel.specs.StandsFor.{StandsFor, StandsForSome, LawfulOf, Moves}
+use Rattle.sim_kernel.specs.StandsFor.{StandsForSome, Moves}
 use Rattle.sim_kernel.proofs.Moving.{at_control}
 
 -- ---- what the control says

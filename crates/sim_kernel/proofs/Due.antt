@@ -1,5 +1,5 @@
 -- The entry that no other comes before, taken out of the agenda.
-use Rattle.std.proofs.Common.{◌≡◌, ℕ, ◌<◌, List, ◌∷◌, length, slice_index_or, get_or, sym, subst}
+use Rattle.std.proofs.Common.{◌≡◌, ℕ, ◌<◌, List, ◌∷◌, length, slice_index_or, get_or, subst}
 use Rattle.std.specs.List.{All, swap_remove}
 use Rattle.std.specs.List.Sorted.{IsPermutation}
 use Rattle.std.proofs.lemmas.List.Elements.{All-head, All-tail}

@@ -1,6 +1,6 @@
 -- A process that ends is no longer alive, and its event has its outcome, as the machine has it.
-use Rattle.std.proofs.Common.{◌≡◌, ◌≢◌, ℕ, ◌+◌, ◌<◌, ℤ, pos, Bool, true, false, List, [], ◌∷◌, ◌++◌, length, refl, sym, ap, subst, ◌∙◌, suc, cond, arith, map, filter, Option, Some, None, if◌then◌else◌}
-use Rattle.std.specs.Prelude.{All, AllPairs, not, ◌==◌, IsSome, IsSomeAnd}
+use Rattle.std.proofs.Common.{◌≡◌, ◌≢◌, ℕ, ◌<◌, ℤ, pos, Bool, true, false, List, [], ◌∷◌, length, refl, sym, ap, subst, ◌∙◌, suc, cond, arith, map, filter, Option, Some, if◌then◌else◌}
+use Rattle.std.specs.Prelude.{AllPairs, not, ◌==◌, IsSome, IsSomeAnd}
 use Rattle.std.specs.Option.{option_map}
 use Rattle.std.specs.List.Sorted.{IsPermutation}
 use Rattle.std.proofs.lemmas.Bool.{eqb-true}
@@ -33,9 +33,8 @@ use Rattle.sim_machine.proofs.KeptProcessesParts.{is_process-self, is_process-ye
 use Rattle.sim_machine.proofs.KeptProcessesChanges.{AllPairs-map}
 use Rattle.sim_procs.specs.RecordOf.{RecordOf, record_of, change_record}
 use Rattle.sim_kernel.specs.declared.mode.Unit.TheVariants as unit
-use Rattle.sim_kernel.specs.Same.{SameCalendar}
 use Rattle.sim_kernel.specs.PartsOf.{PartsOf, IsRunning, plan_of}
-use Rattle.sim_kernel.specs.StandsFor.{StandsFor, StandsForSome, LawfulOf, Moves, process_of, scopes_of}
+use Rattle.sim_kernel.specs.StandsFor.{StandsFor, StandsForSome, Moves, process_of, scopes_of}
 use Rattle.sim_kernel.specs.Polling.{Asks, Ends}
 use Rattle.sim_kernel.proofs.SameCalendars.{same_trans, same_schedule}
 use Rattle.sim_kernel.proofs.Polls.{running_is, found_record, polled_step, body_stands}
@@ -64,7 +63,7 @@ end_stands : {B Code : Type 0} (old new : PartsOf B Code) (s : State B) (p : Pro
 end_stands old new s p o distinct k st =
     let id : k.record_ended.id.0 ≡ p.0 = found_id p old.live k.record_ended k.ended in
     let others : IsPermutation s.processes (process_of k.record_ended ∷ map process_of new.live) =
-        IsPermutation-trans _ _ _ st.processes (IsPermutation-map process_of old.live (k.record_ended ∷ new.live) k.live) in
+    IsPermutation-trans _ _ _ st.processes (IsPermutation-map process_of old.live (k.record_ended ∷ new.live) k.live) in
     let P : ℕ → Type 0 = λ n. IsPermutation (filter (λ y. not (y.id.0 == n)) s.processes) (map process_of new.live) in
     rw k.others (record {
       calendar = same_trans new.calendar (trigger (event_of p) o old.calendar) (trigger (event_of p) o s.facilities.calendar) k.calendar (same_schedule (event_of p) o 1 (pos 0) old.calendar s.facilities.calendar st.calendar);
@@ -141,7 +140,7 @@ ended_scopes filled owned tell sound facts turn start old mid event p told asked
     let is = running_is old.control event p told running in
     let found : process_at p s ≡ Some (process_of r.0) = process_found old s p h.lawful.processes.distinct h.stands ∙ ap (λ o. option_map process_of o) r.1 in
     let poll : IsLawfulPoll facts (tell old.code) a.body told asked a.later =
-        law.polls a.body old.calendar.time told asked a.later (running_sound filled owned tell sound old p a.body h a.found) (running_told filled owned tell sound old event p told a.body h running a.found) a.turned in
+    law.polls a.body old.calendar.time told asked a.later (running_sound filled owned tell sound old p a.body h a.found) (running_told filled owned tell sound old event p told a.body h running a.found) a.turned in
     let none : scopes_told ((tell old.code).scopes a.body) ((tell old.code).last a.body) told ≡ [] = length_zero _ (ends ((tell old.code).own a.later) ((tell old.code).places a.later) _ poll.asks) in
     let own = (own_scopes (plan_of filled owned old) (tell old.code) s event is.0 p told (process_of r.0) (sym h.stands.control ∙ is.1) found h.lawful.waiting p (is_process-self p)).0 in
     let requests : requests_of p s ≡ [] = own ∙ rw r.2 none in

@@ -16,3 +16,4 @@ pub mod Beginning
 pub mod Stopping
 pub mod StartingAll
 pub mod OpeningHolds
+pub mod Units

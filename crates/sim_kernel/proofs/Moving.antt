@@ -1,28 +1,27 @@
 -- What the code does to a kernel's parts is what the machine does to each state that the kernel stands for.
-use Rattle.std.proofs.Common.{◌≡◌, ◌≢◌, ℕ, ◌+◌, ◌<◌, ℤ, Bool, true, false, List, [], ◌∷◌, ◌++◌, length, refl, sym, ap, subst, ◌∙◌, arith, ◌⊎◌, inl, inr, Option, Some, None, map, filter}
-use Rattle.std.specs.Prelude.{All, AllPairs, not, slice_set}
+use Rattle.std.proofs.Common.{◌≡◌, ◌≢◌, ℕ, ◌+◌, ◌<◌, ℤ, List, [], ◌∷◌, length, refl, sym, ap, subst, ◌∙◌, arith, ◌⊎◌, inl, inr, Option, Some, None}
+use Rattle.std.specs.Prelude.{All, AllPairs}
 use Rattle.std.specs.List.Sorted.{IsPermutation}
 use Rattle.std.proofs.lemmas.Int.{ints}
-use Rattle.std.proofs.lemmas.List.Elements.{All-cons, All-head, All-tail, All-from_recursion}
+use Rattle.std.proofs.lemmas.List.Elements.{All-cons, All-head, All-from_recursion}
 use Rattle.std.proofs.lemmas.List.Sorted.{IsPermutation-trans, IsPermutation-sym, All-permutation, length_permutation}
 use Rattle.sim_types.specs.Keys.{KeyOf, IsLess}
 use Rattle.sim_types.specs.declared.event.ProcId.{ProcId}
-use Rattle.sim_types.specs.declared.event.EventId.{EventId}
 use Rattle.sim_types.specs.declared.event.Entry.{Entry}
 use Rattle.sim_types.specs.declared.event.Callback.{Callback}
-use Rattle.sim_types.proofs.Permutations.{AllPairs-head, AllPairs-tail, AllPairs-IsPermutation, IsPermutation-without}
-use Rattle.sim_machine.specs.State.{Calendar, Control, Idle, Calling, Active, Over, State, Plan}
+use Rattle.sim_types.proofs.Permutations.{AllPairs-head, AllPairs-IsPermutation, IsPermutation-without}
+use Rattle.sim_machine.specs.State.{Calendar, Control, Idle, Calling, State, Plan}
 use Rattle.sim_machine.specs.Agenda.{due}
 use Rattle.sim_machine.specs.Tellings.{Telling}
 use Rattle.sim_machine.specs.Steps.{Turn, IsStepAt, IsStep, pop_entry}
-use Rattle.sim_machine.proofs.AgendaLaws.{Among, due_least, due_among}
+use Rattle.sim_machine.proofs.AgendaLaws.{due_least, due_among}
 use Rattle.sim_machine.proofs.PopLaws.{among_has}
 use Rattle.sim_machine.proofs.KeptTimes.{agenda_made}
 use Rattle.sim_kernel.specs.declared.calendar.Popped.{Popped}
 use Rattle.sim_kernel.specs.declared.mode.Unit.TheVariants as unit
-use Rattle.sim_kernel.specs.Popping.{TakesFirst, Pops}
+use Rattle.sim_kernel.specs.Popping.{Pops}
 use Rattle.sim_kernel.specs.PartsOf.{PartsOf, RoomOf, plan_of}
-use Rattle.sim_kernel.specs.StandsFor.{StandsFor, StandsForSome, LawfulOf, Moves}
+use Rattle.sim_kernel.specs.StandsFor.{StandsForSome, Moves}
 
 -- what comes next is what the control says
 pub at_control : {B : Type 0} (g : Plan B) (turn : Turn B) (s t : State B) (c : Control) → c ≡ s.control → IsStepAt g turn s t c → IsStep g turn s t
@@ -58,12 +57,12 @@ is_due xs x ys others first distinct =
     let apart : AllPairs (λ y z. y.key.number ≢ z.key.number) (x ∷ ys) = AllPairs-IsPermutation (λ y z. y.key.number ≢ z.key.number) (λ y z d. λ e. d (sym e)) xs (x ∷ ys) others distinct in
     let differ : All (λ y. x.key.number ≢ y.key.number) ys = AllPairs-head (λ y z. y.key.number ≢ z.key.number) x ys apart in
     let each : All (IsThisOrLater x) xs =
-        All-permutation (IsThisOrLater x) (x ∷ ys) xs (IsPermutation-sym xs (x ∷ ys) others) (All-cons (IsThisOrLater x) x ys (inl refl) (this_or_later x ys differ first)) in
+    All-permutation (IsThisOrLater x) (x ∷ ys) xs (IsPermutation-sym xs (x ∷ ys) others) (All-cons (IsThisOrLater x) x ys (inl refl) (this_or_later x ys differ first)) in
     due_of xs x (due xs)
     (λ m h.
-        let least : All (λ y. ¬ IsLess y.key m.key) xs = All-from_recursion (λ y. ¬ IsLess y.key m.key) xs (due_least xs m h) in
-        let here : ¬ IsLess x.key m.key = All-head (λ y. ¬ IsLess y.key m.key) x ys (All-permutation (λ y. ¬ IsLess y.key m.key) xs (x ∷ ys) others least) in
-        this_one x m here (among_has (IsThisOrLater x) xs m each (due_among xs m h)))
+    let least : All (λ y. ¬ IsLess y.key m.key) xs = All-from_recursion (λ y. ¬ IsLess y.key m.key) xs (due_least xs m h) in
+    let here : ¬ IsLess x.key m.key = All-head (λ y. ¬ IsLess y.key m.key) x ys (All-permutation (λ y. ¬ IsLess y.key m.key) xs (x ∷ ys) others least) in
+    this_one x m here (among_has (IsThisOrLater x) xs m each (due_among xs m h)))
     (λ h. let none : length xs ≡ 0 = none_due xs h in omega (arith, none, length_permutation xs (x ∷ ys) others))
 
 pub pop_moves : {B Code : Type 0} (filled : Code → ℕ → List ℤ → B) (owned : B → ProcId → B) (tell : Code → Telling B) (sound : Code → B → Type 0) (turn : Turn B) (old : PartsOf B Code) (answer : Popped) (new : Calendar) (left : List Callback) (room : RoomOf) → old.control ≡ Idle → Pops old.calendar answer new left → Moves filled owned tell sound (IsStep (plan_of filled owned old) turn) old (unit.Line answer.line) (record old { calendar = new; processed = old.processed + 1; control = Calling answer.event left; room = room })

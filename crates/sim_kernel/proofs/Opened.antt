@@ -1,5 +1,5 @@
 -- What a kernel was opened with stays.
-use Rattle.std.proofs.Common.{◌≡◌, refl, ◌∙◌}
+use Rattle.std.proofs.Common.{◌∙◌}
 use Rattle.sim_kernel.specs.PartsOf.{PartsOf, IsOpenedAs}
 
 pub opened_then : {B Code : Type 0} (old mid new : PartsOf B Code) → IsOpenedAs old mid → IsOpenedAs mid new → IsOpenedAs old new

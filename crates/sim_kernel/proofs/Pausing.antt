@@ -1,5 +1,5 @@
 -- A process that pauses waits for its timeout, as the machine has it.
-use Rattle.std.proofs.Common.{◌≡◌, ℕ, suc, ◌+◌, ◌<◌, ℤ, pos, ◌+ℤ◌, Some, Bool, true, false, List, [], ◌∷◌, ◌++◌, length, refl, sym, ap, subst, ◌∙◌, if◌then◌else◌}
+use Rattle.std.proofs.Common.{◌≡◌, ℕ, ◌+◌, ℤ, pos, ◌+ℤ◌, Some, Bool, true, false, List, [], ◌∷◌, ◌++◌, refl, ap, subst, ◌∙◌}
 use Rattle.std.specs.Prelude.{int_lt, IsTrue, IsFalse}
 use Rattle.std.proofs.lemmas.List.{append-nil}
 use Rattle.sim_types.specs.declared.event.EventId.{EventId}
@@ -11,7 +11,7 @@ use Rattle.sim_types.specs.declared.event.Signal.{Signal}
 use Rattle.sim_types.specs.declared.event.Signal.TheVariants as signal
 use Rattle.sim_types.specs.declared.op.Op.TheVariants as op
 use Rattle.sim_machine.specs.State.{EventOf, Calendar, State}
-use Rattle.sim_machine.specs.Events.{event_at, is_processed, next_event, register}
+use Rattle.sim_machine.specs.Events.{is_processed, next_event, register}
 use Rattle.sim_machine.specs.Triggering.{normal, is_too_late, make, make_timeout}
 use Rattle.sim_machine.specs.Scopes.{on_events}
 use Rattle.sim_machine.specs.Processes.{told_more, not_active, tell, wait, with_body}
@@ -20,11 +20,11 @@ use Rattle.sim_machine.specs.Tellings.{Telling}
 use Rattle.sim_machine.specs.Steps.{Turn, IsStep, polled}
 use Rattle.sim_machine.proofs.EventLaws.{change_event-keeps, make-new}
 use Rattle.sim_machine.proofs.KeptTimesCases.{timeout_cases, wait_cases}
-use Rattle.sim_procs.specs.RecordOf.{RecordOf, change_record}
+use Rattle.sim_procs.specs.RecordOf.{change_record}
 use Rattle.sim_kernel.specs.declared.mode.Unit.TheVariants as unit
 use Rattle.sim_kernel.specs.Same.{SameCalendar}
 use Rattle.sim_kernel.specs.PartsOf.{PartsOf, IsRunning, plan_of}
-use Rattle.sim_kernel.specs.StandsFor.{StandsFor, LawfulOf, Moves}
+use Rattle.sim_kernel.specs.StandsFor.{StandsFor, Moves}
 use Rattle.sim_kernel.specs.Polling.{Asks, Pauses}
 use Rattle.sim_kernel.proofs.Calendars.{entry_at}
 use Rattle.sim_kernel.proofs.SameCalendars.{same_trans, same_register, same_timeout, next_same}

@@ -1,17 +1,16 @@
 -- What a polled process asks for is done as the machine does it.
-use Rattle.std.proofs.Common.{◌≡◌, ◌≢◌, ℕ, suc, ◌+◌, ◌<◌, ℤ, pos, Bool, true, false, List, [], ◌∷◌, ◌++◌, length, refl, sym, ap, subst, ◌∙◌, arith, add-one, Option, Some, None, map, filter, cond, if◌then◌else◌}
-use Rattle.std.specs.Prelude.{All, AllPairs, find, not, ◌==◌, int_lt, IsTrue, IsFalse}
+use Rattle.std.proofs.Common.{◌≡◌, ℕ, ◌+◌, ℤ, Bool, true, false, List, [], ◌∷◌, ◌++◌, refl, sym, ap, subst, ◌∙◌, add-one, Option, Some, None, map, if◌then◌else◌}
+use Rattle.std.specs.Prelude.{All, ◌==◌, int_lt, IsTrue, IsFalse}
 use Rattle.std.specs.Option.{option_map}
 use Rattle.std.specs.List.Sorted.{IsPermutation}
 use Rattle.std.proofs.lemmas.Option.{none-some, same_Some}
 use Rattle.std.proofs.lemmas.List.{append-nil}
 use Rattle.std.proofs.lemmas.List.Elements.{All-cons, All-head, All-tail, All-nil}
-use Rattle.std.proofs.lemmas.List.Sorted.{IsPermutation-map, IsPermutation-trans, All-permutation}
+use Rattle.std.proofs.lemmas.List.Sorted.{IsPermutation-map}
 use Rattle.rand_pcg.specs.Pcg.{pcg64}
 use Rattle.sim_types.specs.declared.event.EventId.{EventId}
 use Rattle.sim_types.specs.declared.event.ProcId.{ProcId}
 use Rattle.sim_types.specs.declared.event.Callback.{Callback}
-use Rattle.sim_types.specs.declared.event.Outcome.{Outcome}
 use Rattle.sim_types.specs.declared.event.Signal.{Signal}
 use Rattle.sim_types.specs.declared.event.Signal.TheVariants as signal
 use Rattle.sim_types.specs.declared.event.Scope.{Scope}
@@ -19,19 +18,18 @@ use Rattle.sim_types.specs.declared.op.Op.{Op}
 use Rattle.sim_types.specs.declared.op.Op.TheVariants as op
 use Rattle.sim_types.specs.declared.line.Line.{Line}
 use Rattle.sim_types.specs.declared.line.Line.TheVariants as line
-use Rattle.sim_types.proofs.Permutations.{IsPermutation-without}
-use Rattle.sim_machine.specs.State.{Calendar, ProcessOf, Control, Idle, Calling, Active, Over, State, Plan}
+use Rattle.sim_machine.specs.State.{ProcessOf, Control, Idle, Calling, Active, Over, State}
 use Rattle.sim_machine.specs.Events.{is_process}
-use Rattle.sim_machine.specs.Processes.{process_at, with_body, change_process, told_more, not_active, tell, write_line}
+use Rattle.sim_machine.specs.Processes.{with_body, change_process, told_more, tell, write_line}
 use Rattle.sim_machine.specs.Effect.{draw, drawn_number}
 use Rattle.sim_machine.specs.Tellings.{Telling}
-use Rattle.sim_machine.specs.Steps.{Turn, IsStepAt, IsStep, polled}
+use Rattle.sim_machine.specs.Steps.{Turn, IsStep, polled}
 use Rattle.sim_machine.proofs.KeptTimesCases.{draw_cases}
 use Rattle.sim_procs.specs.RecordOf.{RecordOf, record_of, change_record}
 use Rattle.sim_kernel.specs.declared.mode.Unit.TheVariants as unit
 use Rattle.sim_kernel.specs.PartsOf.{PartsOf, IsRunning, plan_of}
-use Rattle.sim_kernel.specs.StandsFor.{StandsFor, StandsForSome, LawfulOf, Moves, process_of, scopes_of}
-use Rattle.sim_kernel.specs.Polling.{Asks, Pauses, Ends}
+use Rattle.sim_kernel.specs.StandsFor.{StandsFor, LawfulOf, Moves, process_of, scopes_of}
+use Rattle.sim_kernel.specs.Polling.{Asks}
 use Rattle.sim_kernel.proofs.Moving.{at_control}
 use Rattle.sim_kernel.proofs.Running.{process_found}
 

@@ -1,5 +1,5 @@
 -- Calendars that differ in the order of their agendas differ so after each change.
-use Rattle.std.proofs.Common.{◌≡◌, ℕ, ◌+◌, ℤ, ◌+ℤ◌, List, ◌∷◌, refl, sym, ap, subst, ◌∙◌}
+use Rattle.std.proofs.Common.{◌≡◌, ℕ, ◌+◌, ℤ, ◌+ℤ◌, ◌∷◌, refl, sym, ap, subst, ◌∙◌}
 use Rattle.std.specs.List.Sorted.{IsPermutation}
 use Rattle.std.proofs.lemmas.List.Sorted.{IsPermutation-refl, IsPermutation-cons, IsPermutation-trans}
 use Rattle.sim_types.specs.declared.event.EventId.{EventId}
@@ -11,7 +11,7 @@ use Rattle.sim_types.specs.declared.event.Outcome.TheVariants as outcome
 use Rattle.sim_types.specs.declared.event.Callback.{Callback}
 use Rattle.sim_machine.specs.State.{Calendar}
 use Rattle.sim_machine.specs.Events.{next_event, register}
-use Rattle.sim_machine.specs.Triggering.{normal, make, schedule, trigger, make_timeout}
+use Rattle.sim_machine.specs.Triggering.{normal, make, schedule, make_timeout}
 use Rattle.sim_kernel.specs.Same.{SameCalendar}
 use Rattle.sim_kernel.proofs.Calendars.{entry_at}
 

@@ -8,3 +8,4 @@ pub mod Polling
 pub mod Resting
 pub mod Holding
 pub mod Opening
+pub mod Stepping

@@ -5,7 +5,6 @@ use Rattle.sim_types.specs.declared.event.EventId.{EventId}
 use Rattle.sim_types.specs.declared.event.ProcId.{ProcId}
 use Rattle.sim_types.specs.declared.event.Signal.{Signal}
 use Rattle.sim_types.specs.declared.event.Callback.{Callback}
-use Rattle.sim_types.specs.declared.line.Line.{Line}
 use Rattle.sim_types.specs.declared.setup.Setup.{Setup}
 use Rattle.sim_machine.specs.State.{Calendar, Control, Idle, Calling, Active, Over, Plan}
 use Rattle.sim_machine.specs.Events.{event_at, is_fail}

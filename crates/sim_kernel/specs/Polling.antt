@@ -1,5 +1,5 @@
 -- What the code does where a process is polled, pauses or ends.
-use Rattle.std.specs.Prelude.{◌≡◌, ℕ, ℤ, pos, List, ◌∷◌, Some}
+use Rattle.std.specs.Prelude.{◌≡◌, ℤ, ◌∷◌, Some}
 use Rattle.std.specs.Option.{option_map}
 use Rattle.std.specs.List.Sorted.{IsPermutation}
 use Rattle.sim_types.specs.declared.event.ProcId.{ProcId}

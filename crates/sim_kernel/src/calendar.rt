@@ -215,10 +215,11 @@ impl Calendar {
                 }
             }
         }
-        self.registered
-            .retain(|registration: &Registration| -> bool
+        self.registered.retain(
+            |registration: &Registration| -> bool
                 ensures { result ≡ not (registration.now.event.0 == event.0) }
-            { registration.event.0 != event.0 });
+            { registration.event.0 != event.0 },
+        );
     }
 
     /// Pops the entry that is due: it is its time, and its event is processed. The event's callbacks are moved to those

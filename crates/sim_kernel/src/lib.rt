@@ -5,8 +5,10 @@ mod agenda;
 mod calendar;
 mod draw;
 mod event;
+mod kernel;
 mod mode;
 mod opening;
 mod parts;
 
+pub use kernel::Kernel;
 pub use mode::{Rest, Unit};

@@ -1,4 +1,4 @@
-use Rattle.std.proofs.Common.{ℕ, ◌+◌, ◌<◌, ◌≤◌, length, slice_index_or}
+use Rattle.std.proofs.Common.{ℕ, ◌<◌, ◌≤◌, slice_index_or}
 use Rattle.sim_types.specs.Keys.{IsLess}
 use Rattle.sim_types.specs.declared.event.Entry.{Entry}
 use Rattle.sim_kernel.proofs.agenda.first_place.Given as goal

@@ -1,4 +1,4 @@
-use Rattle.std.proofs.Common.{◌≡◌, ◌≤◌, length, take}
+use Rattle.std.proofs.Common.{◌≡◌, ◌≤◌, take}
 use Rattle.std.specs.VecDeque.{deque_len, deque_capacity}
 use Rattle.sim_kernel.proofs.Calendars.{moved}
 use Rattle.sim_kernel.proofs.calendar.Calendar.move_callbacks.Given as goal

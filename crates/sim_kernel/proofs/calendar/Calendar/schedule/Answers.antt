@@ -1,4 +1,4 @@
-use Rattle.std.proofs.Common.{rules, ◌≡◌, ◌+ℤ◌, ◌≤ℤ◌, ◌^◌, pos, w64, FitsSigned, to_z, of_z, refl, ◌∙◌}
+use Rattle.std.proofs.Common.{rules, ◌+ℤ◌, ◌≤ℤ◌, ◌^◌, pos, w64, FitsSigned, ◌∙◌}
 use Rattle.sim_types.specs.declared.event.EventKind.TheVariants as kind
 use Rattle.sim_machine.specs.State.{Calendar}
 use Rattle.sim_machine.specs.Events.{pending_event}

@@ -1,7 +1,7 @@
-use Rattle.std.proofs.Common.{rules, ◌≡◌, List, [], ◌∷◌, sym, ap, ◌∙◌}
+use Rattle.std.proofs.Common.{rules, ◌≡◌, List, [], ◌∷◌, ap, ◌∙◌}
 use Rattle.sim_types.specs.declared.event.Callback.{Callback}
 use Rattle.sim_types.specs.declared.event.Callback.TheVariants as callback
-use Rattle.sim_machine.specs.State.{Control, Calling}
+use Rattle.sim_machine.specs.State.{Calling}
 use Rattle.sim_kernel.specs.PartsOf.{IsCalling, control_of}
 use Rattle.sim_kernel.proofs.Calling.{calling_is, left_is, calling_made, settle_moves, stop_moves, resume_moves}
 use Rattle.sim_kernel.proofs.parts.Parts.call.Goals as goal
@@ -20,7 +20,7 @@ returns-in-None-clause-moves g c =
     let calling : IsCalling c.args.event (control_of c.self.inside.mode c.self.inside.left.items) = rw (← c.self.view_is) at c.requires.calling in
     let none : c.self.inside.left.items ≡ [] = search rules in
     let is : control_of c.self.inside.mode c.self.inside.left.items ≡ Calling c.args.event [] =
-        calling_is c.self.inside.mode c.self.inside.left.items c.args.event calling ∙ ap (λ (l : List Callback). Calling c.args.event l) none in
+    calling_is c.self.inside.mode c.self.inside.left.items c.args.event calling ∙ ap (λ (l : List Callback). Calling c.args.event l) none in
     rw (← c.self.view_is, c.settle.ensures) (settle_moves g.B.Body.filled g.B.Body.owned g.B.Body.tell g.B.Body.sound (g.B.Body.turn _) _ c.args.event _ is)
 
 pub returns-in-Some-Resume-clause-moves : goal.returns-in-Some-Resume-clause-moves
@@ -28,7 +28,7 @@ returns-in-Some-Resume-clause-moves g c =
     let calling : IsCalling c.args.event (control_of c.self.inside.mode c.self.inside.left.items) = rw (← c.self.view_is) at c.requires.calling in
     let first : c.self.inside.left.items ≡ callback.Resume c.in-Some-Resume.process ∷ c.pop_front.new.self.items = search rules in
     let is : control_of c.self.inside.mode c.self.inside.left.items ≡ Calling c.args.event (callback.Resume c.in-Some-Resume.process ∷ c.pop_front.new.self.items) =
-        calling_is c.self.inside.mode c.self.inside.left.items c.args.event calling ∙ ap (λ (l : List Callback). Calling c.args.event l) first in
+    calling_is c.self.inside.mode c.self.inside.left.items c.args.event calling ∙ ap (λ (l : List Callback). Calling c.args.event l) first in
     rw (← c.self.view_is, c.resume.ensures, left_is c.self.inside.mode c.self.inside.left.items c.pop_front.new.self.items c.args.event calling) (resume_moves g.B.Body.filled g.B.Body.owned g.B.Body.tell g.B.Body.sound (g.B.Body.turn _) _ c.args.event c.in-Some-Resume.process c.pop_front.new.self.items _ is)
 
 pub returns-in-Some-Stop-clause-moves : goal.returns-in-Some-Stop-clause-moves
@@ -36,5 +36,5 @@ returns-in-Some-Stop-clause-moves g c =
     let calling : IsCalling c.args.event (control_of c.self.inside.mode c.self.inside.left.items) = rw (← c.self.view_is) at c.requires.calling in
     let first : c.self.inside.left.items ≡ callback.Stop ∷ c.pop_front.new.self.items = search rules in
     let is : control_of c.self.inside.mode c.self.inside.left.items ≡ Calling c.args.event (callback.Stop ∷ c.pop_front.new.self.items) =
-        calling_is c.self.inside.mode c.self.inside.left.items c.args.event calling ∙ ap (λ (l : List Callback). Calling c.args.event l) first in
+    calling_is c.self.inside.mode c.self.inside.left.items c.args.event calling ∙ ap (λ (l : List Callback). Calling c.args.event l) first in
     rw (← c.self.view_is, c.stop.ensures, left_is c.self.inside.mode c.self.inside.left.items c.pop_front.new.self.items c.args.event calling) (stop_moves g.B.Body.filled g.B.Body.owned g.B.Body.tell g.B.Body.sound (g.B.Body.turn _) _ c.args.event c.pop_front.new.self.items _ is)

@@ -1,4 +1,4 @@
-use Rattle.std.proofs.Common.{rules, ◌≡◌, ℤ, w64, FitsSigned, to_z, of_z, ap, ◌∙◌}
+use Rattle.std.proofs.Common.{rules, ◌≡◌, w64, FitsSigned, ap, ◌∙◌}
 use Rattle.std.proofs.lemmas.Int.{to_z-of_z}
 use Rattle.sim_kernel.specs.PartsOf.{PartsOf}
 use Rattle.sim_kernel.proofs.Polls.{nop_moves, log_moves, draw_moves}
@@ -31,7 +31,7 @@ returns-in-Log-clause-moves g c =
     let value : FitsSigned w64 c.in-Log.value = search rules in
     let time : FitsSigned w64 c.time-time.result = search rules in
     let now : c.self.inside.calendar.calendar.time ≡ c.ask.new.self.calendar.time =
-        ap (λ (v : PartsOf g.row.B.Denot g.row.B-Code.Denot). v.calendar.time) (c.self.view_is ∙ c.tell-in-Log.ensures) in
+    ap (λ (v : PartsOf g.row.B.Denot g.row.B-Code.Denot). v.calendar.time) (c.self.view_is ∙ c.tell-in-Log.ensures) in
     rw c.tell-in-Log.ensures (log_moves g.B.Body.filled g.B.Body.owned g.B.Body.tell g.B.Body.sound (g.B.Body.turn c.args.self.now.code) c.args.self.now c.ask.new.self c.args.event c.args.process c.args.told c.in-Log.value _ _ c.requires.running c.in-Log.ensures.asked (to_z-of_z w64 c.time-time.result time ∙ (c.time-time.ensures ∙ now)) (to_z-of_z w64 c.in-Log.value value))
 
 pub returns-in-Draw-clause-moves : goal.returns-in-Draw-clause-moves

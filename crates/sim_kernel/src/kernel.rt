@@ -1,0 +1,114 @@
+//! A kernel stands for a lawful state of the machine, and makes one unit of it at a time.
+ghost use Rattle.std.specs.Prelude.{◌≡◌, ◌+◌, ◌<◌, ◌^◌, IfOk, OnOk, OnErr, IsTrue};
+ghost use Rattle.sim_machine.specs.Runs.{opening};
+ghost use Rattle.sim_machine.specs.Setups.{FitsCode};
+ghost use Rattle.sim_machine.specs.Steps.{IsStep};
+ghost use Rattle.sim_kernel.specs.Built.{AsksForBuilt};
+ghost use Rattle.sim_kernel.specs.PartsOf.{IsOpenedAs, plan_of};
+ghost use Rattle.sim_kernel.specs.Resting.{can_step, rest_of};
+ghost use Rattle.sim_kernel.specs.StandsFor.{LawfulOf, StandsFor};
+ghost use Rattle.sim_kernel.specs.Stepping.{MakesStep};
+
+use crate::mode::{Rest, Unit};
+use crate::parts::Parts;
+use sim_procs::Body;
+use sim_types::Setup;
+use std::alloc::{AllocError, Global};
+use std::marker::Model;
+
+/// A machine whose processes are bodies of one type. It must be spent by `finish`.
+pub struct Kernel<B: Body> {
+    parts: Parts<B>,
+    /// How many units it has made.
+    units: u64,
+}
+
+impl<B: Body> Model for Kernel<B> {
+    ghost use Rattle.sim_kernel.specs.PartsOf.{KernelOf};
+    ghost use Rattle.sim_kernel.specs.Holding.{Holds};
+
+    ghost Value = { KernelOf B B.Code };
+
+    ghost view = { λ a. record { parts = a.parts; units = a.units } };
+
+    ghost invariant = { λ a. Holds B.filled B.owned B.tell B.sound a.units a.parts };
+}
+
+impl<B: Body> Kernel<B> {
+    /// A kernel that stands for the opening state of the machine: the processes that run from the start are made, and
+    /// what is to stop the run is set.
+    pub fn new(
+        alloc: Global,
+        code: &B::Code,
+        setup: &Setup,
+        seed: u64,
+    ) -> Result<Kernel<B>, AllocError>
+        requires fits { FitsCode (B.facts code.now) setup.now }
+        ensures code { IfOk result (λ k. k.parts.code ≡ code.now) }
+        ensures setup { IfOk result (λ k. k.parts.setup ≡ setup.now) }
+        ensures seed { IfOk result (λ k. k.parts.seed ≡ seed) }
+        ensures units { IfOk result (λ k. k.units ≡ 0) }
+        ensures stands { IfOk result (λ k. StandsFor k.parts (opening (plan_of B.filled B.owned k.parts))) }
+        ensures lawful { IfOk result (λ k. LawfulOf B.filled B.owned B.tell B.sound k.parts (opening (plan_of B.filled B.owned k.parts))) }
+    {
+        let mut parts = Parts::<B>::blank(alloc, code, setup, seed)?;
+        match parts.open(alloc, code, setup) {
+            Ok(()) => Ok(Kernel { parts, units: 0 }),
+            Err(AllocError) => {
+                parts.abandon();
+                Err(AllocError)
+            }
+        }
+    }
+
+    /// Where the kernel stands.
+    pub fn rest(&self) -> Rest
+        ensures { result ≡ rest_of self.now.parts.control self.now.parts.calendar.agenda }
+    {
+        self.parts.rest_now()
+    }
+
+    /// Makes one unit: an event is popped, a callback is called, an event is settled, or a process is polled. All memory
+    /// is taken first.
+    pub fn unit(&mut self, code: &B::Code) -> Result<Unit, AllocError>
+        requires code { code.now ≡ self.old.parts.code }
+        requires can { IsTrue (can_step (rest_of self.old.parts.control self.old.parts.calendar.agenda)) }
+        requires asks { AsksForBuilt (B.turn code.now) }
+        requires units { self.old.units < 2 ^ 32 }
+        ensures steps { IfOk result (λ unit. MakesStep B.filled B.owned B.tell B.sound (IsStep (plan_of B.filled B.owned self.old.parts) (B.turn code.now)) self.old.parts unit self.new.parts) }
+        ensures opened { OnOk result (IsOpenedAs self.old.parts self.new.parts) }
+        ensures units { OnOk result (self.new.units ≡ self.old.units + 1) }
+        ensures err { OnErr result (self.new ≡ record self.old { parts = record self.old.parts { room = self.new.parts.room } }) }
+    {
+        self.parts.reserve()?;
+        let unit = self.parts.unit(code);
+        self.units += 1;
+        Ok(unit)
+    }
+
+    /// How many events were processed.
+    pub fn processed(&self) -> u64
+        ensures { result ≡ self.now.parts.processed }
+    {
+        self.parts.processed
+    }
+
+    /// The time of the machine.
+    pub fn now(&self) -> i64
+        ensures { result ≡ self.now.parts.calendar.time }
+    {
+        self.parts.calendar.time()
+    }
+
+    /// Spends the kernel and tells its time and how many events were processed.
+    pub fn finish(self) -> (i64, u64)
+        ensures time { result.0 ≡ self.parts.calendar.time }
+        ensures processed { result.1 ≡ self.parts.processed }
+    {
+        let Kernel { parts, units: _ } = self;
+        let time = parts.calendar.time();
+        let processed = parts.processed;
+        parts.abandon();
+        (time, processed)
+    }
+}
