@@ -17,3 +17,4 @@ pub mod Stopping
 pub mod StartingAll
 pub mod OpeningHolds
 pub mod Units
+pub mod TestSetups

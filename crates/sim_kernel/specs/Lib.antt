@@ -9,3 +9,5 @@ pub mod Resting
 pub mod Holding
 pub mod Opening
 pub mod Stepping
+pub mod Travellers
+pub mod Clocks

@@ -12,3 +12,6 @@ mod parts;
 
 pub use kernel::Kernel;
 pub use mode::{Rest, Unit};
+
+#[cfg(test)]
+mod tests;

@@ -14,7 +14,7 @@ pub(crate) enum Mode {
 }
 
 /// Where a kernel stands.
-#[derive(Clone, Copy)]
+#[derive(Clone, Copy, Debug, PartialEq, Eq)]
 pub enum Rest {
     /// Callbacks are left to call, a process runs, or an event is still to be settled.
     Busy,
@@ -27,7 +27,7 @@ pub enum Rest {
 }
 
 /// What a unit answers.
-#[derive(Clone, Copy)]
+#[derive(Clone, Copy, Debug, PartialEq, Eq)]
 pub enum Unit {
     /// It writes nothing.
     Quiet,

@@ -125,6 +125,13 @@ impl Args {
         }
     }
 
+    /// The numbers, in order.
+    pub fn as_slice(&self) -> &[i64]
+        ensures { result.now ≡ self.now }
+    {
+        &self.values[..self.len]
+    }
+
     /// False where eight are held.
     pub fn push(&mut self, value: i64) -> bool
         ensures room { IsTrue result ↔ length self.old < 8 }

@@ -1,0 +1,63 @@
+-- The setups of the tests fit the bodies of the tests.
+use Rattle.std.proofs.Common.{◌≡◌, ℤ, ℕ, zero, suc, ◌≤◌, ◌<◌, lit≤, true, refl, List, [], ◌∷◌, length, IsTrue, arith}
+use Rattle.std.specs.List.{AllPass}
+use Rattle.std.proofs.lemmas.List.Elements.{All-nil, All-cons}
+use Rattle.sim_types.specs.declared.setup.Start.{Start}
+use Rattle.sim_types.specs.declared.setup.Setup.{Setup}
+use Rattle.sim_types.specs.declared.setup.Until.{Until}
+use Rattle.sim_types.specs.declared.setup.Until.TheVariants as until
+use Rattle.sim_types.specs.declared.op.Op.{Op}
+use Rattle.sim_types.specs.declared.op.Op.TheVariants as op
+use Rattle.sim_machine.proofs.PlainBodies.{is_plain}
+use Rattle.sim_machine.specs.Setups.{FitsCode, start_fits, until_fits, resource_fits, port_fits}
+use Rattle.sim_kernel.specs.Travellers.{traveller_facts, IsTravellerTurn, TravellerOf, next_is_plain}
+use Rattle.sim_kernel.specs.Clocks.{clock_facts, IsClockTurn, tick_plain}
+use Rattle.sim_kernel.specs.Built.{AsksForBuilt, is_built}
+
+plain_built : (asked : Op) → is_plain asked ≡ true → IsTrue (is_built asked)
+plain_built op.Nop h = refl
+plain_built (op.Pause delay value) h = refl
+plain_built (op.Log value) h = refl
+plain_built (op.Draw lo hi) h = refl
+plain_built (op.Finish value) h = refl
+plain_built (op.Die t) h = refl
+plain_built _ h = absurd cc
+
+-- a setup with such starts
+pub land_fits : (until : Until) (starts : List Start) → IsTrue (until_fits 0 until) → length starts ≤ 65536 → AllPass (start_fits traveller_facts) starts → FitsCode traveller_facts (record { until = until; events = 0; resources = []; ports = []; starts = starts })
+land_fits until starts fits few pass =
+    record {
+      until = fits;
+      events = refl;
+      few_events = lit≤ tt;
+      resources = refl;
+      few_resources = lit≤ tt;
+      capacities = All-nil (λ r. IsTrue (resource_fits r));
+      few_ports = lit≤ tt;
+      ports = All-nil (λ k. IsTrue (port_fits traveller_facts k));
+      few_starts = few;
+      starts = pass;
+    }
+
+-- travellers and clocks ask for operations that are built
+pub travellers_ask_for_built : AsksForBuilt IsTravellerTurn
+travellers_ask_for_built = record { asks = λ b time told asked later turned. rw turned.0 (plain_built _ (next_is_plain b told)) }
+
+pub clocks_ask_for_built : (pace : ℤ) → AsksForBuilt (IsClockTurn pace)
+clocks_ask_for_built pace = record { asks = λ b time told asked later turned. rw turned.0 (plain_built _ (tick_plain pace time b.last)) }
+
+-- a setup with one clock
+pub clock_start_fits : FitsCode clock_facts (record { until = until.Never; events = 0; resources = []; ports = []; starts = record { kind = 0; args = [] } ∷ [] })
+clock_start_fits =
+    record {
+      until = refl;
+      events = refl;
+      few_events = lit≤ tt;
+      resources = refl;
+      few_resources = lit≤ tt;
+      capacities = All-nil (λ r. IsTrue (resource_fits r));
+      few_ports = lit≤ tt;
+      ports = All-nil (λ k. IsTrue (port_fits clock_facts k));
+      few_starts = lit≤ tt;
+      starts = All-cons (λ x. IsTrue (start_fits clock_facts x)) _ [] refl (All-nil (λ x. IsTrue (start_fits clock_facts x)));
+    }

@@ -1,0 +1,568 @@
+ghost use Rattle.std.specs.Prelude.{◌≡◌, ◌<◌, ◌≤◌, ◌^◌, [], ◌∷◌, IfOk, IsTrue, length, pos, ◌≤ℤ◌, slice_index_or};
+ghost use Rattle.std.specs.List.{AllPass};
+ghost use Rattle.sim_types.specs.declared.setup.Until.TheVariants.{Never, At};
+ghost use Rattle.sim_machine.specs.Setups.{FitsCode, start_fits, until_fits};
+ghost use Rattle.sim_kernel.specs.Built.{AsksForBuilt};
+ghost use Rattle.sim_kernel.specs.Travellers.{heard, traveller_facts, IsTravellerTurn};
+ghost use Rattle.sim_machine.proofs.PlainBodies.{is_plain};
+ghost use Rattle.sim_kernel.specs.Clocks.{clock_facts, IsClockTurn};
+
+use crate::{Kernel, Rest, Unit};
+use rand_core::SeedableRng;
+use rand_core::utils::NextWord;
+use rand_pcg::Pcg64;
+use sim_procs::Body;
+use sim_types::{
+    Args, End, EventId, EventKind, Line, List, Op, Outcome, ProcId, Setup, Signal, Start, Throw,
+    Until,
+};
+use std::alloc::{AllocError, Global};
+use std::marker::Model;
+use std::process::Abort;
+use std::test::Fail;
+
+// The land in which travellers are under way.
+#[derive(Drop)]
+struct Land {}
+
+// It pauses, draws a number or does nothing, logs what it was told, and ends.
+#[derive(Drop)]
+struct Traveller {
+    own: ProcId,
+    kind: u32,
+    first: i64,
+    second: i64,
+    last: Option<Op>,
+}
+
+impl Model for Traveller {
+    ghost use Rattle.sim_kernel.specs.Travellers.{TravellerOf};
+
+    ghost Value = { TravellerOf };
+
+    ghost view = { λ a. record { own = a.own; kind = a.kind; first = a.first; second = a.second; last = a.last } };
+}
+
+impl Body for Traveller {
+    ghost use Rattle.std.specs.Prelude.{[], refl};
+    ghost use Rattle.sim_machine.proofs.PlainBodies.{IsPlainBody};
+    ghost use Rattle.sim_kernel.specs.Travellers.{filled_traveller, owned_traveller, IsTravellerTurn, traveller_tells, traveller_facts, traveller_lawful};
+
+    type Code = Land;
+
+    ghost filled = { λ code. filled_traveller };
+
+    ghost owned = { owned_traveller };
+
+    ghost turn = { λ code. IsTravellerTurn };
+
+    ghost tell = { λ code. traveller_tells };
+
+    ghost facts = { λ code. traveller_facts };
+
+    ghost sound = { λ code. IsPlainBody (λ b. b.last) };
+
+    ghost held = { λ b. [] };
+
+    ghost lawful = { λ code. traveller_lawful };
+
+    ghost places = { λ code b sound. refl };
+
+    fn blank(_alloc: Global, _code: &Land) -> Result<Traveller, AllocError> {
+        Ok(Traveller {
+            own: ProcId(0),
+            kind: 0,
+            first: 0,
+            second: 0,
+            last: None,
+        })
+    }
+
+    fn fill(&mut self, _code: &Land, kind: u32, args: Args) {
+        self.own = ProcId(0);
+        self.kind = kind;
+        let [first, second] = numbers(&args);
+        self.first = first;
+        self.second = second;
+        self.last = None;
+    }
+
+    fn own(&mut self, id: ProcId) {
+        self.own = id;
+    }
+
+    fn poll(&mut self, _code: &Land, _now: i64, signal: Signal) -> Op {
+        let asked = self.next(signal);
+        self.last = Some(again(&asked));
+        asked
+    }
+
+    fn place(&self, _at: u8) -> EventId {
+        EventId(0)
+    }
+}
+
+impl Traveller {
+    ghost use Rattle.sim_kernel.specs.Travellers.{next_of};
+
+    // What it asks for next.
+    #[tactic(auto, using(crate::specs::Travellers::next_is_plain))]
+    fn next(&self, told: Signal) -> Op
+        ensures next { result ≡ next_of self.now told }
+        ensures plain { IsTrue (is_plain result) }
+    {
+        match &self.last {
+            None => match self.kind {
+                0 => Op::Pause(self.first, self.second),
+                1 => Op::Draw(self.first, self.second),
+                _ => Op::Nop,
+            },
+            Some(Op::Log(_)) => match self.kind {
+                2 => Op::Die(Throw {
+                    kind: 1,
+                    value: self.second,
+                }),
+                _ => Op::Finish(self.second),
+            },
+            Some(_) => Op::Log(heard(told)),
+        }
+    }
+}
+
+// The number in what a process is told.
+fn heard(told: Signal) -> i64
+    ensures { result ≡ heard told }
+{
+    match told {
+        Signal::Value(value) => value,
+        Signal::Number(number) => number,
+        Signal::Raised(error) => i64::from(error),
+        _ => 0,
+    }
+}
+
+// The first two numbers; 0 where there is none.
+fn numbers(args: &Args) -> [i64; 2]
+    ensures { result ≡ slice_index_or args.now 0 (pos 0) ∷ slice_index_or args.now 1 (pos 0) ∷ [] }
+{
+    match args.as_slice() {
+        [] => [0, 0],
+        [first] => [*first, 0],
+        [first, second, ..] => [*first, *second],
+    }
+}
+
+// The same operation once more.
+fn again(asked: &Op) -> Op
+    requires { IsTrue (is_plain asked.now) }
+    ensures { result ≡ asked.now }
+{
+    match asked {
+        Op::Nop => Op::Nop,
+        Op::Pause(delay, value) => Op::Pause(*delay, *value),
+        Op::Log(value) => Op::Log(*value),
+        Op::Draw(lo, hi) => Op::Draw(*lo, *hi),
+        Op::Finish(value) => Op::Finish(*value),
+        Op::Die(thrown) => Op::Die(*thrown),
+        _ => unreachable!(),
+    }
+}
+
+// How long the clocks pause.
+#[derive(Drop)]
+struct Pace {
+    delay: i64,
+}
+
+impl Model for Pace {
+    ghost use Rattle.std.specs.Prelude.{ℤ};
+
+    ghost Value = { ℤ };
+
+    ghost view = { λ a. a.delay };
+}
+
+// It logs the time and pauses, for ever.
+#[derive(Drop)]
+struct Clock {
+    own: ProcId,
+    last: Option<Op>,
+}
+
+impl Model for Clock {
+    ghost use Rattle.sim_kernel.specs.Clocks.{ClockOf};
+
+    ghost Value = { ClockOf };
+
+    ghost view = { λ a. record { own = a.own; last = a.last } };
+}
+
+impl Body for Clock {
+    ghost use Rattle.std.specs.Prelude.{[], refl};
+    ghost use Rattle.sim_machine.proofs.PlainBodies.{IsPlainBody};
+    ghost use Rattle.sim_kernel.specs.Clocks.{filled_clock, owned_clock, IsClockTurn, clock_tells, clock_facts, clock_lawful};
+
+    type Code = Pace;
+
+    ghost filled = { λ code. filled_clock };
+
+    ghost owned = { owned_clock };
+
+    ghost turn = { IsClockTurn };
+
+    ghost tell = { λ code. clock_tells };
+
+    ghost facts = { λ code. clock_facts };
+
+    ghost sound = { λ code. IsPlainBody (λ b. b.last) };
+
+    ghost held = { λ b. [] };
+
+    ghost lawful = { clock_lawful };
+
+    ghost places = { λ code b sound. refl };
+
+    fn blank(_alloc: Global, _code: &Pace) -> Result<Clock, AllocError> {
+        Ok(Clock {
+            own: ProcId(0),
+            last: None,
+        })
+    }
+
+    fn fill(&mut self, _code: &Pace, _kind: u32, _args: Args) {
+        self.own = ProcId(0);
+        self.last = None;
+    }
+
+    fn own(&mut self, id: ProcId) {
+        self.own = id;
+    }
+
+    fn poll(&mut self, code: &Pace, now: i64, _signal: Signal) -> Op {
+        let asked = match &self.last {
+            Some(Op::Log(_)) => Op::Pause(code.delay, 0),
+            _ => Op::Log(now),
+        };
+        self.last = Some(again(&asked));
+        asked
+    }
+
+    fn place(&self, _at: u8) -> EventId {
+        EventId(0)
+    }
+}
+
+// ---- runs
+
+// Makes units until none is left or the limit is reached, and gathers their lines.
+fn lines_of_units<B: Body>(
+    alloc: Global,
+    kernel: &mut Kernel<B>,
+    code: &B::Code,
+    limit: u32,
+) -> Result<Vec<Line>, AllocError>
+    requires code { code.now ≡ kernel.old.parts.code }
+    requires asks { AsksForBuilt (B.turn code.now) }
+    requires units { kernel.old.units ≡ 0 }
+{
+    let mut lines = Vec::new(alloc);
+    for _unit in 0..limit {
+        if !matches!(kernel.rest(), Rest::Busy | Rest::Idle) {
+            break;
+        }
+        if let Unit::Line(line) = kernel.unit(code)? {
+            lines.push(line)?;
+        }
+    }
+    Ok(lines)
+}
+
+// How the run has ended.
+fn end_of<B: Body>(kernel: &Kernel<B>) -> End {
+    match kernel.rest() {
+        Rest::Empty => End::Empty,
+        Rest::Over(why) => why,
+        Rest::Busy | Rest::Idle => End::Limit,
+    }
+}
+
+// The lines of a run of so many units at most, and one on its end.
+fn lines_of_run<B: Body>(
+    alloc: Global,
+    code: &B::Code,
+    setup: &Setup,
+    seed: u64,
+    limit: u32,
+) -> Result<Vec<Line>, AllocError>
+    requires fits { FitsCode (B.facts code.now) setup.now }
+    requires asks { AsksForBuilt (B.turn code.now) }
+{
+    let mut kernel = Kernel::<B>::new(alloc, code, setup, seed)?;
+    let lines = lines_of_units(alloc, &mut kernel, code, limit);
+    let end = end_of(&kernel);
+    let (time, processed) = kernel.finish();
+    let mut lines = lines?;
+    lines.push(Line::Finish {
+        end,
+        time,
+        processed,
+    })?;
+    Ok(lines)
+}
+
+// The start of a traveller that is given two numbers.
+fn traveller_start(kind: u32, first: i64, second: i64) -> Start
+    requires { kind < 3 }
+    ensures { IsTrue (start_fits traveller_facts result) }
+{
+    let mut args = Args::new();
+    args.push(first);
+    args.push(second);
+    Start { kind, args }
+}
+
+// The starts of these travellers.
+fn land_starts(
+    rt: &impl Abort,
+    alloc: Global,
+    travellers: &[(u32, i64, i64)],
+) -> Result<List<Start>, AllocError>
+    ensures pass { IfOk result (λ starts. AllPass (start_fits traveller_facts) starts) }
+    ensures few { IfOk result (λ starts. length starts ≤ length travellers.now) }
+{
+    let mut starts = List::new(alloc);
+    for (kind, first, second) in travellers {
+        assert!(rt; *kind < 3);
+        starts.push(traveller_start(*kind, *first, *second))?;
+    }
+    Ok(starts)
+}
+
+// The lines of a run of these travellers.
+#[tactic(auto, using(crate::proofs::TestSetups::land_fits, crate::proofs::TestSetups::travellers_ask_for_built))]
+fn land_run(
+    rt: &impl Abort,
+    alloc: Global,
+    until: Until,
+    travellers: &[(u32, i64, i64)],
+    limit: u32,
+) -> Result<Vec<Line>, AllocError>
+    requires { IsTrue (until_fits 0 until) }
+{
+    let starts = land_starts(rt, alloc, travellers)?;
+    assert!(rt; starts.len() <= 65536);
+    let setup = Setup {
+        until,
+        events: 0,
+        resources: List::new(alloc),
+        ports: List::new(alloc),
+        starts,
+    };
+    lines_of_run::<Traveller>(alloc, &Land {}, &setup, 7, limit)
+}
+
+// The lines of a run of so many clocks.
+#[tactic(auto, using(crate::proofs::TestSetups::clock_start_fits, crate::proofs::TestSetups::clocks_ask_for_built))]
+fn clock_run(alloc: Global, delay: i64, limit: u32) -> Result<Vec<Line>, AllocError> {
+    let mut starts = List::new(alloc);
+    starts.push(Start {
+        kind: 0,
+        args: Args::new(),
+    })?;
+    let setup = Setup {
+        until: Until::Never,
+        events: 0,
+        resources: List::new(alloc),
+        ports: List::new(alloc),
+        starts,
+    };
+    lines_of_run::<Clock>(alloc, &Pace { delay }, &setup, 0, limit)
+}
+
+// ---- lines
+
+fn line(
+    time: i64,
+    priority: u8,
+    number: u64,
+    kind: EventKind,
+    event: u64,
+    outcome: Outcome,
+) -> Line {
+    Line::Event {
+        time,
+        priority,
+        number,
+        kind,
+        event: EventId(event),
+        outcome,
+    }
+}
+
+fn init(number: u64, event: u64) -> Line {
+    line(0, 0, number, EventKind::Init, event, Outcome::Ok(0))
+}
+
+fn timeout(time: i64, number: u64, event: u64, value: i64) -> Line {
+    line(time, 1, number, EventKind::Timeout, event, Outcome::Ok(value))
+}
+
+fn finished(time: i64, number: u64, process: u64, value: i64) -> Line {
+    line(time, 1, number, EventKind::Process, process, Outcome::Ok(value))
+}
+
+fn log(time: i64, process: u64, value: i64) -> Line {
+    Line::Log {
+        time,
+        process: ProcId(process),
+        value,
+    }
+}
+
+fn end(end: End, time: i64, processed: u64) -> Line {
+    Line::Finish {
+        end,
+        time,
+        processed,
+    }
+}
+
+// ---- tests
+
+// The expected lines are worked out by the rules of docs/machine.md: an event is made when it is asked for and gets the
+// next number, an entry of the agenda gets the next scheduling number, and of two that are due at one time the urgent
+// one, and then the earlier scheduled one, comes first.
+#[test]
+fn travellers_are_told_what_the_machine_says(rt: HostRuntime) -> Result<(), Fail> {
+    let told = [
+        (0, 5, 7, 7),
+        (0, 0, 7, 7),
+        (0, 4_611_686_018_427_387_904, 7, 7),
+    ];
+    for (kind, first, second, value) in told {
+        let lines = land_run(&rt, rt.alloc(), Until::Never, &[(kind, first, second)], 100)?;
+        let want = [
+            init(0, 2),
+            timeout(first, 1, 3, value),
+            log(first, 1, value),
+            finished(first, 2, 1, value),
+            end(End::Empty, first, 3),
+        ];
+        assert_eq!(rt; lines.as_slice(), want.as_slice(), "pause of {first}");
+    }
+    let at_once = [
+        (0, -1, 7, 1),
+        (0, i64::MIN, 7, 1),
+        (0, 4_611_686_018_427_387_905, 7, 9),
+        (1, 3, 2, 8),
+        (1, 4, 4, 4),
+        (1, i64::MIN, i64::MIN, i64::MIN),
+    ];
+    for (kind, first, second, value) in at_once {
+        let lines = land_run(&rt, rt.alloc(), Until::Never, &[(kind, first, second)], 100)?;
+        let want = [
+            init(0, 2),
+            log(0, 1, value),
+            finished(0, 1, 1, second),
+            end(End::Empty, 0, 2),
+        ];
+        assert_eq!(rt; lines.as_slice(), want.as_slice(), "kind {kind} of {first}");
+    }
+    Ok(())
+}
+
+// The failure of a process that nobody waits for ends the run.
+#[test]
+fn a_failure_that_nobody_defused_ends_the_run(rt: HostRuntime) -> Result<(), Fail> {
+    let lines = land_run(&rt, rt.alloc(), Until::Never, &[(2, 0, 9), (0, 5, 7)], 100)?;
+    let thrown = Throw { kind: 1, value: 9 };
+    let want = [
+        init(0, 2),
+        log(0, 1, 0),
+        init(1, 4),
+        line(0, 1, 2, EventKind::Process, 1, Outcome::Fail(thrown)),
+        end(End::Crash, 0, 3),
+    ];
+    assert_eq!(rt; lines.as_slice(), want.as_slice());
+    Ok(())
+}
+
+// Two timeouts are due at one time: the one that was scheduled first comes first.
+#[test]
+fn ties_go_by_the_order_of_scheduling(rt: HostRuntime) -> Result<(), Fail> {
+    let lines = land_run(&rt, rt.alloc(), Until::Never, &[(0, 3, 1), (0, 3, 2)], 100)?;
+    let want = [
+        init(0, 2),
+        init(1, 4),
+        timeout(3, 2, 5, 1),
+        log(3, 1, 1),
+        timeout(3, 3, 6, 2),
+        log(3, 3, 2),
+        finished(3, 4, 1, 1),
+        finished(3, 5, 3, 2),
+        end(End::Empty, 3, 6),
+    ];
+    assert_eq!(rt; lines.as_slice(), want.as_slice());
+    Ok(())
+}
+
+// What stops a run at a time is urgent, so what else is due then is not processed.
+#[test]
+fn a_run_is_stopped_at_its_time(rt: HostRuntime) -> Result<(), Fail> {
+    let lines = land_run(&rt, rt.alloc(), Until::At(5), &[(0, 5, 7)], 100)?;
+    let want = [
+        init(0, 2),
+        line(5, 0, 1, EventKind::Stop, 3, Outcome::Ok(0)),
+        end(End::Until, 5, 2),
+    ];
+    assert_eq!(rt; lines.as_slice(), want.as_slice());
+    Ok(())
+}
+
+// A number is drawn by the first word of the generator that the seed, which is 7 here, gives.
+#[test]
+fn numbers_are_drawn_by_the_words_of_the_generator(rt: HostRuntime) -> Result<(), Fail> {
+    let word = Pcg64::seed_from_u64(7).next_word();
+    let lines = land_run(&rt, rt.alloc(), Until::Never, &[(1, 1, 6)], 100)?;
+    let drawn = 1 + (word % 6) as i64;
+    assert!(rt; lines.len() == 4);
+    assert_eq!(rt; lines[1], log(0, 1, drawn));
+    Ok(())
+}
+
+// Five units make a turn of the clock: an event is popped, its callback is called, the clock logs, pauses, and the event
+// is settled.
+#[test]
+fn a_clock_ticks_until_the_limit(rt: HostRuntime) -> Result<(), Fail> {
+    let whole = [
+        init(0, 2),
+        log(0, 1, 0),
+        timeout(2, 1, 3, 0),
+        log(2, 1, 2),
+        timeout(4, 2, 4, 0),
+    ];
+    let rows = [
+        (0, 0, 0),
+        (1, 1, 0),
+        (2, 1, 0),
+        (3, 2, 0),
+        (5, 2, 0),
+        (6, 3, 2),
+        (7, 3, 2),
+        (8, 4, 2),
+        (10, 4, 2),
+        (11, 5, 4),
+    ];
+    for (limit, count, time) in rows {
+        let lines = clock_run(rt.alloc(), 2, limit)?;
+        let processed = (count as u64).div_ceil(2);
+        assert!(rt; count <= lines.len() && count <= whole.len());
+        assert_eq!(rt; &lines[..count], &whole[..count], "limit {limit}");
+        assert_eq!(rt;
+            &lines[count..],
+            [end(End::Limit, time, processed)].as_slice(),
+            "limit {limit}"
+        );
+    }
+    Ok(())
+}
