@@ -1,3 +1,4 @@
+pub mod Answers
 pub mod Asked
 pub mod Bounds
 pub mod Headline
@@ -6,4 +7,5 @@ pub mod Numbers
 pub mod Plain
 pub mod Routine
 pub mod RoutineLaw
+pub mod StandsForRun
 pub mod Words
