@@ -40,7 +40,7 @@ pub prefix_none : (before : Option (List ℕ)) (bytes : List ℕ) → AppendsPre
 prefix_none before bytes = record { rest = bytes; front = record { front = []; parts = refl; appended = Appends-nil before } }
 
 -- some bytes were written, and then a prefix of those behind
-pub prefix_behind : (before middle after : Option (List ℕ)) (front back rest bytes : List ℕ) → Appends before middle front → AppendsPrefix middle after back → bytes ≡ (front ++ back) ++ rest → AppendsPrefix before after bytes
+prefix_behind : (before middle after : Option (List ℕ)) (front back rest bytes : List ℕ) → Appends before middle front → AppendsPrefix middle after back → bytes ≡ (front ++ back) ++ rest → AppendsPrefix before after bytes
 prefix_behind before middle after front back rest bytes written h is =
     record {
       rest = h.rest ++ rest;
@@ -55,7 +55,7 @@ prefix_behind before middle after front back rest bytes written h is =
     }
 
 -- a prefix of a front
-pub prefix_of_front : (before after : Option (List ℕ)) (front rest bytes : List ℕ) → AppendsPrefix before after front → bytes ≡ front ++ rest → AppendsPrefix before after bytes
+prefix_of_front : (before after : Option (List ℕ)) (front rest bytes : List ℕ) → AppendsPrefix before after front → bytes ≡ front ++ rest → AppendsPrefix before after bytes
 prefix_of_front before after front rest bytes h is =
     record { rest = h.rest ++ rest; front = record { front = h.front.front; parts = sym (append_assoc h.front.front h.rest rest) ∙ (ap (λ r. r ++ rest) h.front.parts ∙ sym is); appended = h.front.appended } }
 
@@ -135,9 +135,9 @@ none_added sketch n answer before h is = rw h (rw is (Appends-nil before))
 abbrev pub finish_of : PartsOf RoutineOf Sketch → Line
 finish_of parts = line.Finish (stopped_at (rest_of parts.control parts.calendar.agenda)) parts.calendar.time parts.processed
 
-pub finish_is : (parts : PartsOf RoutineOf Sketch) (where_it_stands : Rest) (end : End) (finish : Line) → where_it_stands ≡ rest_of parts.control parts.calendar.agenda → end ≡ stopped_at where_it_stands
+pub finish_is : (parts : PartsOf RoutineOf Sketch) (rest : Rest) (end : End) (finish : Line) → rest ≡ rest_of parts.control parts.calendar.agenda → end ≡ stopped_at rest
     → finish ≡ line.Finish end parts.calendar.time parts.processed → finish ≡ finish_of parts
-finish_is parts where_it_stands end finish stands ended is = is ∙ rw (ended, stands) refl
+finish_is parts rest end finish stands ended is = is ∙ rw (ended, stands) refl
 
 -- the text of the whole trace
 trace_is : (sketch : Sketch) (limit : ℕ) (parts : PartsOf RoutineOf Sketch) (finish : Line) → StandsForRun sketch limit parts → finish ≡ finish_of parts

@@ -38,7 +38,7 @@ impl Model for Routine {
 
 impl Body for Routine {
     ghost use Rattle.sim_desk.specs.Routine.{filled_routine, owned_routine, IsRoutineTurn, routine_tells, routine_facts, routine_holds, IsSoundRoutine};
-    ghost use Rattle.sim_desk.specs.RoutineLaw.{routine_lawful, routine_has_no_places};
+    ghost use Rattle.sim_desk.specs.RoutineLaw.{routine_lawful, routine_has_no_places, routine_has_few_places};
 
     type Code = Sketch;
 
@@ -59,6 +59,8 @@ impl Body for Routine {
     ghost lawful = { routine_lawful };
 
     ghost places = { routine_has_no_places };
+
+    ghost few_places = { routine_has_few_places };
 
     fn blank(_alloc: Global, _code: &Sketch) -> Result<Routine, AllocError> {
         Ok(Routine {

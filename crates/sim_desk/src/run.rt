@@ -18,7 +18,7 @@ use sim_outside::{Failed, Sink, write_all};
 use sim_types::{End, Line};
 use std::alloc::{AllocError, Global};
 
-/// Of which the random words are. A plain scenario draws none.
+/// The seed of the random words, of which a plain scenario draws none.
 const SEED: u64 = 0;
 
 /// Why a run stopped short.

@@ -45,6 +45,7 @@ impl Model for Traveller {
 
 impl Body for Traveller {
     ghost use Rattle.std.specs.Prelude.{[], refl};
+    ghost use Rattle.std.proofs.Common.{lit≤};
     ghost use Rattle.sim_machine.proofs.PlainBodies.{IsPlainBody};
     ghost use Rattle.sim_kernel.specs.Travellers.{filled_traveller, owned_traveller, IsTravellerTurn, traveller_tells, traveller_facts, traveller_lawful};
 
@@ -67,6 +68,8 @@ impl Body for Traveller {
     ghost lawful = { λ code. traveller_lawful };
 
     ghost places = { λ code b sound. refl };
+
+    ghost few_places = { λ code b sound. lit≤ tt };
 
     fn blank(_alloc: Global, _code: &Land) -> Result<Traveller, AllocError> {
         Ok(Traveller {
@@ -199,6 +202,7 @@ impl Model for Clock {
 
 impl Body for Clock {
     ghost use Rattle.std.specs.Prelude.{[], refl};
+    ghost use Rattle.std.proofs.Common.{lit≤};
     ghost use Rattle.sim_machine.proofs.PlainBodies.{IsPlainBody};
     ghost use Rattle.sim_kernel.specs.Clocks.{filled_clock, owned_clock, IsClockTurn, clock_tells, clock_facts, clock_lawful};
 
@@ -221,6 +225,8 @@ impl Body for Clock {
     ghost lawful = { clock_lawful };
 
     ghost places = { λ code b sound. refl };
+
+    ghost few_places = { λ code b sound. lit≤ tt };
 
     fn blank(_alloc: Global, _code: &Pace) -> Result<Clock, AllocError> {
         Ok(Clock {

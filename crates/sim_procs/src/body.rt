@@ -1,4 +1,4 @@
-ghost use Rattle.std.specs.Prelude.{◌≡◌, ℕ, ℤ, List, map, ◌<◌, ◌^◌, IsTrue, length, slice_index_or, []};
+ghost use Rattle.std.specs.Prelude.{◌≤◌, ◌≡◌, ℕ, ℤ, List, map, ◌<◌, ◌^◌, IsTrue, length, slice_index_or, []};
 ghost use Rattle.sim_types.specs.declared.event.EventId.{EventId};
 ghost use Rattle.sim_types.specs.declared.event.ProcId.{ProcId};
 ghost use Rattle.sim_types.specs.declared.event.Signal.{Signal};
@@ -69,4 +69,7 @@ pub trait Body: Sized + Drop {
 
     /// The places that a sound body tells are those that `place` reads.
     ghost places: { (code : Self.Code) (body : Self) → sound code body → map (λ x. x.event) ((tell code).places body) ≡ held body };
+
+    /// A sound body has at most 64 places.
+    ghost few_places: { (code : Self.Code) (body : Self) → sound code body → length (held body) ≤ 64 };
 }

@@ -33,6 +33,7 @@ impl Model for Car {
 
 impl Body for Car {
     ghost use Rattle.std.specs.Prelude.{[], refl};
+    ghost use Rattle.std.proofs.Common.{lit≤};
     ghost use Rattle.sim_procs.specs.Cars.{road_facts, car_tells, car_filled, IsCarTurn};
     ghost use Rattle.sim_procs.specs.CarLaw.{car_lawful};
 
@@ -55,6 +56,8 @@ impl Body for Car {
     ghost lawful = { λ code. car_lawful };
 
     ghost places = { λ code b sound. refl };
+
+    ghost few_places = { λ code b sound. lit≤ tt };
 
     fn blank(_alloc: Global, _code: &Road) -> Result<Car, AllocError> {
         Ok(Car {

@@ -1,8 +1,11 @@
 use Rattle.std.proofs.Common.{◌∙◌, ap}
 use Rattle.sim_desk.specs.StandsForRun.{stopped_at}
 use Rattle.sim_desk.proofs.RunEnds.{end_is}
-use Rattle.sim_desk.proofs.RunTexts.{finish_is, prefix_whole, end_cut, trace_written}
+use Rattle.sim_desk.proofs.RunTexts.{finish_is, prefix_whole, lines_cut, end_cut, trace_written}
 use Rattle.sim_desk.proofs.run.write_trace.Goals as goal
+
+pub returns-in_err-write_units-clause-prefix : goal.returns-in_err-write_units-clause-prefix
+returns-in_err-write_units-clause-prefix g c = lines_cut c.args.sketch.now c.args.limit _ _ c.write_units.ensures.prefix
 
 pub returns-in_err-write_line-clause-prefix : goal.returns-in_err-write_line-clause-prefix
 returns-in_err-write_line-clause-prefix g c =
