@@ -1,8 +1,8 @@
 -- What a call on a text has written and answers.
-use Rattle.std.proofs.Common.{◌≡◌, ℕ, ◌<◌, ◌≤◌, Bool, true, false, List, [], length, take, refl, sym, subst, ap, ◌∙◌, Option, None, Some, arith}
+use Rattle.std.proofs.Common.{◌≡◌, ℕ, ◌<◌, Bool, true, false, List, [], length, take, refl, sym, subst, ap, ◌∙◌, Option, None, Some, arith}
 use Rattle.std.specs.Prelude.{◌&&◌, codes, nat_le, nat_eq, if◌then◌else◌, IfSome, IsTrue}
 use Rattle.std.specs.List.{ends_with}
-use Rattle.std.specs.Io.KnownBytes.{Appends, Keeps}
+use Rattle.std.specs.Io.KnownBytes.{Appends}
 use Rattle.std.proofs.KnownBytes.{Appends-nil}
 use Rattle.std.proofs.lemmas.Bool.Decides.{nat_tests}
 use Rattle.std.proofs.lemmas.List.{take_all, length-take-le}
@@ -17,7 +17,7 @@ use Rattle.sim_outside.specs.Writes.{AppendsPrefix}
 use Rattle.sim_desk.specs.declared.sketch.Sketch.{Sketch}
 use Rattle.sim_desk.specs.Answers.{IfRun, is_whole, AnswersWhole, AnswersPrefix}
 use Rattle.sim_desk.specs.Headline.{answer_to, answer_of, status_of_end, status_to, status_of, end_of_sketch}
-use Rattle.sim_desk.specs.Plain.{scenario_of, is_laid_out, sketch_of}
+use Rattle.sim_desk.specs.Plain.{scenario_of, sketch_of}
 
 -- ---- a text that is too long
 

@@ -1,5 +1,5 @@
 -- What a call on `run LIMIT` has written and answered.
-use Rattle.std.specs.Prelude.{◌≡◌, ℕ, List, Bool, true, false, Option, Some, IfSome}
+use Rattle.std.specs.Prelude.{◌≡◌, ℕ, List, drop, Bool, true, false, Option, Some, None, IfSome}
 use Rattle.std.specs.Io.KnownBytes.{Appends}
 use Rattle.sim_types.specs.declared.command.Command.{Command}
 use Rattle.sim_types.specs.declared.command.Command.TheVariants.{Run}
@@ -20,6 +20,11 @@ is_whole status.Refused = true
 is_whole status.Crash = true
 is_whole status.Limit = true
 is_whole _ = false
+
+-- the bytes left were taken to their end, or one byte more than a text may have, where the source tells its bytes
+abbrev pub ReadsWhole : Option (List ℕ) → Option (List ℕ) → Type 0
+ReadsWhole None after = Unit {0}
+ReadsWhole (Some left) after = after ≡ Some (drop 4194305 left)
 
 -- the whole answer to a text was written, and the status is that of the text; where the source told the bytes left,
 -- they are the text

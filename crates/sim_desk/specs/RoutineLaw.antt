@@ -1,5 +1,5 @@
 -- A routine keeps the law of bodies.
-use Rattle.std.specs.Prelude.{◌≡◌, ◌≤◌, ℕ, ℤ, [], map, length, slice_get, Option, Some, None, refl}
+use Rattle.std.specs.Prelude.{◌≡◌, ◌≤◌, ℤ, map, length, slice_get, Option, Some, None, refl}
 use Rattle.std.proofs.Common.{lit≤}
 use Rattle.sim_types.specs.declared.event.Signal.{Signal}
 use Rattle.sim_types.specs.declared.event.Signal.TheVariants as signal

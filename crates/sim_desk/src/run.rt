@@ -64,6 +64,7 @@ pub(crate) fn run_sketch<K: Sink>(
     ensures never_falls { K.faults out.old ≤ K.faults out.new }
     ensures ok { OnOk result (K.faults out.new ≡ K.faults out.old) }
     ensures write { IsErrOf result RunFault.Write → Rose (K.faults out.old) (K.faults out.new) }
+    ensures memory { IsErrOf result RunFault.Memory → K.faults out.new ≡ K.faults out.old }
 {
     let setup = setup_of(alloc, sketch)?;
     let mut kernel = Kernel::<Routine>::new(alloc, sketch, &setup, SEED)?;
@@ -88,6 +89,7 @@ fn write_trace<K: Sink>(
     ensures never_falls { K.faults out.old ≤ K.faults out.new }
     ensures ok { OnOk result (K.faults out.new ≡ K.faults out.old) }
     ensures write { IsErrOf result RunFault.Write → Rose (K.faults out.old) (K.faults out.new) }
+    ensures memory { IsErrOf result RunFault.Memory → K.faults out.new ≡ K.faults out.old }
 {
     let mut buffer = Vec::new(alloc);
     write_units(sketch, kernel, limit, &mut buffer, out)?;
@@ -114,6 +116,7 @@ fn write_units<K: Sink>(
     ensures never_falls { K.faults out.old ≤ K.faults out.new }
     ensures ok { OnOk result (K.faults out.new ≡ K.faults out.old) }
     ensures write { IsErrOf result RunFault.Write → Rose (K.faults out.old) (K.faults out.new) }
+    ensures memory { IsErrOf result RunFault.Memory → K.faults out.new ≡ K.faults out.old }
 {
     for _unit in 0..limit {
         if !can_step(kernel.rest()) {
@@ -141,6 +144,7 @@ fn write_unit<K: Sink>(
     ensures never_falls { K.faults out.old ≤ K.faults out.new }
     ensures ok { OnOk result (K.faults out.new ≡ K.faults out.old) }
     ensures write { IsErrOf result RunFault.Write → Rose (K.faults out.old) (K.faults out.new) }
+    ensures memory { IsErrOf result RunFault.Memory → K.faults out.new ≡ K.faults out.old }
 {
     match kernel.unit(sketch)? {
         Unit::Quiet => Ok(()),
@@ -155,6 +159,7 @@ fn write_line<K: Sink>(line: &Line, buffer: &mut Vec<u8>, out: &mut K) -> Result
     ensures never_falls { K.faults out.old ≤ K.faults out.new }
     ensures ok { OnOk result (K.faults out.new ≡ K.faults out.old) }
     ensures write { IsErrOf result RunFault.Write → Rose (K.faults out.old) (K.faults out.new) }
+    ensures memory { IsErrOf result RunFault.Memory → K.faults out.new ≡ K.faults out.old }
 {
     buffer.clear();
     render(line, buffer)?;

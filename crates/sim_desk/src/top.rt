@@ -1,11 +1,11 @@
 //! The top call.
-ghost use Rattle.std.specs.Prelude.{◌≡◌, ◌⊎◌, ◌↔◌, None, IsTrue, IfOk, OnOk, IsErrOf};
+ghost use Rattle.std.specs.Prelude.{◌≡◌, ◌≢◌, ◌⊎◌, ◌↔◌, None, IsTrue, IfOk, OnOk, IsErrOf};
 ghost use Rattle.std.specs.Io.KnownBytes.{Appends};
 ghost use Rattle.sim_outside.specs.Causes.{Rose};
 ghost use Rattle.sim_outside.specs.Writes.{AppendsPrefix};
 ghost use Rattle.sim_desk.specs.Headline.{answer_to, answer_of, status_of_end, status_of};
 ghost use Rattle.sim_desk.specs.Words.{command};
-ghost use Rattle.sim_desk.specs.Answers.{IfRun, is_whole, AnswersWhole, AnswersPrefix};
+ghost use Rattle.sim_desk.specs.Answers.{IfRun, is_whole, ReadsWhole, AnswersWhole, AnswersPrefix};
 
 use crate::command::command;
 use crate::reader::read_plain;
@@ -48,9 +48,12 @@ pub fn desk<S: Source, K: Sink, R: Threads + Sync>(
     // A failed write: only where the sink's count rose.
     ensures write_fault { result ≡ Status.WriteFault → Rose (K.faults out.old) (K.faults out.new) }
 
-    // After a whole answer both counts are as before.
-    ensures read_well { IsTrue (is_whole result) → S.faults source.new ≡ S.faults source.old }
-    ensures wrote_well { IsTrue (is_whole result) → K.faults out.new ≡ K.faults out.old }
+    // The counts rise for no other answer.
+    ensures read_well { result ≢ Status.ReadFault → S.faults source.new ≡ S.faults source.old }
+    ensures wrote_well { result ≢ Status.WriteFault → K.faults out.new ≡ K.faults out.old }
+
+    // After a whole answer the source was read to its end, or one byte more than a text may have was taken.
+    ensures read_whole { IsTrue (is_whole result) → ReadsWhole (S.left source.old) (S.left source.new) }
 
     // Where the words are a command and neither count rises, the whole answer is written, unless memory is wanting.
     ensures complete { IfRun (command words.now) (λ limit. ¬ Rose (S.faults source.old) (S.faults source.new) → ¬ Rose (K.faults out.old) (K.faults out.new) → IsTrue (is_whole result) ⊎ (result ≡ Status.Memory)) }
@@ -79,6 +82,7 @@ fn answer<K: Sink>(alloc: Global, text: &[u8], limit: u32, out: &mut K) -> Resul
     ensures prefix { AppendsPrefix (K.taken out.old) (K.taken out.new) (answer_of text.now limit) }
     ensures ok { OnOk result (K.faults out.new ≡ K.faults out.old) }
     ensures write { IsErrOf result RunFault.Write → Rose (K.faults out.old) (K.faults out.new) }
+    ensures memory { IsErrOf result RunFault.Memory → K.faults out.new ≡ K.faults out.old }
 {
     match read_plain(alloc, text)? {
         Some(sketch) => {
@@ -98,6 +102,7 @@ fn refuse<K: Sink>(alloc: Global, out: &mut K) -> Result<(), RunFault>
     ensures prefix { AppendsPrefix (K.taken out.old) (K.taken out.new) (answer_to None 0) }
     ensures ok { OnOk result (K.faults out.new ≡ K.faults out.old) }
     ensures write { IsErrOf result RunFault.Write → Rose (K.faults out.old) (K.faults out.new) }
+    ensures memory { IsErrOf result RunFault.Memory → K.faults out.new ≡ K.faults out.old }
 {
     let fault = Fault {
         line: 0,

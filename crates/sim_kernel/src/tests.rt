@@ -410,11 +410,25 @@ fn init(number: u64, event: u64) -> Line {
 }
 
 fn timeout(time: i64, number: u64, event: u64, value: i64) -> Line {
-    line(time, 1, number, EventKind::Timeout, event, Outcome::Ok(value))
+    line(
+        time,
+        1,
+        number,
+        EventKind::Timeout,
+        event,
+        Outcome::Ok(value),
+    )
 }
 
 fn finished(time: i64, number: u64, process: u64, value: i64) -> Line {
-    line(time, 1, number, EventKind::Process, process, Outcome::Ok(value))
+    line(
+        time,
+        1,
+        number,
+        EventKind::Process,
+        process,
+        Outcome::Ok(value),
+    )
 }
 
 fn log(time: i64, process: u64, value: i64) -> Line {

@@ -1,14 +1,14 @@
 -- A body that remembers no events and opens no scopes keeps the law of bodies.
-use Rattle.std.proofs.Common.{◌≡◌, ℕ, ℤ, Bool, true, false, List, [], refl, lit≤, Option, Some, None, IsTrue}
+use Rattle.std.proofs.Common.{◌≡◌, ℕ, ℤ, Bool, true, false, List, [], refl, lit≤, Option, Some, None}
 use Rattle.sim_types.specs.declared.event.ProcId.{ProcId}
 use Rattle.sim_types.specs.declared.event.Signal.{Signal}
 use Rattle.sim_types.specs.declared.event.Signal.TheVariants as signal
 use Rattle.sim_types.specs.declared.op.Op.{Op}
 use Rattle.sim_types.specs.declared.op.Op.TheVariants as op
 use Rattle.sim_machine.specs.Tellings.{Telling, CodeFacts}
-use Rattle.sim_machine.specs.MayFollow.{is_enter, may_be_told}
+use Rattle.sim_machine.specs.MayFollow.{is_enter}
 use Rattle.sim_machine.specs.MayAsk.{may_ask}
-use Rattle.sim_machine.specs.BodyLaw.{IsLawfulPoll, IsLawfulBody, may_begin, scopes_told, scopes_asked}
+use Rattle.sim_machine.specs.BodyLaw.{IsLawfulPoll, IsLawfulBody, scopes_told, scopes_asked}
 
 -- what such a body tells
 abbrev pub plain_tells : {B : Type 0} → (B → ProcId) → (B → Option Op) → Telling B
@@ -77,5 +77,5 @@ plain_lawful f own last start turn begins polls =
       begins = λ k args p may. rw (begins k args p).unpolled refl;
       polls = λ b time x asked d sound told turned. poll_lawful f own last b d x asked sound (polls b time x asked d turned);
       keeps = λ b time x asked d sound told turned.
-        let polled = polls b time x asked d turned in rw polled.asks_last (plain_free f (own d) asked polled.plain).opens;
+          let polled = polls b time x asked d turned in rw polled.asks_last (plain_free f (own d) asked polled.plain).opens;
     }
