@@ -21,7 +21,7 @@ use std::thread::Threads;
 const MOST_BYTES: u32 = 4_194_304;
 
 /// Carries out the command that the words say: reads from the source, and writes to the sink. The answer says how it
-/// ended.
+/// ended. The first argument lends threads to commands that run on several; `run` needs none.
 #[tactic(auto, using(crate::proofs::Telling::whole_answer, crate::proofs::Telling::prefix_answer, crate::proofs::Telling::none_answered))]
 pub fn desk<S: Source, K: Sink, R: Threads + Sync>(
     _rt: &R,

@@ -1,16 +1,15 @@
 -- The setups of the tests fit the bodies of the tests.
-use Rattle.std.proofs.Common.{◌≡◌, ℤ, ℕ, zero, suc, ◌≤◌, ◌<◌, lit≤, true, refl, List, [], ◌∷◌, length, IsTrue, arith}
+use Rattle.std.proofs.Common.{◌≡◌, ℤ, ◌≤◌, lit≤, true, refl, List, [], ◌∷◌, length, IsTrue}
 use Rattle.std.specs.List.{AllPass}
 use Rattle.std.proofs.lemmas.List.Elements.{All-nil, All-cons}
 use Rattle.sim_types.specs.declared.setup.Start.{Start}
-use Rattle.sim_types.specs.declared.setup.Setup.{Setup}
 use Rattle.sim_types.specs.declared.setup.Until.{Until}
 use Rattle.sim_types.specs.declared.setup.Until.TheVariants as until
 use Rattle.sim_types.specs.declared.op.Op.{Op}
 use Rattle.sim_types.specs.declared.op.Op.TheVariants as op
 use Rattle.sim_machine.proofs.PlainBodies.{is_plain}
 use Rattle.sim_machine.specs.Setups.{FitsCode, start_fits, until_fits, resource_fits, port_fits}
-use Rattle.sim_kernel.specs.Travellers.{traveller_facts, IsTravellerTurn, TravellerOf, next_is_plain}
+use Rattle.sim_kernel.specs.Travellers.{traveller_facts, IsTravellerTurn, next_is_plain}
 use Rattle.sim_kernel.specs.Clocks.{clock_facts, IsClockTurn, tick_plain}
 use Rattle.sim_kernel.specs.Built.{AsksForBuilt, is_built}
 

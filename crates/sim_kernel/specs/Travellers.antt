@@ -8,7 +8,7 @@ use Rattle.sim_types.specs.declared.op.Op.TheVariants as op
 use Rattle.sim_types.specs.declared.setup.Class.TheVariants as class
 use Rattle.sim_machine.specs.Tellings.{CodeFacts, Telling}
 use Rattle.sim_machine.specs.BodyLaw.{IsLawfulBody}
-use Rattle.sim_machine.proofs.PlainBodies.{plain_tells, is_plain, IsPlainBody, BeginsPlain, PollsPlain, plain_lawful}
+use Rattle.sim_machine.proofs.PlainBodies.{plain_tells, is_plain, IsPlainBody, PollsPlain, plain_lawful}
 
 -- its number, its kind, the two numbers that it was given, and what it asked for last
 pub record TravellerOf : Type 0 where

@@ -75,7 +75,9 @@ impl<B: Body> Kernel<B> {
         requires can { IsTrue (can_step (rest_of self.old.parts.control self.old.parts.calendar.agenda)) }
         requires asks { AsksForBuilt (B.turn code.now) }
         requires units { self.old.units < 2 ^ 32 }
+        // From each lawful state that it stood for, and by the invariant there is one.
         ensures steps { IfOk result (λ unit. MakesStep B.filled B.owned B.tell B.sound (IsStep (plan_of B.filled B.owned self.old.parts) (B.turn code.now)) self.old.parts unit self.new.parts) }
+
         ensures opened { OnOk result (IsOpenedAs self.old.parts self.new.parts) }
         ensures units { OnOk result (self.new.units ≡ self.old.units + 1) }
         ensures err { OnErr result (self.new ≡ record self.old { parts = record self.old.parts { room = self.new.parts.room } }) }

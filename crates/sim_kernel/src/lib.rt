@@ -3,15 +3,18 @@
 
 mod agenda;
 mod calendar;
+#[cfg(test)]
+mod clock;
 mod draw;
 mod event;
 mod kernel;
 mod mode;
 mod opening;
 mod parts;
+#[cfg(test)]
+mod tests;
+#[cfg(test)]
+mod traveller;
 
 pub use kernel::Kernel;
 pub use mode::{Rest, Unit};
-
-#[cfg(test)]
-mod tests;

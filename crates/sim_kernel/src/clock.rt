@@ -1,0 +1,93 @@
+//! Clocks: bodies for tests.
+use crate::traveller::again;
+use sim_procs::Body;
+use sim_types::{Args, EventId, Op, ProcId, Signal};
+use std::alloc::{AllocError, Global};
+use std::marker::Model;
+
+/// How long the clocks pause.
+#[derive(Drop)]
+pub(crate) struct Pace {
+    pub(crate) delay: i64,
+}
+
+impl Model for Pace {
+    ghost use Rattle.std.specs.Prelude.{ℤ};
+
+    ghost Value = { ℤ };
+
+    ghost view = { λ a. a.delay };
+}
+
+/// It logs the time and pauses, for ever.
+#[derive(Drop)]
+pub(crate) struct Clock {
+    own: ProcId,
+    last: Option<Op>,
+}
+
+impl Model for Clock {
+    ghost use Rattle.sim_kernel.specs.Clocks.{ClockOf};
+
+    ghost Value = { ClockOf };
+
+    ghost view = { λ a. record { own = a.own; last = a.last } };
+}
+
+impl Body for Clock {
+    ghost use Rattle.std.specs.Prelude.{[], refl};
+    ghost use Rattle.std.proofs.Common.{lit≤};
+    ghost use Rattle.sim_machine.proofs.PlainBodies.{IsPlainBody};
+    ghost use Rattle.sim_kernel.specs.Clocks.{filled_clock, owned_clock, IsClockTurn, clock_tells, clock_facts, clock_lawful};
+
+    type Code = Pace;
+
+    ghost filled = { λ code. filled_clock };
+
+    ghost owned = { owned_clock };
+
+    ghost turn = { IsClockTurn };
+
+    ghost tell = { λ code. clock_tells };
+
+    ghost facts = { λ code. clock_facts };
+
+    ghost sound = { λ code. IsPlainBody (λ b. b.last) };
+
+    ghost held = { λ b. [] };
+
+    ghost lawful = { clock_lawful };
+
+    ghost places = { λ code b sound. refl };
+
+    ghost few_places = { λ code b sound. lit≤ tt };
+
+    fn blank(_alloc: Global, _code: &Pace) -> Result<Clock, AllocError> {
+        Ok(Clock {
+            own: ProcId(0),
+            last: None,
+        })
+    }
+
+    fn fill(&mut self, _code: &Pace, _kind: u32, _args: Args) {
+        self.own = ProcId(0);
+        self.last = None;
+    }
+
+    fn own(&mut self, id: ProcId) {
+        self.own = id;
+    }
+
+    fn poll(&mut self, code: &Pace, now: i64, _signal: Signal) -> Op {
+        let asked = match &self.last {
+            Some(Op::Log(_)) => Op::Pause(code.delay, 0),
+            _ => Op::Log(now),
+        };
+        self.last = Some(again(&asked));
+        asked
+    }
+
+    fn place(&self, _at: u8) -> EventId {
+        EventId(0)
+    }
+}

@@ -1,0 +1,159 @@
+//! Travellers: bodies for tests.
+ghost use Rattle.std.specs.Prelude.{◌≡◌, [], ◌∷◌, IsTrue, pos, slice_index_or};
+ghost use Rattle.sim_machine.proofs.PlainBodies.{is_plain};
+ghost use Rattle.sim_kernel.specs.Travellers.{heard};
+
+use sim_procs::Body;
+use sim_types::{Args, EventId, Op, ProcId, Signal, Throw};
+use std::alloc::{AllocError, Global};
+use std::marker::Model;
+
+/// The land in which travellers are under way.
+#[derive(Drop)]
+pub(crate) struct Land {}
+
+/// It pauses, draws a number or does nothing, logs what it was told, and ends.
+#[derive(Drop)]
+pub(crate) struct Traveller {
+    own: ProcId,
+    kind: u32,
+    first: i64,
+    second: i64,
+    last: Option<Op>,
+}
+
+impl Model for Traveller {
+    ghost use Rattle.sim_kernel.specs.Travellers.{TravellerOf};
+
+    ghost Value = { TravellerOf };
+
+    ghost view = { λ a. record { own = a.own; kind = a.kind; first = a.first; second = a.second; last = a.last } };
+}
+
+impl Body for Traveller {
+    ghost use Rattle.std.specs.Prelude.{[], refl};
+    ghost use Rattle.std.proofs.Common.{lit≤};
+    ghost use Rattle.sim_machine.proofs.PlainBodies.{IsPlainBody};
+    ghost use Rattle.sim_kernel.specs.Travellers.{filled_traveller, owned_traveller, IsTravellerTurn, traveller_tells, traveller_facts, traveller_lawful};
+
+    type Code = Land;
+
+    ghost filled = { λ code. filled_traveller };
+
+    ghost owned = { owned_traveller };
+
+    ghost turn = { λ code. IsTravellerTurn };
+
+    ghost tell = { λ code. traveller_tells };
+
+    ghost facts = { λ code. traveller_facts };
+
+    ghost sound = { λ code. IsPlainBody (λ b. b.last) };
+
+    ghost held = { λ b. [] };
+
+    ghost lawful = { λ code. traveller_lawful };
+
+    ghost places = { λ code b sound. refl };
+
+    ghost few_places = { λ code b sound. lit≤ tt };
+
+    fn blank(_alloc: Global, _code: &Land) -> Result<Traveller, AllocError> {
+        Ok(Traveller {
+            own: ProcId(0),
+            kind: 0,
+            first: 0,
+            second: 0,
+            last: None,
+        })
+    }
+
+    fn fill(&mut self, _code: &Land, kind: u32, args: Args) {
+        self.own = ProcId(0);
+        self.kind = kind;
+        let [first, second] = numbers(&args);
+        self.first = first;
+        self.second = second;
+        self.last = None;
+    }
+
+    fn own(&mut self, id: ProcId) {
+        self.own = id;
+    }
+
+    fn poll(&mut self, _code: &Land, _now: i64, signal: Signal) -> Op {
+        let asked = self.next(signal);
+        self.last = Some(again(&asked));
+        asked
+    }
+
+    fn place(&self, _at: u8) -> EventId {
+        EventId(0)
+    }
+}
+
+impl Traveller {
+    ghost use Rattle.sim_kernel.specs.Travellers.{next_of};
+
+    // What it asks for next.
+    #[tactic(auto, using(crate::specs::Travellers::next_is_plain))]
+    fn next(&self, told: Signal) -> Op
+        ensures next { result ≡ next_of self.now told }
+        ensures plain { IsTrue (is_plain result) }
+    {
+        match &self.last {
+            None => match self.kind {
+                0 => Op::Pause(self.first, self.second),
+                1 => Op::Draw(self.first, self.second),
+                _ => Op::Nop,
+            },
+            Some(Op::Log(_)) => match self.kind {
+                2 => Op::Die(Throw {
+                    kind: 1,
+                    value: self.second,
+                }),
+                _ => Op::Finish(self.second),
+            },
+            Some(_) => Op::Log(heard(told)),
+        }
+    }
+}
+
+// The number in what a process is told.
+fn heard(told: Signal) -> i64
+    ensures { result ≡ heard told }
+{
+    match told {
+        Signal::Value(value) => value,
+        Signal::Number(number) => number,
+        Signal::Raised(error) => i64::from(error),
+        _ => 0,
+    }
+}
+
+// The first two numbers; 0 where there is none.
+fn numbers(args: &Args) -> [i64; 2]
+    ensures { result ≡ slice_index_or args.now 0 (pos 0) ∷ slice_index_or args.now 1 (pos 0) ∷ [] }
+{
+    match args.as_slice() {
+        [] => [0, 0],
+        [first] => [*first, 0],
+        [first, second, ..] => [*first, *second],
+    }
+}
+
+/// The same operation once more.
+pub(crate) fn again(asked: &Op) -> Op
+    requires { IsTrue (is_plain asked.now) }
+    ensures { result ≡ asked.now }
+{
+    match asked {
+        Op::Nop => Op::Nop,
+        Op::Pause(delay, value) => Op::Pause(*delay, *value),
+        Op::Log(value) => Op::Log(*value),
+        Op::Draw(lo, hi) => Op::Draw(*lo, *hi),
+        Op::Finish(value) => Op::Finish(*value),
+        Op::Die(thrown) => Op::Die(*thrown),
+        _ => unreachable!(),
+    }
+}
