@@ -1,7 +1,7 @@
 -- Calendars that differ in the order of their agendas differ so after each change.
 use Rattle.std.proofs.Common.{◌≡◌, ℕ, ◌+◌, ℤ, ◌+ℤ◌, ◌∷◌, refl, sym, ap, subst, ◌∙◌}
 use Rattle.std.specs.List.Sorted.{IsPermutation}
-use Rattle.std.proofs.lemmas.List.Sorted.{IsPermutation-refl, IsPermutation-cons, IsPermutation-trans}
+use Rattle.std.proofs.lemmas.List.Sorted.{IsPermutation-cons, IsPermutation-trans}
 use Rattle.sim_types.specs.declared.event.EventId.{EventId}
 use Rattle.sim_types.specs.declared.event.EventKind.{EventKind}
 use Rattle.sim_types.specs.declared.event.Entry.{Entry}
@@ -14,9 +14,6 @@ use Rattle.sim_machine.specs.Events.{next_event, register}
 use Rattle.sim_machine.specs.Triggering.{normal, make, schedule, make_timeout}
 use Rattle.sim_kernel.specs.Same.{SameCalendar}
 use Rattle.sim_kernel.proofs.Calendars.{entry_at}
-
-pub same_self : (a : Calendar) → SameCalendar a a
-same_self a = record { time = refl; scheduled = refl; agenda = IsPermutation-refl a.agenda; events = refl; registered = refl }
 
 pub same_trans : (a b c : Calendar) → SameCalendar a b → SameCalendar b c → SameCalendar a c
 same_trans a b c h k =

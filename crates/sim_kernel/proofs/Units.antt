@@ -9,7 +9,7 @@ use Rattle.sim_machine.specs.Standing.{left_of}
 use Rattle.sim_machine.specs.Steps.{Turn, IsStep}
 use Rattle.sim_kernel.specs.declared.mode.Unit.{Unit}
 use Rattle.sim_kernel.specs.PartsOf.{PartsOf, RoomOf, IsOpenedAs, plan_of}
-use Rattle.sim_kernel.specs.StandsFor.{StandsFor, StandsForSome, LawfulOf, Moves}
+use Rattle.sim_kernel.specs.StandsFor.{StandsFor, LawfulOf, Moves}
 use Rattle.sim_kernel.specs.Built.{AsksForBuilt, HasBuiltCallbacks, IsBounded, is_built_callback, most_opened, most_made}
 use Rattle.sim_kernel.specs.Holding.{Holds}
 use Rattle.sim_kernel.specs.Stepping.{MakesStep}
@@ -28,21 +28,6 @@ roomier_stands parts room s h =
       control = h.control;
       waiters = h.waiters;
       ledger = h.ledger;
-    }
-
-pub roomier_some : {B Code : Type 0} (filled : Code → ℕ → List ℤ → B) (owned : B → ProcId → B) (tell : Code → Telling B) (sound : Code → B → Type 0) (parts : PartsOf B Code) (room : RoomOf) → StandsForSome filled owned tell sound parts → StandsForSome filled owned tell sound (record parts { room = room })
-roomier_some filled owned tell sound parts room h =
-    record { state = h.state; lawful = h.lawful; stands = roomier_stands parts room h.state h.stands }
-
-pub roomier_built : {B Code : Type 0} (parts : PartsOf B Code) (room : RoomOf) → HasBuiltCallbacks parts → HasBuiltCallbacks (record parts { room = room })
-roomier_built parts room h = record { registered = h.registered; left = h.left }
-
-pub roomier_holds : {B Code : Type 0} (filled : Code → ℕ → List ℤ → B) (owned : B → ProcId → B) (tell : Code → Telling B) (sound : Code → B → Type 0) (units : ℕ) (parts : PartsOf B Code) (room : RoomOf) → Holds filled owned tell sound units parts → Holds filled owned tell sound units (record parts { room = room })
-roomier_holds filled owned tell sound units parts room h =
-    record {
-      stands = roomier_some filled owned tell sound parts room h.stands;
-      built = roomier_built parts room h.built;
-      bounded = record { events = h.bounded.events; scheduled = h.bounded.scheduled; processed = h.bounded.processed };
     }
 
 -- ---- a unit
