@@ -1,2 +1,5 @@
 pub mod Pieces
 mod WrittenTexts
+mod AcceptedTexts
+mod RefusedTexts
+mod ScenariosRead
