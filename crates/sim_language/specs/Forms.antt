@@ -33,7 +33,7 @@ abbrev pub form_at : Word → List (Word × Form) → Option Form
 form_at w [] = None
 form_at w (row ∷ rows) = if same w row.0 then Some row.1 else form_at w rows
 
--- `until` is told by the words behind it: alone `empty` gives no time
+-- `until` with one word behind it that is not `empty` gives a time
 abbrev pub told_by : Option Form → List Word → Option Form
 told_by (Some form.UntilTime) (v ∷ []) = Some (if same v (codes "empty") then form.UntilEmpty else form.UntilTime)
 told_by (Some form.UntilTime) rest = Some form.UntilEmpty

@@ -1,4 +1,10 @@
 //! What stands behind the words that a form begins with.
+ghost use Rattle.std.specs.Prelude.{◌≡◌};
+ghost use Rattle.sim_language.specs.Sayings.{takes_me};
+ghost use Rattle.sim_language.specs.Shapes.{choices, fixed_word, spawn_argument, start_argument};
+ghost use Rattle.sim_language.specs.Lines.{is_among};
+ghost use Rattle.sim_language.specs.VariableFaults.{takes_class, takes_named};
+
 use crate::form::Sort;
 use sim_types::Class;
 
@@ -17,6 +23,36 @@ pub enum Reference {
     ARequest,
     /// A variable of class move.
     AMove,
+}
+
+impl Reference {
+    /// Whether `me` may stand there.
+    pub fn takes_me(self) -> bool
+        ensures { result ≡ takes_me self }
+    {
+        matches!(self, Reference::AnyEvent | Reference::AProcess)
+    }
+
+    /// Whether a named event may stand there.
+    pub fn takes_named(self) -> bool
+        ensures { result ≡ takes_named self }
+    {
+        matches!(self, Reference::AnyEvent | Reference::PlainEvent)
+    }
+
+    /// Whether a variable of the class may stand there.
+    pub fn takes_class(self, class: Class) -> bool
+        ensures { result ≡ takes_class self class }
+    {
+        match self {
+            Reference::AnyEvent => !matches!(class, Class::Number),
+            Reference::PlainEvent => matches!(class, Class::Event),
+            Reference::AProcess => matches!(class, Class::Proc),
+            Reference::ACondition => matches!(class, Class::Cond),
+            Reference::ARequest => matches!(class, Class::Request),
+            Reference::AMove => matches!(class, Class::Move),
+        }
+    }
 }
 
 /// What an operand is there for.
@@ -42,6 +78,30 @@ pub enum Role {
     Free,
 }
 
+impl Role {
+    /// What an argument of `spawn` is there for, by the class of its parameter.
+    pub fn of_spawn_argument(class: Class) -> Role
+        ensures { result ≡ spawn_argument class }
+    {
+        match class {
+            Class::Number => Role::Value,
+            Class::Event => Role::Refers(Reference::PlainEvent),
+            _ => Role::Refers(Reference::AProcess),
+        }
+    }
+
+    /// What an argument of `start` is there for, by the class of its parameter.
+    pub fn of_start_argument(class: Class) -> Role
+        ensures { result ≡ start_argument class }
+    {
+        match class {
+            Class::Number => Role::Within(i64::MIN, i64::MAX),
+            Class::Event => Role::Names(Sort::Event),
+            _ => Role::Free,
+        }
+    }
+}
+
 /// A word that stands in a form as it is.
 #[derive(Clone, Copy)]
 pub enum Fixed {
@@ -55,6 +115,19 @@ pub enum Fixed {
     Request,
 }
 
+impl Fixed {
+    pub fn word(self) -> &'static [u8]
+        ensures { result.now ≡ fixed_word self }
+    {
+        match self {
+            Fixed::One => b"1",
+            Fixed::Empty => b"empty",
+            Fixed::Equals => b"=",
+            Fixed::Request => b"request",
+        }
+    }
+}
+
 /// Words of which one stands in a form.
 #[derive(Clone, Copy)]
 pub enum Choice {
@@ -62,6 +135,24 @@ pub enum Choice {
     Operator,
     /// `preempt wait`
     Preference,
+}
+
+const OPERATORS: [&[u8]; 10] = [
+    b"+", b"-", b"*", b"/", b"%", b"min", b"max", b"<", b"<=", b"=",
+];
+
+const PREFERENCES: [&[u8]; 2] = [b"preempt", b"wait"];
+
+impl Choice {
+    /// Whether the word is one of them.
+    pub fn has(self, word: &[u8]) -> bool
+        ensures { result ≡ is_among word.now (choices self) }
+    {
+        match self {
+            Choice::Operator => OPERATORS.contains(&word),
+            Choice::Preference => PREFERENCES.contains(&word),
+        }
+    }
 }
 
 /// A part of a shape.
