@@ -133,8 +133,11 @@ reads_lines heads ls = outcome heads nothing_said (places 1 [] ls) (end_fault ls
 abbrev pub is_too_long : List ℕ → Bool
 is_too_long bytes = nat_lt 4194304 (length bytes)
 
+abbrev pub reads_text : (Form → Bool) → Heads → List Word → Result ScenarioOf Fault
+reads_text built heads ls = reads_lines heads (sayings built heads ls)
+
 abbrev pub reads : (Form → Bool) → List ℕ → Result ScenarioOf Fault
-reads built bytes = if is_too_long bytes then Err (record { line = 0; kind = fault.TooLong }) else reads_lines (heads_of (lines bytes)) (sayings built bytes)
+reads built bytes = if is_too_long bytes then Err (record { line = 0; kind = fault.TooLong }) else reads_text built (heads_of (lines bytes)) (lines bytes)
 
 -- the fault alone
 abbrev pub fault_of : (Form → Bool) → List ℕ → Option Fault

@@ -1,6 +1,6 @@
 -- What a line says by itself: nothing, a fault, or a form with its operands.
---     heads_of lines         the process lines of a text
---     sayings built text     the lines of the text, each with what it says
+--     heads_of lines                 the process lines of a text
+--     sayings built heads lines      the lines of a text, each with what it says
 use Rattle.std.specs.Prelude.{ℕ, ◌+◌, Bool, true, false, not, ◌||◌, ◌&&◌, if◌then◌else◌, nat_lt, List, [], ◌∷◌, map, length, filter_map, codes, Option, Some, None, is_none}
 use Rattle.std.specs.List.{list_any, list_all}
 use Rattle.sim_types.specs.declared.setup.Class.{Class}
@@ -8,11 +8,13 @@ use Rattle.sim_types.specs.declared.fault.FaultKind.{FaultKind}
 use Rattle.sim_types.specs.declared.fault.FaultKind.TheVariants as fault
 use Rattle.sim_language.specs.declared.form.Form.{Form}
 use Rattle.sim_language.specs.declared.form.Form.TheVariants as form
+use Rattle.sim_language.specs.declared.form.Section.{Section}
+use Rattle.sim_language.specs.declared.form.Section.TheVariants.{Plain, InJournal, InPosters}
 use Rattle.sim_language.specs.declared.shape.Reference.{Reference}
 use Rattle.sim_language.specs.declared.shape.Reference.TheVariants.{AnyEvent, AProcess}
 use Rattle.sim_language.specs.declared.shape.Role.{Role}
 use Rattle.sim_language.specs.declared.shape.Role.TheVariants.{Declares, Parameter, Gives, Value, Within, Capacity, Refers, Names}
-use Rattle.sim_language.specs.Lines.{Word, same, lines, cut, words, is_text}
+use Rattle.sim_language.specs.Lines.{Word, same, cut, words, is_text}
 use Rattle.sim_language.specs.Numbers.{literal_within}
 use Rattle.sim_language.specs.Names.{is_name}
 use Rattle.sim_language.specs.Named.{Named, with_all}
@@ -37,9 +39,6 @@ abbrev pub heads_of : List Word → Heads
 heads_of ls = with_all [] (filter_map (λ l. head_of (words (cut l))) ls)
 
 -- ---- the section that a line stands in
-
-pub data Section : Type 0 where
-  Plain InJournal InPosters : Section
 
 -- behind the first `journal` line the journal stands, and behind the first `poster` line the posters
 abbrev pub section_behind : List Word → Section → Section
@@ -148,8 +147,6 @@ abbrev pub lines_from : Setting → List Word → List Line
 lines_from s [] = []
 lines_from s (l ∷ ls) = line_of s l ∷ lines_from (setting_behind (words (cut l)) s) ls
 
-abbrev pub setting_of : (Form → Bool) → List Word → Setting
-setting_of built ls = record { built = built; heads = heads_of ls; section = Plain; posters = 0 }
-
-abbrev pub sayings : (Form → Bool) → List ℕ → List Line
-sayings built text = let ls : List Word = lines text in lines_from (setting_of built ls) ls
+-- the lines of a text with these process lines
+abbrev pub sayings : (Form → Bool) → Heads → List Word → List Line
+sayings built heads ls = lines_from (record { built = built; heads = heads; section = Plain; posters = 0 }) ls

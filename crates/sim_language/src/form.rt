@@ -350,3 +350,14 @@ impl Sort {
         }
     }
 }
+
+/// The part of a text that a line stands in.
+#[derive(Clone, Copy)]
+pub enum Section {
+    /// The header, the declarations, the processes and the starts.
+    Plain,
+    /// Below a `journal` line.
+    InJournal,
+    /// Below a `poster` line.
+    InPosters,
+}

@@ -5,5 +5,5 @@
 mod form;
 mod shape;
 
-pub use form::{Form, Sort};
+pub use form::{Form, Section, Sort};
 pub use shape::{Choice, Fixed, Item, Reference, Role};

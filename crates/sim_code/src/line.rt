@@ -1,0 +1,62 @@
+//! A line with what it says.
+ghost use Rattle.std.specs.Prelude.{◌≡◌, IfOk, [], ◌∷◌};
+ghost use Rattle.sim_language.specs.Sayings.{Setting, line_of, begins_with, is_wrong};
+ghost use Rattle.sim_code.specs.LineOf.{slots_of, what_of};
+
+use crate::heads::Heads;
+use crate::slot::Slot;
+use sim_language::Form;
+use sim_types::FaultKind;
+use std::alloc::{AllocError, Global};
+use std::marker::Model;
+
+/// What a line says by itself.
+#[derive(Clone, Copy)]
+pub enum What {
+    /// It has no words.
+    Blank,
+    /// What is wrong with it.
+    Wrong(FaultKind),
+    /// A form.
+    Says(Form),
+}
+
+/// A line of a text with what it says. It is used again for each line.
+#[derive(Drop)]
+pub struct Line<'t> {
+    cut: &'t [u8],
+    what: What,
+    slots: Vec<Slot<'t>>,
+}
+
+impl<'t> Model for Line<'t> {
+    ghost use Rattle.sim_language.specs.Lines.{words};
+    ghost use Rattle.sim_language.specs.Sayings.{Line};
+    ghost use Rattle.sim_code.specs.LineOf.{saying_of};
+
+    ghost Value = { Line };
+
+    ghost view = { λ a. record { words = words a.cut.now; saying = saying_of a.what a.slots.items } };
+}
+
+impl<'t> Line<'t> {
+    /// A line to be read.
+    pub fn new(alloc: Global) -> Line<'t>
+    {
+        unreachable!()
+    }
+
+    /// What it says.
+    pub fn what(&self) -> What
+        ensures { result ≡ what_of self.now.saying }
+    {
+        self.what
+    }
+
+    /// The operands, where it says a form.
+    pub fn slots(&self) -> &[Slot<'t>]
+        ensures { (f : _) (slots : _) → self.now.saying ≡ Saying.Says f slots → result.now ≡ slots }
+    {
+        self.slots.as_slice()
+    }
+}
