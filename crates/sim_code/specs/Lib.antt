@@ -1,1 +1,2 @@
 pub mod LineOf
+pub mod AboveOf

@@ -13,8 +13,8 @@ pub fn begins(words: &Words<'_>) -> Option<Form>
 }
 
 /// The words of a line without those that tell its form.
-pub fn operands<'t>(form: Form, words: Words<'t>) -> Words<'t>
-    ensures { result ≡ operands form words }
+pub fn operands<'t>(form: Form, words: &Words<'t>) -> Words<'t>
+    ensures { result ≡ operands form words.now }
 {
     unreachable!()
 }

@@ -1,5 +1,5 @@
 //! The process lines of a text.
-ghost use Rattle.std.specs.Prelude.{◌≡◌, IfOk};
+ghost use Rattle.std.specs.Prelude.{◌≡◌, ◌≤◌, IfOk, length};
 ghost use Rattle.sim_language.specs.Lines.{lines};
 ghost use Rattle.sim_language.specs.Named.{is_named, place_of};
 ghost use Rattle.sim_language.specs.Sayings.{heads_of};
@@ -37,6 +37,7 @@ impl<'t> Model for Heads<'t> {
 impl<'t> Heads<'t> {
     /// The process lines of the text. They may stand anywhere, since a process may be named before it stands.
     pub fn of_text(alloc: Global, text: &'t [u8]) -> Result<Heads<'t>, AllocError>
+        requires { length text.now ≤ 4194304 }
         ensures { IfOk result (λ heads. heads ≡ heads_of (lines text.now)) }
     {
         unreachable!()
@@ -49,7 +50,7 @@ impl<'t> Heads<'t> {
     }
 
     /// The number of the process, counted from 0.
-    pub fn place(&self, name: &[u8]) -> Option<usize>
+    pub fn place(&self, name: &[u8]) -> Option<u32>
         ensures { result ≡ place_of name.now self.now }
     {
         unreachable!()

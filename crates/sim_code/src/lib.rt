@@ -1,23 +1,28 @@
-//! A scenario text as lines that say something: cut into lines and words, each line with its form and its operands, or
-//! with what is wrong with it by itself.
+//! A scenario text: its lines, each with its form and its operands or with what is wrong with it by itself; the fault of
+//! the first faulty line; and the scenario that it says.
 #![tactic(auto)]
 
+mod above;
 mod beginning;
+mod blocks;
 mod cutting;
+mod declared;
+mod draft;
+mod fault;
 mod heads;
+mod limit_faults;
 mod line;
 mod lines;
+mod link;
 mod name;
+mod name_faults;
 mod number;
 mod operands;
+mod order_faults;
 mod parameter;
+mod place;
 mod slot;
+mod statement;
+mod variable_faults;
+mod variables;
 mod words;
-
-pub use heads::Heads;
-pub use line::{Line, What};
-pub use lines::Lines;
-pub use name::is_name;
-pub use number::{decimal_within, literal_within, looks_numeric};
-pub use parameter::{parameter_class, parameter_name};
-pub use slot::{capacity, Slot};

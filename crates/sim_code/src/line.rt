@@ -1,9 +1,9 @@
 //! A line with what it says.
-ghost use Rattle.std.specs.Prelude.{◌≡◌, IfOk, [], ◌∷◌};
-ghost use Rattle.sim_language.specs.Sayings.{Setting, line_of, begins_with, is_wrong};
-ghost use Rattle.sim_code.specs.LineOf.{slots_of, what_of};
+ghost use Rattle.std.specs.Prelude.{◌≡◌, codes};
+ghost use Rattle.sim_language.specs.OrderFaults.{is_header};
+ghost use Rattle.sim_language.specs.Sayings.{begins_with};
+ghost use Rattle.sim_code.specs.LineOf.{IsSaid, slots_of, what_of};
 
-use crate::heads::Heads;
 use crate::slot::Slot;
 use sim_language::Form;
 use sim_types::FaultKind;
@@ -32,17 +32,18 @@ pub struct Line<'t> {
 impl<'t> Model for Line<'t> {
     ghost use Rattle.sim_language.specs.Lines.{words};
     ghost use Rattle.sim_language.specs.Sayings.{Line};
-    ghost use Rattle.sim_code.specs.LineOf.{saying_of};
+    ghost use Rattle.sim_code.specs.LineOf.{IsSaid, saying_of};
 
     ghost Value = { Line };
 
     ghost view = { λ a. record { words = words a.cut.now; saying = saying_of a.what a.slots.items } };
+
+    ghost invariant = { λ a. IsSaid (saying_of a.what a.slots.items) };
 }
 
 impl<'t> Line<'t> {
     /// A line to be read.
-    pub fn new(alloc: Global) -> Line<'t>
-    {
+    pub fn new(alloc: Global) -> Line<'t> {
         unreachable!()
     }
 
@@ -55,8 +56,23 @@ impl<'t> Line<'t> {
 
     /// The operands, where it says a form.
     pub fn slots(&self) -> &[Slot<'t>]
-        ensures { (f : _) (slots : _) → self.now.saying ≡ Saying.Says f slots → result.now ≡ slots }
+        ensures slots { result.now ≡ slots_of self.now.saying }
+        ensures said { IsSaid self.now.saying }
     {
-        self.slots.as_slice()
+        unreachable!()
+    }
+
+    /// Whether its first word is this one.
+    pub fn begins_with(&self, word: &[u8]) -> bool
+        ensures { result ≡ begins_with word.now self.now.words }
+    {
+        unreachable!()
+    }
+
+    /// Whether its words are `scenario 1`.
+    pub fn is_header(&self) -> bool
+        ensures { result ≡ is_header self.now.words }
+    {
+        unreachable!()
     }
 }

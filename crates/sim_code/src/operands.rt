@@ -14,10 +14,10 @@ pub fn fit<'t>(
     heads: &Heads<'_>,
     posters: u32,
     shape: &[Item],
-    words: Words<'t>,
+    words: &Words<'t>,
 ) -> Result<bool, AllocError>
     requires { slots.old.items ≡ [] }
-    ensures { IfOk result (λ fits. fit (record { heads = heads.now; posters = posters }) [] shape.now words ≡ cond fits (Some slots.new.items) None) }
+    ensures { IfOk result (λ fits. fit (record { heads = heads.now; posters = posters }) [] shape.now words.now ≡ cond fits (Some slots.new.items) None) }
 {
     unreachable!()
 }

@@ -4,13 +4,14 @@ use Rattle.std.specs.Prelude.{ℕ, ◌+◌, Bool, true, false, ◌||◌, ◌&&�
 use Rattle.std.specs.List.{list_any}
 use Rattle.sim_types.specs.declared.setup.Class.{Class}
 use Rattle.sim_language.specs.declared.form.Form.{Form}
+use Rattle.sim_language.specs.declared.form.Meaning.{Meaning}
 use Rattle.sim_language.specs.declared.form.Form.TheVariants as form
 use Rattle.sim_language.specs.Lines.{Word, same, is_empty}
 use Rattle.sim_language.specs.Numbers.{literal}
 use Rattle.sim_language.specs.Named.{Named}
 use Rattle.sim_language.specs.Forms.{is_process}
 use Rattle.sim_language.specs.Sayings.{Line, Saying, Says, begins_with}
-use Rattle.sim_language.specs.Declarations.{Declared, declared}
+use Rattle.sim_language.specs.Declarations.{declared}
 use Rattle.sim_language.specs.Blocks.{Block, says, statements, open_blocks, first_word}
 use Rattle.sim_language.specs.Variables.{variables_at}
 
@@ -68,7 +69,7 @@ after_above (l ∷ above) = after_then l.saying (after_above above)
 
 pub record Above : Type 0 where
   pub worded : ℕ
-  pub declared : List (Named Declared)
+  pub declared : List (Named Meaning)
   pub process_or_start : Bool
   pub start : Bool
   pub journal : Bool

@@ -14,6 +14,7 @@ use Rattle.sim_types.specs.declared.setup.ResourceKind.TheVariants as resource
 use Rattle.sim_types.specs.declared.setup.Arrival.{Arrival}
 use Rattle.sim_types.specs.declared.setup.Post.{Post}
 use Rattle.sim_language.specs.declared.form.Form.{Form}
+use Rattle.sim_language.specs.declared.form.Meaning.{Meaning}
 use Rattle.sim_language.specs.declared.form.Form.TheVariants as form
 use Rattle.sim_language.specs.declared.shape.Role.{Role}
 use Rattle.sim_language.specs.declared.shape.Role.TheVariants.{Names}
@@ -21,7 +22,6 @@ use Rattle.sim_language.specs.Lines.{Word, lines}
 use Rattle.sim_language.specs.Named.{Named}
 use Rattle.sim_language.specs.Shapes.{Slot, Heads, capacity}
 use Rattle.sim_language.specs.Sayings.{Line, Saying, Says, heads_of, sayings}
-use Rattle.sim_language.specs.Declarations.{Declared}
 use Rattle.sim_language.specs.Variables.{given_by}
 use Rattle.sim_language.specs.Places.{Place, places}
 use Rattle.sim_language.specs.Faults.{first_fault, end_fault}
@@ -61,7 +61,7 @@ abbrev pub capacity_of : ℤ → Word → ℤ
 capacity_of most w = unwrap_or (capacity most w) (pos 0)
 
 -- an argument of a start: a literal, or the number of a named event
-abbrev pub start_argument_of : List (Named Declared) → Slot → ℤ
+abbrev pub start_argument_of : List (Named Meaning) → Slot → ℤ
 start_argument_of ds slot = by slot.role
   where
     by : Role → ℤ

@@ -14,6 +14,7 @@ use Rattle.sim_types.specs.declared.script.Arith.TheVariants as arith
 use Rattle.sim_types.specs.declared.script.Stmt.{Stmt}
 use Rattle.sim_types.specs.declared.script.Stmt.TheVariants as stmt
 use Rattle.sim_language.specs.declared.form.Form.{Form}
+use Rattle.sim_language.specs.declared.form.Meaning.{Meaning}
 use Rattle.sim_language.specs.declared.form.Form.TheVariants as form
 use Rattle.sim_language.specs.declared.shape.Role.{Role}
 use Rattle.sim_language.specs.declared.shape.Role.TheVariants.{Within, Refers}
@@ -22,7 +23,7 @@ use Rattle.sim_language.specs.Numbers.{literal}
 use Rattle.sim_language.specs.Named.{Named, value_of, place_or_none}
 use Rattle.sim_language.specs.Shapes.{Slot, Heads}
 use Rattle.sim_language.specs.Sayings.{is_me}
-use Rattle.sim_language.specs.Declarations.{Declared, is_event}
+use Rattle.sim_language.specs.Declarations.{is_event}
 use Rattle.sim_language.specs.Blocks.{Block}
 use Rattle.sim_language.specs.Variables.{variable_number}
 use Rattle.sim_language.specs.Places.{Place}
@@ -34,15 +35,15 @@ abbrev pub variable : List (Named Class) → Word → ℕ
 variable variables w = let n : ℕ = variable_number variables w in if nat_lt n 64 then n else 0
 
 -- the number of a declared name among those of its sort
-abbrev pub number_declared : List (Named Declared) → Word → ℕ
+abbrev pub number_declared : List (Named Meaning) → Word → ℕ
 number_declared ds w = by (value_of w ds)
   where
-    by : Option Declared → ℕ
+    by : Option Meaning → ℕ
     by None = 0
     by (Some d) = d.number
 
 -- event 0 is processed from the start, and the named events have the numbers from 1 on
-abbrev pub event_number : List (Named Declared) → Word → ℕ
+abbrev pub event_number : List (Named Meaning) → Word → ℕ
 event_number ds w = suc (number_declared ds w)
 
 -- processes are numbered by their lines in the text

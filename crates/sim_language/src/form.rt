@@ -351,6 +351,15 @@ impl Sort {
     }
 }
 
+/// What a name is declared as.
+#[derive(Clone, Copy)]
+pub struct Meaning {
+    /// The form that declares it.
+    pub form: Form,
+    /// Its number among the names of its sort, counted from 0.
+    pub number: u32,
+}
+
 /// The part of a text that a line stands in.
 #[derive(Clone, Copy)]
 pub enum Section {

@@ -5,5 +5,5 @@
 mod form;
 mod shape;
 
-pub use form::{Form, Section, Sort};
+pub use form::{Form, Meaning, Section, Sort};
 pub use shape::{Choice, Fixed, Item, Reference, Role};

@@ -1,0 +1,116 @@
+//! What the lines above a line say.
+ghost use Rattle.std.specs.Prelude.{◌≡◌, [], OnOk};
+ghost use Rattle.sim_language.specs.Places.{above_of};
+ghost use Rattle.sim_code.specs.AboveOf.{IsBelow, above_behind};
+
+use crate::blocks::Blocks;
+use crate::declared::Declared;
+use crate::line::Line;
+use std::alloc::{AllocError, Global};
+use std::marker::Model;
+
+/// What the lines above a line say.
+#[derive(Drop)]
+pub struct Above<'t> {
+    /// How many have words.
+    worded: u32,
+    declared: Declared<'t>,
+    process_or_start: bool,
+    start: bool,
+    journal: bool,
+    blocks: Blocks<'t>,
+    statements: u32,
+    /// How many are entries of a journal or of posters.
+    entries: u32,
+    posters: u32,
+    /// The number of events that the last journal entry gives.
+    after: Option<i64>,
+}
+
+impl<'t> Model for Above<'t> {
+    ghost use Rattle.sim_language.specs.Places.{Above};
+
+    ghost Value = { Above };
+
+    ghost view = { λ a. record { worded = a.worded; declared = a.declared; process_or_start = a.process_or_start; start = a.start; journal = a.journal; blocks = a.blocks; statements = a.statements; entries = a.entries; posters = a.posters; after = a.after } };
+}
+
+impl<'t> Above<'t> {
+    /// Above the first line. It takes no memory.
+    pub fn new(alloc: Global) -> Above<'t>
+        ensures { result ≡ above_of [] }
+    {
+        unreachable!()
+    }
+
+    pub fn worded(&self) -> u32
+        ensures { result ≡ self.now.worded }
+    {
+        self.worded
+    }
+
+    pub fn declared(&self) -> &Declared<'t>
+        ensures { result.now ≡ self.now.declared }
+    {
+        &self.declared
+    }
+
+    /// Whether a process line or a start stands above.
+    pub fn process_or_start(&self) -> bool
+        ensures { result ≡ self.now.process_or_start }
+    {
+        self.process_or_start
+    }
+
+    /// Whether a start stands above.
+    pub fn start(&self) -> bool
+        ensures { result ≡ self.now.start }
+    {
+        self.start
+    }
+
+    /// Whether a line above begins with `journal`.
+    pub fn journal(&self) -> bool
+        ensures { result ≡ self.now.journal }
+    {
+        self.journal
+    }
+
+    pub fn blocks(&self) -> &Blocks<'t>
+        ensures { result.now ≡ self.now.blocks }
+    {
+        &self.blocks
+    }
+
+    pub fn statements(&self) -> u32
+        ensures { result ≡ self.now.statements }
+    {
+        self.statements
+    }
+
+    pub fn entries(&self) -> u32
+        ensures { result ≡ self.now.entries }
+    {
+        self.entries
+    }
+
+    pub fn posters(&self) -> u32
+        ensures { result ≡ self.now.posters }
+    {
+        self.posters
+    }
+
+    pub fn after(&self) -> Option<i64>
+        ensures { result ≡ self.now.after }
+    {
+        self.after
+    }
+
+    /// Goes on behind a line.
+    pub fn pass(&mut self, line: &Line<'t>) -> Result<(), AllocError>
+        requires { IsBelow 4194304 self.old }
+        ensures { OnOk result (self.new ≡ above_behind self.old line.now) }
+    {
+        unreachable!()
+    }
+}
