@@ -2,7 +2,8 @@
 ghost use Rattle.std.specs.Prelude.{◌≡◌, codes};
 ghost use Rattle.sim_language.specs.OrderFaults.{is_header};
 ghost use Rattle.sim_language.specs.Sayings.{begins_with};
-ghost use Rattle.sim_code.specs.LineOf.{IsSaid, slots_of, what_of};
+ghost use Rattle.sim_language.specs.Said.{IsSaid};
+ghost use Rattle.sim_code.specs.LineOf.{slots_of, what_of};
 
 use crate::slot::Slot;
 use sim_language::Form;
@@ -32,7 +33,8 @@ pub struct Line<'t> {
 impl<'t> Model for Line<'t> {
     ghost use Rattle.sim_language.specs.Lines.{words};
     ghost use Rattle.sim_language.specs.Sayings.{Line};
-    ghost use Rattle.sim_code.specs.LineOf.{IsSaid, saying_of};
+    ghost use Rattle.sim_language.specs.Said.{IsSaid};
+    ghost use Rattle.sim_code.specs.LineOf.{saying_of};
 
     ghost Value = { Line };
 

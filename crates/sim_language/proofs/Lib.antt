@@ -3,3 +3,5 @@ mod WrittenTexts
 mod AcceptedTexts
 mod RefusedTexts
 mod ScenariosRead
+pub mod Walking
+mod WellFormedScenarios

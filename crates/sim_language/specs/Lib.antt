@@ -6,6 +6,7 @@ pub mod Parameters
 pub mod Forms
 pub mod Shapes
 pub mod Sayings
+pub mod Said
 pub mod Declarations
 pub mod Blocks
 pub mod Variables
@@ -21,3 +22,6 @@ pub mod Reads
 pub mod Built
 pub mod Commands
 pub mod Texts
+pub mod FittingStatements
+pub mod FittingBlocks
+pub mod WellFormed
