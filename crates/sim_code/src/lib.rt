@@ -21,8 +21,13 @@ mod operands;
 mod order_faults;
 mod parameter;
 mod place;
+mod reading;
+mod scenario;
 mod slot;
 mod statement;
 mod variable_faults;
 mod variables;
 mod words;
+
+pub use reading::{ReadError, read};
+pub use scenario::Scenario;

@@ -1,5 +1,5 @@
 //! The variables of a process.
-ghost use Rattle.std.specs.Prelude.{◌≡◌, IfOk};
+ghost use Rattle.std.specs.Prelude.{◌≡◌, ◌≤◌, IfOk, length};
 ghost use Rattle.sim_language.specs.Statements.{variable};
 ghost use Rattle.sim_language.specs.Variables.{variable_number, variables_of};
 
@@ -15,6 +15,7 @@ pub fn variables_of<'t>(
     params: &[Slot<'t>],
     below: &Lines<'t, '_>,
 ) -> Result<Table<'t, Class>, AllocError>
+    requires few { length below.now ≤ 4194304 }
     ensures { IfOk result (λ variables. variables ≡ variables_of params.now below.now) }
 {
     unreachable!()
