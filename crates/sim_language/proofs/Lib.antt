@@ -5,3 +5,6 @@ mod RefusedTexts
 mod ScenariosRead
 pub mod Walking
 mod WellFormedScenarios
+pub mod Faultless
+mod ClosedBlocks
+pub mod ShapeLengths
