@@ -8,3 +8,5 @@ mod WellFormedScenarios
 pub mod Faultless
 mod ClosedBlocks
 pub mod ShapeLengths
+mod BlockFrames
+mod MadeStatements
