@@ -10,3 +10,4 @@ mod ClosedBlocks
 pub mod ShapeLengths
 mod BlockFrames
 mod MadeStatements
+mod ProcessFirsts
