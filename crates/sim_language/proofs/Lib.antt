@@ -11,3 +11,5 @@ pub mod ShapeLengths
 mod BlockFrames
 mod MadeStatements
 mod ProcessFirsts
+mod StandingCode
+mod LineForms
