@@ -13,3 +13,4 @@ mod MadeStatements
 mod ProcessFirsts
 mod StandingCode
 mod LineForms
+pub mod ClosedTexts

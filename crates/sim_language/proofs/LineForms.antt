@@ -23,6 +23,10 @@ pub statement_adds : (heads : Heads) (place : Place) (f : Form) (slots : List Sl
 statement_adds heads place form.Process slots s h = absurd (false≢true h)
 statement_adds heads place f slots s h = cc
 
+pub statement_begins_none : (f : Form) → is_statement f ≡ true → is_process f ≡ false
+statement_begins_none form.Process h = absurd (false≢true h)
+statement_begins_none f h = refl
+
 -- a statement outside a process is misplaced
 pub statement_outside : (above : Above) (f : Form) (slots : List Slot) → is_statement f ≡ true → above.blocks ≡ None → misplaced above f slots ≡ true
 statement_outside above form.Process slots h e = absurd (false≢true h)

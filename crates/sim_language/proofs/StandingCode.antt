@@ -30,6 +30,9 @@ pub record Stands (n : ℕ) (variables : List (Named Class)) (blocks : Option (L
   -- outside a process the next one begins here
   pub begun : firsts code ≡ firsts_of kinds ++ next_first (is_none blocks) n
 
+pub stands_like : (m n : ℕ) (v w : List (Named Class)) (b c : Option (List Block)) (code more : List Stmt) (kinds others : List Kind) → m ≡ n → v ≡ w → b ≡ c → code ≡ more → kinds ≡ others → Stands m v b code kinds → Stands n w c more others
+stands_like m n v w b c code more kinds others counts variables blocks codes heads p = rw (← counts, ← variables, ← blocks, ← codes, ← heads) p
+
 pub stands_none : (variables : List (Named Class)) → Stands 0 variables None [] []
 stands_none variables = record { counted = refl; leaves = leaves_none; few = refl; ended = λ h. refl; begun = refl }
 
