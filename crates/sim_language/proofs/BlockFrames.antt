@@ -1,7 +1,7 @@
 -- The blocks that are open by the lines above, as the statements so far have them.
-use Rattle.std.proofs.Common.{◌≡◌, refl, ap, subst, ◌∙◌, ℕ, suc, Bool, true, false, not, ◌&&◌, ◌||◌, ◌==◌, List, [], ◌∷◌, map, length, Option, Some, None, unwrap_or, is_none, inl, inr, ◌⊎◌}
+use Rattle.std.proofs.Common.{◌≡◌, refl, ap, ℕ, Bool, true, false, ◌&&◌, List, [], ◌∷◌, map, Option, Some, unwrap_or, is_none, inl, inr, ◌⊎◌}
 use Rattle.std.specs.List.{list_any}
-use Rattle.std.proofs.lemmas.Bool.{false≢true, true≢false, and_parts, or_cases, or_left, or_right, eq-eqb, not-false}
+use Rattle.std.proofs.lemmas.Bool.{false≢true, true≢false, or_cases, or_left, or_right, eq-eqb}
 use Rattle.std.proofs.lemmas.Slice.Eq.{bytes_eq-Decides}
 use Rattle.sim_types.specs.declared.setup.Class.{Class}
 use Rattle.sim_types.specs.declared.script.Stmt.{Stmt}
@@ -17,7 +17,7 @@ use Rattle.sim_language.specs.Statements.{variable, end_of}
 use Rattle.sim_language.specs.FittingBlocks.{is_end_process}
 use Rattle.sim_language.proofs.ClosedBlocks.{Frame, InWith, InLoop, InRepeat, InIf, InElse, InTry, InCatch, with_inner, frames_then, is_loop_frame, is_with_frame, may_stand}
 
--- a block of another form is never open
+-- a `with` has the number of its variable; a block of another form is never open
 abbrev pub frame_by : Form → Bool → ℕ → ℕ → Frame
 frame_by form.With split v inside = InWith v
 frame_by form.Loop split v inside = InLoop inside
@@ -38,6 +38,7 @@ module _ (variables : List (Named Class)) where
   abbrev pub frames_at : Option (List Block) → List Frame
   frames_at blocks = frames_of (unwrap_or blocks [])
 
+-- a block by its parts, since the tests match on its form
 abbrev block : Form → Word → Bool → ℕ → Block
 block f w split inside = record { form = f; variable = w; split = split; inside = inside }
 
@@ -58,6 +59,7 @@ with_alike : (variables : List (Named Class)) (f : Form) (w v : Word) (split : B
 with_alike variables form.With w v split inside h = eq-eqb _ _ (ap (variable variables) ((bytes_eq-Decides w v).0 h))
 with_alike variables f w v split inside h = absurd (false≢true h)
 
+-- a `with` of this name that is open by the lines is open by the statements
 pub release_stands : (variables : List (Named Class)) (w : Word) (blocks : List Block) → list_any (λ b. is_with b && same w b.variable) blocks ≡ true → list_any (is_with_frame (variable variables w)) (frames_of variables blocks) ≡ true
 release_stands variables w [] h = h
 release_stands variables w (b ∷ blocks) h = by (or_cases (is_with b && same w b.variable) _ h) (release_stands variables w blocks)
@@ -69,25 +71,25 @@ release_stands variables w (b ∷ blocks) h = by (or_cases (is_with b && same w 
 -- ---- `else`, `catch` and `end`
 
 -- the innermost block goes on as `inner`
-pub record Goes (variables : List (Named Class)) (s : Stmt) (inner : Frame) (blocks : List Block) : Type 0 where
+pub record Splits (variables : List (Named Class)) (s : Stmt) (inner : Frame) (blocks : List Block) : Type 0 where
   pub may : may_stand s (frames_of variables blocks) ≡ true
   pub behind : with_inner inner (frames_of variables blocks) ≡ frames_of variables (split_first blocks)
 
-else_block : (variables : List (Named Class)) (f : Form) (w : Word) (split : Bool) (inside : ℕ) (blocks : List Block) → awaits_else (block f w split inside ∷ blocks) ≡ true → Goes variables (stmt.Else 0) InElse (block f w split inside ∷ blocks)
+else_block : (variables : List (Named Class)) (f : Form) (w : Word) (split : Bool) (inside : ℕ) (blocks : List Block) → awaits_else (block f w split inside ∷ blocks) ≡ true → Splits variables (stmt.Else 0) InElse (block f w split inside ∷ blocks)
 else_block variables form.If w false inside blocks h = record { may = refl; behind = refl }
 else_block variables form.If w true inside blocks h = absurd (false≢true h)
 else_block variables f w split inside blocks h = absurd (false≢true h)
 
-pub else_stands : (variables : List (Named Class)) (blocks : List Block) → awaits_else blocks ≡ true → Goes variables (stmt.Else 0) InElse blocks
+pub else_stands : (variables : List (Named Class)) (blocks : List Block) → awaits_else blocks ≡ true → Splits variables (stmt.Else 0) InElse blocks
 else_stands variables [] h = absurd (false≢true h)
 else_stands variables (b ∷ blocks) h = else_block variables b.form b.variable b.split b.inside blocks h
 
-catch_block : (variables : List (Named Class)) (k v : ℕ) (f : Form) (w : Word) (split : Bool) (inside : ℕ) (blocks : List Block) → awaits_catch (block f w split inside ∷ blocks) ≡ true → Goes variables (stmt.Catch k v 0) InCatch (block f w split inside ∷ blocks)
+catch_block : (variables : List (Named Class)) (k v : ℕ) (f : Form) (w : Word) (split : Bool) (inside : ℕ) (blocks : List Block) → awaits_catch (block f w split inside ∷ blocks) ≡ true → Splits variables (stmt.Catch k v 0) InCatch (block f w split inside ∷ blocks)
 catch_block variables k v form.Try w false inside blocks h = record { may = refl; behind = refl }
 catch_block variables k v form.Try w true inside blocks h = absurd (false≢true h)
 catch_block variables k v f w split inside blocks h = absurd (false≢true h)
 
-pub catch_stands : (variables : List (Named Class)) (k v : ℕ) (blocks : List Block) → awaits_catch blocks ≡ true → Goes variables (stmt.Catch k v 0) InCatch blocks
+pub catch_stands : (variables : List (Named Class)) (k v : ℕ) (blocks : List Block) → awaits_catch blocks ≡ true → Splits variables (stmt.Catch k v 0) InCatch blocks
 catch_stands variables k v [] h = absurd (false≢true h)
 catch_stands variables k v (b ∷ blocks) h = catch_block variables k v b.form b.variable b.split b.inside blocks h
 

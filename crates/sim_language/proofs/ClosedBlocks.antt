@@ -1,13 +1,13 @@
 -- Statements whose blocks are closed go on where they should, once they are linked.
 --     Leaves n frames code     the statements up to place n stand well, and leave these blocks open
 --     leaves_fits              where they leave none open, and end with the end of a process, they fit
-use Rattle.std.proofs.Common.{◌≡◌, refl, sym, ap, subst, ◌∙◌, ℕ, suc, Bool, true, false, ◌&&◌, ◌==◌, if◌then◌else◌, nat_le, arith, List, [], ◌∷◌, ◌++◌, length}
+use Rattle.std.proofs.Common.{◌≡◌, refl, ap, ◌∙◌, ℕ, suc, Bool, true, false, ◌&&◌, ◌==◌, nat_le, arith, List, [], ◌∷◌, ◌++◌, length}
 use Rattle.std.specs.List.{list_any}
 use Rattle.std.proofs.lemmas.List.{append_assoc, append-nil}
 use Rattle.std.proofs.lemmas.Bool.{and_parts, and_from, false≢true, eq-eqb}
 use Rattle.sim_types.specs.declared.script.Stmt.{Stmt}
 use Rattle.sim_types.specs.declared.script.Stmt.TheVariants as stmt
-use Rattle.sim_language.specs.Links.{Closing, without_first, split_at, closings_then, closings, past_of, split_of, link, linked}
+use Rattle.sim_language.specs.Links.{Closing, without_first, closings_then, closings, past_of, split_of, link, linked}
 use Rattle.sim_language.specs.FittingBlocks.{Open, OpenWith, OpenLoop, OpenRepeat, OpenIf, OpenElse, OpenTry, OpenCatch, open_then, is_open_loop, is_open_with, stands_within, is_end_process, stand_well, code_fits}
 
 -- ---- blocks that are open, without the places where they go on
@@ -119,32 +119,32 @@ is_free stmt.EndProcess = false
 is_free stmt.Break = false
 is_free s = true
 
-free_stands : (n : ℕ) (opens : List Open) (s : Stmt) → is_free s ≡ true → stands_within n opens s ≡ true
-free_stands n opens (stmt.Release v) free = absurd (false≢true free)
-free_stands n opens (stmt.Else past) free = absurd (false≢true free)
-free_stands n opens (stmt.Catch kind value past) free = absurd (false≢true free)
-free_stands n opens (stmt.EndLoop first) free = absurd (false≢true free)
-free_stands n opens (stmt.EndRepeat first) free = absurd (false≢true free)
-free_stands n opens stmt.EndWith free = absurd (false≢true free)
-free_stands n opens stmt.EndPlain free = absurd (false≢true free)
-free_stands n opens stmt.EndProcess free = absurd (false≢true free)
-free_stands n opens stmt.Break free = absurd (false≢true free)
-free_stands n [] s free = refl
-free_stands n (OpenWith v ∷ opens) s free = refl
-free_stands n (OpenLoop inside past ∷ opens) s free = refl
-free_stands n (OpenRepeat inside past ∷ opens) s free = refl
-free_stands n (OpenIf other ∷ opens) s free = refl
-free_stands n (OpenElse past ∷ opens) s free = refl
-free_stands n (OpenTry catch ∷ opens) s free = refl
-free_stands n (OpenCatch past ∷ opens) s free = refl
+free_within : (n : ℕ) (opens : List Open) (s : Stmt) → is_free s ≡ true → stands_within n opens s ≡ true
+free_within n opens (stmt.Release v) free = absurd (false≢true free)
+free_within n opens (stmt.Else past) free = absurd (false≢true free)
+free_within n opens (stmt.Catch kind value past) free = absurd (false≢true free)
+free_within n opens (stmt.EndLoop first) free = absurd (false≢true free)
+free_within n opens (stmt.EndRepeat first) free = absurd (false≢true free)
+free_within n opens stmt.EndWith free = absurd (false≢true free)
+free_within n opens stmt.EndPlain free = absurd (false≢true free)
+free_within n opens stmt.EndProcess free = absurd (false≢true free)
+free_within n opens stmt.Break free = absurd (false≢true free)
+free_within n [] s free = refl
+free_within n (OpenWith v ∷ opens) s free = refl
+free_within n (OpenLoop inside past ∷ opens) s free = refl
+free_within n (OpenRepeat inside past ∷ opens) s free = refl
+free_within n (OpenIf other ∷ opens) s free = refl
+free_within n (OpenElse past ∷ opens) s free = refl
+free_within n (OpenTry catch ∷ opens) s free = refl
+free_within n (OpenCatch past ∷ opens) s free = refl
 
-break_stands : (n : ℕ) (opens : List Open) → stands_within n opens stmt.Break ≡ list_any is_open_loop opens
-break_stands n (OpenIf other ∷ opens) = refl
-break_stands n opens = refl
+break_within : (n : ℕ) (opens : List Open) → stands_within n opens stmt.Break ≡ list_any is_open_loop opens
+break_within n (OpenIf other ∷ opens) = refl
+break_within n opens = refl
 
-release_stands : (n v : ℕ) (opens : List Open) → stands_within n opens (stmt.Release v) ≡ list_any (is_open_with v) opens
-release_stands n v (OpenIf other ∷ opens) = refl
-release_stands n v opens = refl
+release_within : (n v : ℕ) (opens : List Open) → stands_within n opens (stmt.Release v) ≡ list_any (is_open_with v) opens
+release_within n v (OpenIf other ∷ opens) = refl
+release_within n v opens = refl
 
 -- the statement at place n stands well, and behind it the blocks are open that it leaves open
 record Goes (n : ℕ) (frames : List Frame) (s : Stmt) (cs : List Closing) : Type 0 where
@@ -164,11 +164,11 @@ closed_here : (first inside n : ℕ) → (first == inside) ≡ true → ((first 
 closed_here first inside n h = and_from (first == inside) (suc n == suc n) h (same_place (suc n))
 
 goes : (n : ℕ) (frames : List Frame) (s : Stmt) (cs : List Closing) → may_stand s frames ≡ true → length cs ≡ length (frames_then n s frames) → Goes n frames s cs
-goes n frames (stmt.With to res priority preempt) cs may long = record { stands = free_stands n _ (stmt.With to res priority preempt) refl; opens = refl; closes = one_less cs (length frames) long }
-goes n frames (stmt.Loop past) cs may long = record { stands = free_stands n _ (stmt.Loop (past_of cs)) refl; opens = refl; closes = one_less cs (length frames) long }
-goes n frames (stmt.Repeat times past) cs may long = record { stands = free_stands n _ (stmt.Repeat times (past_of cs)) refl; opens = refl; closes = one_less cs (length frames) long }
-goes n frames (stmt.If test other) cs may long = record { stands = free_stands n _ (stmt.If test (split_of cs)) refl; opens = refl; closes = one_less cs (length frames) long }
-goes n frames (stmt.Try catch) cs may long = record { stands = free_stands n _ (stmt.Try (split_of cs)) refl; opens = refl; closes = one_less cs (length frames) long }
+goes n frames (stmt.With to res priority preempt) cs may long = record { stands = free_within n _ (stmt.With to res priority preempt) refl; opens = refl; closes = one_less cs (length frames) long }
+goes n frames (stmt.Loop past) cs may long = record { stands = free_within n _ (stmt.Loop (past_of cs)) refl; opens = refl; closes = one_less cs (length frames) long }
+goes n frames (stmt.Repeat times past) cs may long = record { stands = free_within n _ (stmt.Repeat times (past_of cs)) refl; opens = refl; closes = one_less cs (length frames) long }
+goes n frames (stmt.If test other) cs may long = record { stands = free_within n _ (stmt.If test (split_of cs)) refl; opens = refl; closes = one_less cs (length frames) long }
+goes n frames (stmt.Try catch) cs may long = record { stands = free_within n _ (stmt.Try (split_of cs)) refl; opens = refl; closes = one_less cs (length frames) long }
 goes n (InIf ∷ frames) (stmt.Else past) (c ∷ cs) may long = record { stands = same_place (suc n); opens = refl; closes = long }
 goes n (InIf ∷ frames) (stmt.Else past) [] may long = absurd (omega (arith, long))
 goes n frames (stmt.Else past) cs may long = absurd (false≢true may)
@@ -187,9 +187,9 @@ goes n (InCatch ∷ frames) stmt.EndPlain cs may long = record { stands = same_p
 goes n frames stmt.EndPlain cs may long = absurd (false≢true may)
 goes n [] stmt.EndProcess cs may long = record { stands = refl; opens = refl; closes = long }
 goes n frames stmt.EndProcess cs may long = absurd (false≢true may)
-goes n frames stmt.Break cs may long = record { stands = break_stands n (opened frames cs) ∙ any_alike is_open_loop is_loop_frame loop_alike frames cs ∙ may; opens = refl; closes = long }
-goes n frames (stmt.Release v) cs may long = record { stands = release_stands n v (opened frames cs) ∙ any_alike (is_open_with v) (is_with_frame v) (with_alike v) frames cs ∙ may; opens = refl; closes = long }
-goes n frames s cs may long = record { stands = free_stands n (opened frames cs) s refl; opens = refl; closes = long }
+goes n frames stmt.Break cs may long = record { stands = break_within n (opened frames cs) ∙ any_alike is_open_loop is_loop_frame loop_alike frames cs ∙ may; opens = refl; closes = long }
+goes n frames (stmt.Release v) cs may long = record { stands = release_within n v (opened frames cs) ∙ any_alike (is_open_with v) (is_with_frame v) (with_alike v) frames cs ∙ may; opens = refl; closes = long }
+goes n frames s cs may long = record { stands = free_within n (opened frames cs) s refl; opens = refl; closes = long }
 
 -- ---- statements
 

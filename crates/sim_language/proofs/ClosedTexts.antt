@@ -1,5 +1,6 @@
 -- A text without a fault gives code whose blocks are closed, and whose statements go on where they should.
-use Rattle.std.proofs.Common.{◌≡◌, refl, ap, subst, sym, ◌∙◌, ℕ, suc, ◌+◌, Bool, true, false, not, ◌&&◌, ◌||◌, ◌==◌, if◌then◌else◌, nat_le, nat_lt, List, [], ◌∷◌, ◌++◌, map, length, take, reverse, Option, Some, None, is_none, is_some, add-one, arith}
+--     closed_text      over lines of which each says what a line can say
+use Rattle.std.proofs.Common.{◌≡◌, refl, ap, subst, sym, ◌∙◌, ℕ, suc, ◌+◌, Bool, true, false, ◌&&◌, ◌||◌, ◌==◌, if◌then◌else◌, nat_le, nat_lt, List, [], ◌∷◌, ◌++◌, map, length, take, reverse, Option, Some, None, is_some, add-one}
 use Rattle.std.specs.List.{All}
 use Rattle.std.specs.Cmp.Lexicographic.{pointwise}
 use Rattle.std.proofs.lemmas.List.Elements.{All-head, All-tail}
@@ -10,8 +11,6 @@ use Rattle.sim_types.specs.Scenarios.{ScenarioOf}
 use Rattle.sim_types.specs.declared.fault.FaultKind.{FaultKind}
 use Rattle.sim_types.specs.declared.fault.FaultKind.TheVariants as fault
 use Rattle.sim_types.specs.declared.setup.Class.{Class}
-use Rattle.sim_types.specs.declared.script.Kind.{Kind}
-use Rattle.sim_types.specs.declared.script.Stmt.{Stmt}
 use Rattle.sim_language.specs.declared.form.Form.{Form}
 use Rattle.sim_language.specs.declared.form.Form.TheVariants as form
 use Rattle.sim_language.specs.Lines.{Word}
@@ -21,14 +20,14 @@ use Rattle.sim_language.specs.Shapes.{Slot, Heads, shape}
 use Rattle.sim_language.specs.Sayings.{Line, Saying, Blank, Wrong, Says}
 use Rattle.sim_language.specs.Said.{IsSaid, Fits}
 use Rattle.sim_language.specs.Blocks.{Block, statements, blocks_behind, open_blocks}
-use Rattle.sim_language.specs.Variables.{variables_at, variables_then}
+use Rattle.sim_language.specs.Variables.{variables_at}
 use Rattle.sim_language.specs.Places.{Place, places, above_of, worded_above}
 use Rattle.sim_language.specs.LimitFaults.{form_is_full, gives_too_many}
 use Rattle.sim_language.specs.Faults.{fault_at, first_fault, end_fault, fault_past, at_line}
 use Rattle.sim_language.specs.Reads.{kind_of, add, add_said, with_statement, with_lines, nothing_said}
 use Rattle.sim_language.specs.Links.{linked}
 use Rattle.sim_language.specs.FittingBlocks.{code_fits, firsts}
-use Rattle.sim_language.proofs.Walking.{place_at, passed, Kept, Ends, walk}
+use Rattle.sim_language.proofs.Walking.{place_at, Kept, Ends, walk}
 use Rattle.sim_language.proofs.Faultless.{Faultless, faultless}
 use Rattle.sim_language.proofs.ShapeLengths.{may_have, fit-length}
 use Rattle.sim_language.proofs.ClosedBlocks.{leaves_fits}
@@ -56,6 +55,7 @@ module _ (heads : Heads) (n : ℕ) (above : List Line) (words : List Word) (belo
   abbrev place : Saying → Place
   place said = place_at n above (line said) below
 
+  -- a line of a process
   one_statement : (f : Form) (slots : List Slot) → Fits f slots → Faultless heads (place (Says f slots)) f slots → StandsAt above (line (Says f slots) ∷ below) s → is_statement f ≡ true → (blocks : Option (List Block)) → open_blocks above ≡ blocks → StandsAt (line (Says f slots) ∷ above) below (add heads (place (Says f slots)) f slots s)
   one_statement f slots is free p e None here = absurd (false≢true (sym free.misplaced ∙ statement_outside (above_of above) f slots e here))
   one_statement f slots is free p e (Some blocks) here =
@@ -71,12 +71,13 @@ module _ (heads : Heads) (n : ℕ) (above : List Line) (words : List Word) (belo
       let behind : blocks_behind (suc (statements above)) f slots (Some blocks) ≡ open_blocks (line (Says f slots) ∷ above) = rw (counts, here) refl in
       stands_like _ _ _ _ _ _ _ _ _ _ counts refl behind (ap (λ (x : ScenarioOf). x.code) t) (ap (λ (x : ScenarioOf). x.kinds) t) r
 
+  -- a process line
   one_process : (slots : List Slot) → Faultless heads (place (Says form.Process slots)) form.Process slots → StandsAt above (line (Says form.Process slots) ∷ below) s → StandsAt (line (Says form.Process slots) ∷ above) below (add heads (place (Says form.Process slots)) form.Process slots s)
   one_process slots free p =
       let none : open_blocks above ≡ None = no_blocks (open_blocks above) (or_parts _ _ free.misplaced).0 in
       stands_process (statements above) _ _ s.code s.kinds (kind_of (place (Says form.Process slots)) slots) refl (stands_like _ _ _ _ _ _ _ _ _ _ refl refl none refl refl p)
 
-  -- a line that is neither
+  -- a line that is neither adds no code and no kind
   one_beside : (f : Form) (slots : List Slot) → (is_statement f || is_process f) ≡ false → StandsAt above (line (Says f slots) ∷ below) s → StandsAt (line (Says f slots) ∷ above) below (add heads (place (Says f slots)) f slots s)
   one_beside f slots e p =
       let parts = or_parts (is_statement f) (is_process f) e in
@@ -99,6 +100,7 @@ module _ (heads : Heads) (n : ℕ) (above : List Line) (words : List Word) (belo
 
 -- ---- the text
 
+-- what a line without a fault keeps
 kept : (heads : Heads) → Kept heads SoFar
 kept heads n above l below s p clean = (All-tail (λ k. IsSaid k.saying) l below p.0, one_line heads n above l.words below s l.saying (All-head (λ k. IsSaid k.saying) l below p.0) clean p.1)
 
@@ -127,10 +129,10 @@ same_numbers (n ∷ ns) = and_from (n == n) _ (eq-eqb n n refl) (same_numbers ns
 
 at_end : (n : ℕ) (variables : List (Named Class)) (s : ScenarioOf) → Stands n variables None s.code s.kinds → Closed s
 at_end n variables s p = record {
-    fits = leaves_fits n s.code p.leaves (p.ended refl);
-    begin = subst (λ ns. pointwise (λ m k. m == k) (firsts_of s.kinds) (take (length s.kinds) ns) ≡ true) (sym places) (rw (take_at (firsts_of s.kinds) (n ∷ []) (length s.kinds) long) (same_numbers (firsts_of s.kinds)));
-    count = eq-eqb _ _ (ap length places ∙ length-append (firsts_of s.kinds) (n ∷ []) ∙ rw long (add-one (length s.kinds)));
-  }
+  fits = leaves_fits n s.code p.leaves (p.ended refl);
+  begin = subst (λ ns. pointwise (λ m k. m == k) (firsts_of s.kinds) (take (length s.kinds) ns) ≡ true) (sym places) (rw (take_at (firsts_of s.kinds) (n ∷ []) (length s.kinds) long) (same_numbers (firsts_of s.kinds)));
+  count = eq-eqb _ _ (ap length places ∙ length-append (firsts_of s.kinds) (n ∷ []) ∙ rw long (add-one (length s.kinds)));
+}
   where
     places : firsts (linked 0 s.code) ≡ firsts_of s.kinds ++ n ∷ []
     places = firsts-linked 0 s.code ∙ p.begun

@@ -1,8 +1,7 @@
 -- A line that says a form and has no fault: none of the kinds of faults applies to it.
-use Rattle.std.proofs.Common.{◌≡◌, refl, subst, sym, Bool, true, false, cond, List, [], ◌∷◌, Option, Some, None}
+use Rattle.std.proofs.Common.{◌≡◌, refl, subst, sym, Bool, true, false, List, [], ◌∷◌, Some, None}
 use Rattle.std.specs.List.{AllByRecursion, find}
 use Rattle.std.proofs.lemmas.Option.{none-some}
-use Rattle.sim_types.specs.declared.fault.FaultKind.{FaultKind}
 use Rattle.sim_language.specs.declared.form.Form.{Form}
 use Rattle.sim_language.specs.Shapes.{Slot, Heads}
 use Rattle.sim_language.specs.Sayings.{Says}

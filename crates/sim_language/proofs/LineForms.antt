@@ -1,5 +1,5 @@
 -- What a line adds to the scenario and to the open blocks, by its form: a statement, a process, or neither.
-use Rattle.std.proofs.Common.{◌≡◌, refl, ap, ℕ, Bool, true, false, not, ◌&&◌, ◌||◌, nat_le, List, [], ◌∷◌, length, Option, Some, None}
+use Rattle.std.proofs.Common.{◌≡◌, refl, ℕ, true, false, ◌&&◌, ◌||◌, nat_le, List, [], ◌∷◌, length, Option, None}
 use Rattle.std.proofs.lemmas.Bool.{false≢true, true≢false}
 use Rattle.sim_types.specs.Scenarios.{ScenarioOf}
 use Rattle.sim_types.specs.declared.setup.Class.{Class}

@@ -1,6 +1,6 @@
 -- A line of a process makes a statement that may stand where it stands, and leaves the same blocks open.
 --     makes      for each statement form, where it has the operands of its shape and is not misplaced
-use Rattle.std.proofs.Common.{◌≡◌, refl, ap, ◌∙◌, subst, sym, ℕ, suc, Bool, true, false, not, ◌&&◌, ◌||◌, List, [], ◌∷◌, length, Option, Some, None, unwrap_or, is_none, is_some}
+use Rattle.std.proofs.Common.{◌≡◌, refl, ap, ◌∙◌, ℕ, suc, true, false, not, ◌&&◌, List, [], ◌∷◌, length, Some, unwrap_or, is_none}
 use Rattle.std.specs.List.{list_any}
 use Rattle.std.proofs.lemmas.Bool.{false≢true, or_parts, not-false}
 use Rattle.sim_types.specs.declared.script.Stmt.{Stmt}
@@ -8,7 +8,7 @@ use Rattle.sim_types.specs.declared.script.Stmt.TheVariants as stmt
 use Rattle.sim_language.specs.declared.form.Form.{Form}
 use Rattle.sim_language.specs.declared.form.Form.TheVariants as form
 use Rattle.sim_language.specs.Lines.{same}
-use Rattle.sim_language.specs.Forms.{is_statement, opens_block}
+use Rattle.sim_language.specs.Forms.{is_statement}
 use Rattle.sim_language.specs.Shapes.{Slot, Heads, shape}
 use Rattle.sim_language.specs.Blocks.{Block, blocks_behind}
 use Rattle.sim_language.specs.Places.{Place, is_with, in_process}
@@ -16,8 +16,8 @@ use Rattle.sim_language.specs.OrderFaults.{misplaced, is_loop, awaits_else, awai
 use Rattle.sim_language.specs.Statements.{variable, end_of, statement}
 use Rattle.sim_language.specs.FittingBlocks.{is_end_process}
 use Rattle.sim_language.proofs.ShapeLengths.{may_have}
-use Rattle.sim_language.proofs.ClosedBlocks.{Frame, InElse, InCatch, frames_then, may_stand}
-use Rattle.sim_language.proofs.BlockFrames.{frames_of, frames_at, Goes, Closes, break_stands, release_stands, else_stands, catch_stands, end_stands}
+use Rattle.sim_language.proofs.ClosedBlocks.{InElse, InCatch, frames_then, may_stand}
+use Rattle.sim_language.proofs.BlockFrames.{frames_of, frames_at, Splits, Closes, break_stands, release_stands, else_stands, catch_stands, end_stands}
 
 -- the statement, at place n, within these blocks
 pub record Makes (heads : Heads) (place : Place) (n : ℕ) (blocks : List Block) (f : Form) (slots : List Slot) : Type 0 where
@@ -69,11 +69,11 @@ module _ (heads : Heads) (place : Place) (n : ℕ) (blocks : List Block) where
       by_parts (stmt.Release (variable place.variables x.word)) refl (release_stands place.variables x.word blocks (not-false _ stands)) refl refl
   makes form.Else [] fit placed here =
       let stands : not (awaits_else blocks) ≡ false = rw here at placed in
-      let g : Goes place.variables (stmt.Else 0) InElse blocks = else_stands place.variables blocks (not-false _ stands) in
+      let g : Splits place.variables (stmt.Else 0) InElse blocks = else_stands place.variables blocks (not-false _ stands) in
       by_parts (stmt.Else 0) refl g.may g.behind refl
   makes form.Catch (k ∷ v ∷ []) fit placed here =
       let stands : not (awaits_catch blocks) ≡ false = rw here at placed in
-      let g : Goes place.variables (stmt.Catch (variable place.variables k.word) (variable place.variables v.word) 0) InCatch blocks = catch_stands place.variables _ _ blocks (not-false _ stands) in
+      let g : Splits place.variables (stmt.Catch (variable place.variables k.word) (variable place.variables v.word) 0) InCatch blocks = catch_stands place.variables _ _ blocks (not-false _ stands) in
       by_parts (stmt.Catch (variable place.variables k.word) (variable place.variables v.word) 0) refl g.may g.behind refl
   makes form.End [] fit placed here =
       let stands : awaits_catch blocks ≡ false = rw here at (or_parts (not (in_process place.above)) _ placed).1 in

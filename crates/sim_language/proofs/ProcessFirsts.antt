@@ -1,7 +1,7 @@
 -- Where the processes begin, as statements are added.
-use Rattle.std.proofs.Common.{◌≡◌, refl, ap, sym, ◌∙◌, ℕ, suc, ◌+◌, Bool, true, false, if◌then◌else◌, List, [], ◌∷◌, ◌++◌, length, arith}
+use Rattle.std.proofs.Common.{◌≡◌, refl, ap, ℕ, suc, ◌+◌, Bool, true, false, if◌then◌else◌, List, [], ◌∷◌, ◌++◌, length, arith}
 use Rattle.sim_types.specs.declared.script.Stmt.{Stmt}
-use Rattle.sim_language.specs.Links.{closings, link, linked}
+use Rattle.sim_language.specs.Links.{closings, linked}
 use Rattle.sim_language.specs.FittingBlocks.{is_end_process, firsts_after, firsts}
 use Rattle.sim_language.proofs.ClosedBlocks.{is_end_process-link}
 

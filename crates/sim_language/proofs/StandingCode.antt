@@ -1,7 +1,7 @@
 -- The code and the process kinds of the lines so far: what holds of them, and what one line more keeps.
-use Rattle.std.proofs.Common.{◌≡◌, refl, ap, subst, sym, ◌∙◌, ℕ, suc, ◌+◌, ◌<◌, ◌≤◌, Bool, true, false, not, ◌&&◌, ◌||◌, if◌then◌else◌, nat_le, nat_lt, List, [], ◌∷◌, ◌++◌, map, length, Option, Some, None, unwrap_or, is_none, arith}
+use Rattle.std.proofs.Common.{◌≡◌, refl, ap, subst, sym, ◌∙◌, ℕ, suc, true, false, ◌&&◌, nat_le, List, [], ◌∷◌, ◌++◌, map, length, Option, Some, None, unwrap_or, is_none, arith}
 use Rattle.std.proofs.lemmas.List.{map-append, append-nil, length-append, length-map}
-use Rattle.std.proofs.lemmas.Bool.{false≢true, true≢false, le-leb, leb-false, leb-true}
+use Rattle.std.proofs.lemmas.Bool.{false≢true, le-leb, leb-false, leb-true}
 use Rattle.sim_types.specs.declared.setup.Class.{Class}
 use Rattle.sim_types.specs.declared.script.Kind.{Kind}
 use Rattle.sim_types.specs.declared.script.Stmt.{Stmt}
@@ -30,9 +30,11 @@ pub record Stands (n : ℕ) (variables : List (Named Class)) (blocks : Option (L
   -- outside a process the next one begins here
   pub begun : firsts code ≡ firsts_of kinds ++ next_first (is_none blocks) n
 
+-- the same by other names
 pub stands_like : (m n : ℕ) (v w : List (Named Class)) (b c : Option (List Block)) (code more : List Stmt) (kinds others : List Kind) → m ≡ n → v ≡ w → b ≡ c → code ≡ more → kinds ≡ others → Stands m v b code kinds → Stands n w c more others
 stands_like m n v w b c code more kinds others counts variables blocks codes heads p = rw (← counts, ← variables, ← blocks, ← codes, ← heads) p
 
+-- before the first line
 pub stands_none : (variables : List (Named Class)) → Stands 0 variables None [] []
 stands_none variables = record { counted = refl; leaves = leaves_none; few = refl; ended = λ h. refl; begun = refl }
 
@@ -48,13 +50,14 @@ stands_process n before variables code kinds k first p = record {
 
 -- ---- a statement
 
+-- of at most 32
 one_more : (n : ℕ) → nat_le 32 n ≡ false → nat_le (suc n) 32 ≡ true
 one_more n room = le-leb (suc n) 32 (leb-false 32 n room)
 
 one_less : (n : ℕ) → nat_le (suc n) 32 ≡ true → nat_le n 32 ≡ true
 one_less n few = le-leb n 32 (omega (arith, leb-true (suc n) 32 few))
 
--- a block more is one of at most 32
+-- behind the line at most 32 blocks are open
 few_behind : (inside : ℕ) (f : Form) (slots : List Slot) (blocks : List Block) → nat_le (length blocks) 32 ≡ true → (opens_block f && nat_le 32 (length blocks)) ≡ false → nat_le (length (unwrap_or (blocks_behind inside f slots (Some blocks)) [])) 32 ≡ true
 few_behind inside form.Process slots blocks few room = refl
 few_behind inside form.End slots [] few room = refl
@@ -73,12 +76,12 @@ few_behind inside f slots blocks few room = few
 -- the line makes one statement more
 pub stands_statement : (heads : Heads) (place : Place) (n : ℕ) (blocks : List Block) (f : Form) (slots : List Slot) (code : List Stmt) (kinds : List Kind) → (m : Makes heads place n blocks f slots) → (opens_block f && nat_le 32 (length blocks)) ≡ false → Stands n place.variables (Some blocks) code kinds → Stands (suc n) place.variables (blocks_behind (suc n) f slots (Some blocks)) (code ++ m.made ∷ []) kinds
 stands_statement heads place n blocks f slots code kinds m room p = record {
-    counted = counted;
-    leaves = subst (λ frames. Leaves (suc n) frames (code ++ m.made ∷ [])) m.behind (leaves_more n (frames_of place.variables blocks) code m.made p.leaves m.may framed);
-    few = few;
-    ended = λ h. last_ends-push code m.made ∙ m.ends ∙ h;
-    begun = firsts-push code m.made ∙ ap (λ ns. ns ++ next_first (is_end_process m.made) (suc (length code))) (p.begun ∙ append-nil (firsts_of kinds)) ∙ rw (p.counted, m.ends) refl;
-  }
+  counted = counted;
+  leaves = subst (λ frames. Leaves (suc n) frames (code ++ m.made ∷ [])) m.behind (leaves_more n (frames_of place.variables blocks) code m.made p.leaves m.may framed);
+  few = few;
+  ended = λ h. last_ends-push code m.made ∙ m.ends ∙ h;
+  begun = firsts-push code m.made ∙ ap (λ ns. ns ++ next_first (is_end_process m.made) (suc (length code))) (p.begun ∙ append-nil (firsts_of kinds)) ∙ rw (p.counted, m.ends) refl;
+}
   where
     counted : length (code ++ m.made ∷ []) ≡ suc n
     counted = omega (arith, length-append code (m.made ∷ []), p.counted)
