@@ -5,3 +5,12 @@ mod RefusedTexts
 mod ScenariosRead
 pub mod Walking
 mod WellFormedScenarios
+pub mod Faultless
+mod ClosedBlocks
+pub mod ShapeLengths
+mod BlockFrames
+mod MadeStatements
+mod ProcessFirsts
+mod StandingCode
+mod LineForms
+pub mod ClosedTexts
