@@ -1,6 +1,6 @@
 //! The words of a line, one after the other.
-ghost use Rattle.std.specs.Prelude.{◌≡◌, [], ◌∷◌, MatchOption, is_some};
-ghost use Rattle.sim_language.specs.Lines.{is_empty, words};
+ghost use Rattle.std.specs.Prelude.{◌≡◌, [], ◌∷◌, MatchOption, not, position};
+ghost use Rattle.sim_language.specs.Lines.{is_blank, is_empty, words};
 
 use std::marker::Model;
 
@@ -45,6 +45,38 @@ impl<'t> Words<'t> {
     pub fn next(&mut self) -> Option<&'t [u8]>
         ensures { MatchOption result ((self.old ≡ []) × (self.new ≡ [])) (λ word. self.old ≡ word.now ∷ self.new) }
     {
-        unreachable!()
+        let (word, rest) = first_word(self.rest)?;
+        self.rest = rest;
+        Some(word)
     }
+}
+
+/// The first word and what stands behind it, or nothing where there is none.
+fn first_word(line: &[u8]) -> Option<(&[u8], &[u8])>
+    ensures { MatchOption result (words line.now ≡ []) (λ parts. words line.now ≡ parts.0.now ∷ words parts.1.now) }
+{
+    let start = first_of_word(line)?;
+    let word = &line[start..];
+    match first_blank(word) {
+        Some(end) => Some((&word[..end], &word[end + 1..])),
+        None => Some((word, &word[word.len()..])),
+    }
+}
+
+fn first_of_word(line: &[u8]) -> Option<usize>
+    ensures { result ≡ position (λ c. not (is_blank c)) line.now }
+{
+    line.iter().position(|byte| !is_blank(*byte))
+}
+
+fn first_blank(line: &[u8]) -> Option<usize>
+    ensures { result ≡ position is_blank line.now }
+{
+    line.iter().position(|byte| is_blank(*byte))
+}
+
+fn is_blank(byte: u8) -> bool
+    ensures { result ≡ is_blank byte }
+{
+    byte == b' ' || byte == b'\t'
 }
