@@ -35,6 +35,14 @@ up_to_far test (x ∷ xs) far = by (test x) refl (up_to_far test xs)
 pub up_to_none : (test : ℕ → Bool) (xs : List ℕ) → position test xs ≡ None → xs ≡ up_to test xs
 up_to_none test xs none = up_to_far test xs (none_is_far test xs none)
 
+pub length_up_to : (test : ℕ → Bool) (xs : List ℕ) → length (up_to test xs) ≤ length xs
+length_up_to test [] = omega arith
+length_up_to test (x ∷ xs) = by (test x) refl (length_up_to test xs)
+  where
+    by : (b : Bool) → test x ≡ b → length (up_to test xs) ≤ length xs → length (up_to test (x ∷ xs)) ≤ length (x ∷ xs)
+    by true e rest = rw e (omega arith)
+    by false e rest = rw e (omega arith)
+
 cut_return : (front : Word) → without_return (front ++ 13 ∷ []) ≡ front
 cut_return [] = refl
 cut_return (c ∷ []) = refl

@@ -10,7 +10,7 @@ use Rattle.std.proofs.lemmas.Slice.Eq.{ends_is}
 use Rattle.sim_language.specs.Lines.{lines, is_line_feed}
 use Rattle.sim_language.proofs.Pieces.{pieces-at, pieces-none, length-pieces}
 
-take_rest : (k : ℕ) (l : List ℕ) → take (length l - k) (drop k l) ≡ drop k l
+pub take_rest : (k : ℕ) (l : List ℕ) → take (length l - k) (drop k l) ≡ drop k l
 take_rest k l = rw (← length-drop k l) (take-length (drop k l))
 
 pub first_at_feed : (text : List ℕ) (at : ℕ) → position is_line_feed text ≡ Some at

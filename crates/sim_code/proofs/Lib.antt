@@ -1,3 +1,4 @@
 mod Cuts
 mod Digits
 mod FirstLines
+mod FirstWords

@@ -1,5 +1,6 @@
 //! Parameters of processes.
-ghost use Rattle.std.specs.Prelude.{◌≡◌};
+ghost use Rattle.std.specs.Prelude.{◌≡◌, ◌||◌, codes};
+ghost use Rattle.sim_language.specs.Lines.{is_empty, same};
 ghost use Rattle.sim_language.specs.Parameters.{class_part, is_parameter, parameter_class, parameter_name};
 
 use crate::cutting::up_to;
@@ -17,10 +18,13 @@ pub fn parameter_name(word: &[u8]) -> &[u8]
 pub fn parameter_class(word: &[u8]) -> Class
     ensures { result ≡ parameter_class word.now }
 {
-    match class_part(word) {
-        b":event" => Class::Event,
-        b":proc" => Class::Proc,
-        _ => Class::Number,
+    let class = class_part(word);
+    if class == b":event".as_slice() {
+        Class::Event
+    } else if class == b":proc".as_slice() {
+        Class::Proc
+    } else {
+        Class::Number
     }
 }
 
@@ -28,10 +32,17 @@ pub fn parameter_class(word: &[u8]) -> Class
 pub fn is_parameter(word: &[u8]) -> bool
     ensures { result ≡ is_parameter word.now }
 {
-    is_name(parameter_name(word)) && matches!(class_part(word), b"" | b":event" | b":proc")
+    is_name(parameter_name(word)) && may_end_parameter(class_part(word))
+}
+
+fn may_end_parameter(class: &[u8]) -> bool
+    ensures { result ≡ (is_empty class.now || same class.now (codes ":event") || same class.now (codes ":proc")) }
+{
+    class.is_empty() || class == b":event".as_slice() || class == b":proc".as_slice()
 }
 
 /// The word from its first colon on.
+#[tactic(auto, using(crate::proofs::Cuts::length_up_to))]
 fn class_part(word: &[u8]) -> &[u8]
     ensures { result.now ≡ class_part word.now }
 {
