@@ -1,14 +1,14 @@
 -- The first line of a text.
-use Rattle.std.proofs.Common.{◌≡◌, ℕ, suc, ◌<◌, ◌≤◌, ◌+◌, ◌-◌, Bool, List, [], ◌∷◌, ◌++◌, length, take, drop, get_or, true, refl, sym, ap, ◌∙◌, arith, Some, None, length-drop, eqb, rules}
-use Rattle.std.specs.Prelude.{codes, filter, IsTrue}
-use Rattle.std.specs.List.{ends_with, position, position_or_len}
-use Rattle.std.proofs.Math.Seq.{take-length, drop-length, get_or-append_seam}
-use Rattle.std.proofs.lemmas.Grind.{common_steps}
-use Rattle.std.proofs.lemmas.Bool.Decides.{nat_tests, Decides-eqb}
+--     take_rest                        a part of a slice up to its end, as code takes it
+--     none_is_far                      where no element passes, the first that passes stands past the end
+--     first_at_feed, first_is_last     the first line ends at the first line feed, or with the text
+use Rattle.std.proofs.Common.{◌≡◌, ℕ, suc, ◌<◌, ◌≤◌, ◌+◌, ◌-◌, Bool, List, [], ◌∷◌, length, take, drop, sym, ap, ◌∙◌, arith, Some, None, length-drop}
+use Rattle.std.specs.List.{position, position_or_len}
+use Rattle.std.proofs.Math.Seq.{take-length, drop-length}
+use Rattle.std.proofs.lemmas.Bool.Decides.{nat_tests}
 use Rattle.std.proofs.lemmas.List.Quantifiers.{position-Some}
-use Rattle.std.proofs.lemmas.Slice.Eq.{ends_is}
 use Rattle.sim_language.specs.Lines.{lines, is_line_feed}
-use Rattle.sim_language.proofs.Pieces.{pieces-at, pieces-none, length-pieces}
+use Rattle.sim_language.proofs.Pieces.{pieces-at, pieces-none}
 
 pub take_rest : (k : ℕ) (l : List ℕ) → take (length l - k) (drop k l) ≡ drop k l
 take_rest k l = rw (← length-drop k l) (take-length (drop k l))

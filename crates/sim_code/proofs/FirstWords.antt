@@ -1,6 +1,9 @@
--- The first word of a line.
-use Rattle.std.proofs.Common.{◌≡◌, ◌==◌, ◌+◌, ◌-◌, ℕ, zero, suc, ◌<◌, ◌≤◌, Bool, true, false, List, [], ◌∷◌, ◌++◌, take, drop, get_or, length, length-drop, position, Option, Some, None, not, refl, sym, ap, ◌∙◌, arith}
-use Rattle.std.specs.Prelude.{filter, if◌then◌else◌}
+-- The first word of a line, by the places where it begins and where the first blank behind it stands.
+--     no_word          a line of blanks has no words
+--     word_to_blank    the word ends at a blank
+--     word_to_end      the word ends with the line
+use Rattle.std.proofs.Common.{◌≡◌, ◌+◌, ◌-◌, ℕ, zero, suc, ◌<◌, ◌≤◌, Bool, true, false, List, [], ◌∷◌, take, drop, get_or, length, length-drop, position, Some, None, not, refl, sym, ap, ◌∙◌, arith}
+use Rattle.std.specs.Prelude.{filter}
 use Rattle.std.specs.List.{position_or_len}
 use Rattle.std.proofs.Math.Seq.{drop-length}
 use Rattle.std.proofs.lemmas.Bool.{true≢false}
@@ -19,7 +22,7 @@ to_not true e = absurd (true≢false (sym e))
 to_not false e = refl
 
 -- ---- blanks in front
-pub no_word_far : (line : Word) → length line ≤ position_or_len (λ c. not (is_blank c)) line → words line ≡ []
+no_word_far : (line : Word) → length line ≤ position_or_len (λ c. not (is_blank c)) line → words line ≡ []
 no_word_far [] far = refl
 no_word_far (c ∷ cs) far = by (is_blank c) refl (no_word_far cs)
   where
@@ -51,8 +54,8 @@ words_to_blank word end first found =
     let long : length (take end word) ≡ end = length-take-le end word (omega (arith, h.0)) in
     let one : suc end ≡ end + 1 = omega arith in
     ap (filter (λ w. not (is_empty w))) (pieces-at is_blank word end h.0 h.1 h.2)
-        ∙ kept (take end word) (pieces is_blank (drop (suc end) word)) (omega arith)
-        ∙ ap (λ n. take end word ∷ words (drop n word)) one
+    ∙ kept (take end word) (pieces is_blank (drop (suc end) word)) (omega arith)
+    ∙ ap (λ n. take end word ∷ words (drop n word)) one
 
 words_to_end : (word : Word) → 0 < length word → position is_blank word ≡ None → words word ≡ word ∷ []
 words_to_end [] some none = absurd (omega arith)
@@ -66,10 +69,11 @@ begun : (line word : Word) (start : ℕ) → position (λ c. not (is_blank c)) l
     → (words line ≡ words word) × (is_blank (get_or word 0 0) ≡ false) × (0 < length word)
 begun line word start found is =
     let h = position-Some (λ c. not (is_blank c)) line start 0 found in
-    let rest : word ≡ drop start line = is ∙ take_rest start line in
-    (skip_blanks line start (λ k p. from_not (is_blank (get_or line k 0)) (h.2 k p)) ∙ ap words (sym rest)
-    , rw rest (ap is_blank (first_behind line start)) ∙ to_not (is_blank (get_or line start 0)) h.1
-    , rw rest (rw length-drop (omega (arith, h.0))))
+    let rest : word ≡ drop start line = is ∙ take_rest start line in (
+      skip_blanks line start (λ k p. from_not (is_blank (get_or line k 0)) (h.2 k p)) ∙ ap words (sym rest),
+      rw rest (ap is_blank (first_behind line start)) ∙ to_not (is_blank (get_or line start 0)) h.1,
+      rw rest (rw length-drop (omega (arith, h.0))),
+    )
 
 pub word_to_blank : (line word : Word) (start end : ℕ) → position (λ c. not (is_blank c)) line ≡ Some start → word ≡ take (length line - start) (drop start line)
     → position is_blank word ≡ Some end → words line ≡ take end word ∷ words (take (length word - (end + 1)) (drop (end + 1) word))

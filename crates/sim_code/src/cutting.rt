@@ -59,5 +59,6 @@ fn without_return(line: &[u8]) -> &[u8]
 pub fn is_text(line: &[u8]) -> bool
     ensures { result ≡ list_all is_text line.now }
 {
-    line.iter().all(|byte| *byte == b'\t' || (*byte >= b' ' && *byte <= b'~'))
+    line.iter()
+        .all(|byte| *byte == b'\t' || (*byte >= b' ' && *byte <= b'~'))
 }

@@ -1,4 +1,4 @@
-use Rattle.std.proofs.Common.{◌==◌, ◌∙◌, sym}
+use Rattle.std.proofs.Common.{◌==◌, sym}
 use Rattle.sim_code.proofs.Cuts.{up_to_found, up_to_none}
 use Rattle.sim_code.proofs.cutting.up_to.Goals as goal
 
