@@ -1,0 +1,4 @@
+mod Cuts
+mod Digits
+mod FirstLines
+mod FirstWords
