@@ -2,3 +2,6 @@ mod Cuts
 mod Digits
 mod FirstLines
 mod FirstWords
+mod AboveBounds
+mod AddedEvents
+mod ReadingLines
