@@ -1,1 +1,2 @@
 mod OpenBlocks
+mod Counts

@@ -1,5 +1,5 @@
 //! The names that the lines above declare.
-ghost use Rattle.std.specs.Prelude.{◌≡◌, ◌<◌, ◌^◌, [], length, OnOk};
+ghost use Rattle.std.specs.Prelude.{◌≡◌, ◌<◌, ◌^◌, ◌+◌, [], length, OnOk};
 ghost use Rattle.sim_language.specs.Declarations.{count_of, is_event, sort_of, with_declared};
 ghost use Rattle.sim_language.specs.Forms.{declares_sort};
 ghost use Rattle.sim_language.specs.Named.{is_named, value_of};
@@ -96,8 +96,9 @@ impl<'t> Declared<'t> {
     }
 
     /// Adds the name that a line of this form declares, if it declares one.
+    #[tactic(auto, using(crate::proofs::Counts::length_filter_bound))]
     pub fn add(&mut self, form: Form, slots: &[Slot<'t>]) -> Result<(), AllocError>
-        requires { length self.old < 2 ^ 32 }
+        requires { length self.old + 1 < 2 ^ 32 }
         ensures { OnOk result (self.new ≡ with_declared self.old form (declares_sort form) slots.now) }
     {
         let (Some(sort), Some(slot)) = (form.sort(), slots.first()) else {
