@@ -1,2 +1,3 @@
 mod OpenBlocks
 mod Counts
+mod Given

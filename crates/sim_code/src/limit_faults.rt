@@ -20,9 +20,7 @@ pub fn too_many(place: &Place<'_, '_>, form: Form, slots: &[Slot<'_>]) -> bool
     place.number() > 65_536
         || sort_is_full(above, form)
         || form_is_full(above, form, slots)
-        || slots
-            .iter()
-            .any(|slot| gives_too_many(place.variables(), slot))
+        || gives_too_many(place.variables(), slots)
 }
 
 /// Whether the form declares a name, and there are as many of its sort as may be.
@@ -48,8 +46,15 @@ fn form_is_full(above: &Above<'_>, form: Form, slots: &[Slot<'_>]) -> bool
     }
 }
 
-/// Whether the operand gives a variable that is none of the first 64 of its process, or is such a parameter.
-fn gives_too_many(variables: &Table<'_, Class>, slot: &Slot<'_>) -> bool
+/// Whether the line gives a variable that is none of the first 64 of its process, or has such a parameter.
+fn gives_too_many(variables: &Table<'_, Class>, slots: &[Slot<'_>]) -> bool
+    ensures { result ≡ gives_too_many variables.now slots.now }
+{
+    slots.iter().any(|slot| is_one_too_many(variables, slot))
+}
+
+/// Whether the operand is such a variable or parameter.
+fn is_one_too_many(variables: &Table<'_, Class>, slot: &Slot<'_>) -> bool
     ensures { result ≡ gives_too_many variables.now (slot.now ∷ []) }
 {
     match slot.role() {
