@@ -1,7 +1,7 @@
 //! What the lines above a line say.
-ghost use Rattle.std.specs.Prelude.{◌≡◌, [], OnOk};
+ghost use Rattle.std.specs.Prelude.{◌≡◌, ◌≤◌, [], OnOk};
 ghost use Rattle.sim_language.specs.Places.{above_of};
-ghost use Rattle.sim_language.specs.Sayings.{Says};
+ghost use Rattle.sim_language.specs.Sayings.{Blank, Says};
 ghost use Rattle.sim_code.specs.AboveOf.{IsBelow, above_behind};
 
 use crate::blocks::{Blocks, first_word};
@@ -129,16 +129,24 @@ impl<'t> Above<'t> {
         if let What::Says(form) = line.what() {
             self.pass_form(form, line.slots())?;
         }
+        self.pass_words(line);
+        Ok(())
+    }
+
+    /// Goes on behind the words of a line, but not behind what it says.
+    fn pass_words(&mut self, line: &Line<'t>)
+        requires { self.old.worded ≤ 4194304 }
+        ensures { self.new ≡ above_behind self.old (record { words = line.now.words; saying = Blank }) }
+    {
         if !line.is_empty() {
             self.worded += 1;
         }
         if line.begins_with(b"journal") {
             self.journal = true;
         }
-        Ok(())
     }
 
-    /// Goes on behind what a line of this form says, but counts no words.
+    /// Goes on behind what a line of this form says, but not behind its words.
     fn pass_form(&mut self, form: Form, slots: &[Slot<'t>]) -> Result<(), AllocError>
         requires { IsBelow 4194304 self.old }
         ensures { OnOk result (self.new ≡ above_behind self.old (record { words = []; saying = Says form slots.now })) }
