@@ -1,3 +1,3 @@
 mod OpenBlocks
-mod Counts
-mod Given
+mod SortCounts
+mod OperandTests

@@ -96,7 +96,7 @@ impl<'t> Declared<'t> {
     }
 
     /// Adds the name that a line of this form declares, if it declares one.
-    #[tactic(auto, using(crate::proofs::Counts::length_filter_bound))]
+    #[tactic(auto, using(crate::proofs::SortCounts::length_filter_bound))]
     pub fn add(&mut self, form: Form, slots: &[Slot<'t>]) -> Result<(), AllocError>
         requires { length self.old + 1 < 2 ^ 32 }
         ensures { OnOk result (self.new ≡ with_declared self.old form (declares_sort form) slots.now) }

@@ -3,7 +3,7 @@ use Rattle.std.proofs.lemmas.Iterator.{YieldsList-from_slice}
 use Rattle.std.proofs.lemmas.Iterator.Search.{any_from_yields_List}
 use Rattle.sim_language.specs.LimitFaults.{gives_too_many}
 use Rattle.sim_language.specs.Variables.{given_by_slot, variable_number}
-use Rattle.sim_code.proofs.Given.{any_by_item}
+use Rattle.sim_code.proofs.OperandTests.{any_by_item}
 use Rattle.sim_code.proofs.limit_faults.gives_too_many.Goals as goal
 
 pub returns : goal.returns

@@ -1,5 +1,5 @@
 -- Whether a variable that the operands give passes a test, operand by operand.
-use Rattle.std.proofs.Common.{◌≡◌, refl, sym, ap, ◌∙◌, Bool, true, false, ◌||◌, List, [], ◌∷◌, filter_map, Option, Some, None}
+use Rattle.std.proofs.Common.{◌≡◌, refl, sym, Bool, true, false, ◌||◌, List, [], ◌∷◌, filter_map, Option, Some, None}
 use Rattle.std.specs.List.{list_any}
 
 one_or : (b c : Bool) → (b || c) ≡ ((b || false) || c)
