@@ -1,7 +1,10 @@
+mod AboveBounds
+mod AddedEvents
 mod Cuts
 mod Digits
 mod FirstLines
 mod FirstWords
-mod AboveBounds
-mod AddedEvents
+mod OpenBlocks
+mod OperandTests
 mod ReadingLines
+mod SortCounts

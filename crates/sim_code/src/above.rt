@@ -1,11 +1,15 @@
 //! What the lines above a line say.
-ghost use Rattle.std.specs.Prelude.{◌≡◌, [], OnOk};
+ghost use Rattle.std.specs.Prelude.{◌≡◌, ◌≤◌, [], OnOk};
 ghost use Rattle.sim_language.specs.Places.{above_of};
+ghost use Rattle.sim_language.specs.Sayings.{Blank, Says};
 ghost use Rattle.sim_code.specs.AboveOf.{IsBelow, above_behind};
 
-use crate::blocks::Blocks;
+use crate::blocks::{Blocks, first_word};
 use crate::declared::Declared;
-use crate::line::Line;
+use crate::line::{Line, What};
+use crate::number::literal_within;
+use crate::slot::Slot;
+use sim_language::Form;
 use std::alloc::{AllocError, Global};
 use std::marker::Model;
 
@@ -40,7 +44,18 @@ impl<'t> Above<'t> {
     pub fn new(alloc: Global) -> Above<'t>
         ensures { result ≡ above_of [] }
     {
-        unreachable!()
+        Above {
+            worded: 0,
+            declared: Declared::new(alloc),
+            process_or_start: false,
+            start: false,
+            journal: false,
+            blocks: Blocks::new(alloc),
+            statements: 0,
+            entries: 0,
+            posters: 0,
+            after: None,
+        }
     }
 
     pub fn worded(&self) -> u32
@@ -111,6 +126,50 @@ impl<'t> Above<'t> {
         requires { IsBelow 4194304 self.old }
         ensures { OnOk result (self.new ≡ above_behind self.old line.now) }
     {
-        unreachable!()
+        if let What::Says(form) = line.what() {
+            self.pass_form(form, line.slots())?;
+        }
+        self.pass_words(line);
+        Ok(())
+    }
+
+    /// Goes on behind the words of a line, but not behind what it says.
+    fn pass_words(&mut self, line: &Line<'t>)
+        requires { self.old.worded ≤ 4194304 }
+        ensures { self.new ≡ above_behind self.old (record { words = line.now.words; saying = Blank }) }
+    {
+        if !line.is_empty() {
+            self.worded += 1;
+        }
+        if line.begins_with(b"journal") {
+            self.journal = true;
+        }
+    }
+
+    /// Goes on behind what a line of this form says, but not behind its words.
+    fn pass_form(&mut self, form: Form, slots: &[Slot<'t>]) -> Result<(), AllocError>
+        requires { IsBelow 4194304 self.old }
+        ensures { OnOk result (self.new ≡ above_behind self.old (record { words = []; saying = Says form slots.now })) }
+    {
+        self.declared.add(form, slots)?;
+        if form.is_statement() {
+            self.statements += 1;
+        }
+        self.blocks.pass(self.statements, form, slots)?;
+        match form {
+            Form::Process => self.process_or_start = true,
+            Form::Start => {
+                self.process_or_start = true;
+                self.start = true;
+            }
+            Form::After => {
+                self.entries += 1;
+                self.after = literal_within(i64::MIN, i64::MAX, first_word(slots));
+            }
+            Form::Post => self.entries += 1,
+            Form::Poster => self.posters += 1,
+            _ => (),
+        }
+        Ok(())
     }
 }

@@ -1,5 +1,5 @@
 //! The names that the lines above declare.
-ghost use Rattle.std.specs.Prelude.{◌≡◌, ◌<◌, ◌^◌, [], length, OnOk};
+ghost use Rattle.std.specs.Prelude.{◌≡◌, ◌<◌, ◌^◌, ◌+◌, [], length, OnOk};
 ghost use Rattle.sim_language.specs.Declarations.{count_of, is_event, sort_of, with_declared};
 ghost use Rattle.sim_language.specs.Forms.{declares_sort};
 ghost use Rattle.sim_language.specs.Named.{is_named, value_of};
@@ -40,48 +40,82 @@ impl<'t> Declared<'t> {
     pub fn new(alloc: Global) -> Declared<'t>
         ensures { result ≡ [] }
     {
-        unreachable!()
+        Declared {
+            names: Table::new(alloc),
+            resources: 0,
+            events: 0,
+            ports: 0,
+            processes: 0,
+        }
     }
 
     /// What the name is declared as.
     pub fn get(&self, name: &[u8]) -> Option<Meaning>
         ensures { result ≡ value_of name.now self.now }
     {
-        unreachable!()
+        self.names.get(name)
     }
 
     pub fn contains(&self, name: &[u8]) -> bool
         ensures { result ≡ is_named name.now self.now }
     {
-        unreachable!()
+        self.names.contains(name)
     }
 
     /// How many names of the sort there are.
     pub fn count(&self, sort: Sort) -> u32
         ensures { result ≡ count_of sort self.now }
     {
-        unreachable!()
+        match sort {
+            Sort::Resource => self.resources,
+            Sort::Event => self.events,
+            Sort::Port => self.ports,
+            Sort::Process => self.processes,
+        }
     }
 
     /// Whether the word is a named event.
     pub fn is_event(&self, word: &[u8]) -> bool
         ensures { result ≡ is_event self.now word.now }
     {
-        unreachable!()
+        match self.names.get(word) {
+            Some(meaning) => matches!(meaning.form.sort(), Some(Sort::Event)),
+            None => false,
+        }
     }
 
     /// What sort of name the word is: as declared above, or a process anywhere in the text.
     pub fn sort(&self, heads: &Heads<'_>, word: &[u8]) -> Option<Sort>
         ensures { result ≡ sort_of heads.now self.now word.now }
     {
-        unreachable!()
+        match self.names.get(word) {
+            Some(meaning) => meaning.form.sort(),
+            None if heads.contains(word) => Some(Sort::Process),
+            None => None,
+        }
     }
 
     /// Adds the name that a line of this form declares, if it declares one.
+    #[tactic(auto, using(crate::proofs::SortCounts::length_filter_bound))]
     pub fn add(&mut self, form: Form, slots: &[Slot<'t>]) -> Result<(), AllocError>
-        requires { length self.old < 2 ^ 32 }
+        requires { length self.old + 1 < 2 ^ 32 }
         ensures { OnOk result (self.new ≡ with_declared self.old form (declares_sort form) slots.now) }
     {
-        unreachable!()
+        let (Some(sort), Some(slot)) = (form.sort(), slots.first()) else {
+            return Ok(());
+        };
+        let name = slot.word();
+        if self.names.contains(name) {
+            return Ok(());
+        }
+        let number = self.count(sort);
+        self.names.add(name, Meaning { form, number })?;
+        match sort {
+            Sort::Resource => self.resources += 1,
+            Sort::Event => self.events += 1,
+            Sort::Port => self.ports += 1,
+            Sort::Process => self.processes += 1,
+        }
+        Ok(())
     }
 }

@@ -1,11 +1,13 @@
 //! A line with what it says.
 ghost use Rattle.std.specs.Prelude.{◌≡◌, codes};
+ghost use Rattle.sim_language.specs.Lines.{is_empty};
 ghost use Rattle.sim_language.specs.OrderFaults.{is_header};
 ghost use Rattle.sim_language.specs.Sayings.{begins_with};
 ghost use Rattle.sim_language.specs.Said.{IsSaid};
 ghost use Rattle.sim_code.specs.LineOf.{slots_of, what_of};
 
 use crate::slot::Slot;
+use crate::words::Words;
 use sim_language::Form;
 use sim_types::FaultKind;
 use std::alloc::{AllocError, Global};
@@ -62,6 +64,13 @@ impl<'t> Line<'t> {
         ensures said { IsSaid self.now.saying }
     {
         unreachable!()
+    }
+
+    /// Whether it has no words.
+    pub fn is_empty(&self) -> bool
+        ensures { result ≡ is_empty self.now.words }
+    {
+        Words::new(self.cut).is_empty()
     }
 
     /// Whether its first word is this one.
