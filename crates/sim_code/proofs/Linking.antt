@@ -43,11 +43,10 @@ closings_then_link n s ds cs = refl
 
 -- the statement at p is linked, where those behind it are
 module _ (p q : ℕ) (code first : List Stmt) (cs : List Closing) (x : Stmt)
-  (is_next : q ≡ suc p) (inside : p < length first)
-  (is_code_at : code ≡ take q first ++ linked q (drop q first))
-  (is_stack_at : cs ≡ closings q (drop q first))
-  (is_x : x ≡ get_or code p x) where
-
+    (is_next : q ≡ suc p) (inside : p < length first)
+    (is_code_at : code ≡ take q first ++ linked q (drop q first))
+    (is_stack_at : cs ≡ closings q (drop q first))
+    (is_x : x ≡ get_or code p x) where
   is_code : code ≡ take (suc p) first ++ linked (suc p) (drop (suc p) first)
   is_code = rw is_next at is_code_at
 

@@ -14,5 +14,5 @@ loop-place-preserved c =
     let inside : q - 1 < length first.items = omega (arith, first.ok.0, c.len-place.ensures) in
     record {
       code = ap (set code (q - 1)) c.link.ensures ∙ linked_more (q - 1) q code first.items cs x next inside c.loop-place.invariant.code c.loop-place.invariant.closings c.index_mut-statement.ensures.value;
-      closings = c.in_ok-pass.ensures ∙ ap (λ s. closings_then (q - 1) s cs) c.link.ensures ∙ closings_more (q - 1) q code first.items cs x next inside c.loop-place.invariant.code c.loop-place.invariant.closings c.index_mut-statement.ensures.value
+      closings = c.in_ok-pass.ensures ∙ ap (λ s. closings_then (q - 1) s cs) c.link.ensures ∙ closings_more (q - 1) q code first.items cs x next inside c.loop-place.invariant.code c.loop-place.invariant.closings c.index_mut-statement.ensures.value;
     }
