@@ -1,3 +1,4 @@
 pub mod LineOf
 pub mod AboveOf
 pub mod StatementGroups
+pub mod LineGroups
