@@ -4,3 +4,4 @@ pub mod GivenVariables
 pub mod KeptClasses
 pub mod LastPoster
 pub mod JournalNumbers
+pub mod CleanLines

@@ -7,7 +7,7 @@ pub returns : goal.returns
 returns c =
     let posters = c.self.inside.posters in
     elim c.match-last_mut.branch [
-        in-Some+in_ok-push w ↦
+      | in-Some+in_ok-push w ↦
           let e = onto_last_set c.args.post posters.len posters.items w.in-Some.posts.now w.push.new.self posters.ok.0 (w.in-Some.ensures.variant.0 refl) w.in-Some.ensures.value w.in_ok-push.ensures.ok in
           rw (w.self-inside-is, ← c.self.view_is, e) refl
       | in_default w ↦
