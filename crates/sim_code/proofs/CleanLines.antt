@@ -1,5 +1,5 @@
 -- A line without faults is within the limits.
-use Rattle.std.proofs.Common.{◌≡◌, refl, sym, ap, ◌∙◌, Bool, true, false, ◌||◌, List, [], ◌∷◌, ◌++◌, find, nat_lt, Option, Some, None}
+use Rattle.std.proofs.Common.{◌≡◌, refl, sym, ap, ◌∙◌, Bool, true, false, ◌||◌, List, [], ◌∷◌, ◌++◌, find, nat_lt, None}
 use Rattle.std.proofs.lemmas.Bool.{false≢true}
 use Rattle.std.proofs.lemmas.Option.{none-some}
 use Rattle.sim_types.specs.declared.fault.FaultKind.{FaultKind}
@@ -12,7 +12,6 @@ use Rattle.sim_language.specs.Forms.{declares_sort}
 use Rattle.sim_language.specs.Places.{Place}
 use Rattle.sim_language.specs.LimitFaults.{form_is_full, sort_is_full, gives_too_many, too_many}
 use Rattle.sim_language.specs.Faults.{applies, of_form, fault_at, fault_by}
-use Rattle.sim_code.specs.declared.line.What.{What}
 use Rattle.sim_code.specs.declared.line.What.TheVariants as what
 use Rattle.sim_code.specs.LineOf.{slots_of, what_of}
 

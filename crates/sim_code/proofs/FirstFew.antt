@@ -1,6 +1,6 @@
 -- The first few of what a list gives, as a loop over it keeps them.
 use Rattle.std.proofs.Common.{◌≡◌, refl, sym, ap, ◌∙◌, ℕ, ◌+◌, ◌<◌, ◌≤◌, Bool, true, false, List, [], ◌∷◌, ◌++◌, length, take, map, get_or, cond, nat_lt, arith}
-use Rattle.std.proofs.lemmas.List.{take_all, take-append-le, length-take-le, length_push, map_more, map_push}
+use Rattle.std.proofs.lemmas.List.{take_all, take-append-le, length-take-le, length_push, map_more}
 use Rattle.std.proofs.lemmas.Bool.Decides.{nat_tests}
 
 -- one more at the end

@@ -1,12 +1,12 @@
 -- The variables that operands give, counted.
-use Rattle.std.proofs.Common.{◌≡◌, refl, sym, ap, ◌∙◌, ℕ, suc, ◌+◌, ◌≤◌, Bool, true, false, List, [], ◌∷◌, length, count_by, cond, arith}
+use Rattle.std.proofs.Common.{◌≡◌, refl, sym, ℕ, ◌+◌, ◌≤◌, Bool, true, false, List, ◌∷◌, length, count_by, cond, arith}
 use Rattle.std.proofs.lemmas.List.Recursion.{is_count_by}
 use Rattle.std.proofs.lemmas.List.Sums.{count_by-le-length}
 use Rattle.sim_language.specs.Lines.{Word}
 use Rattle.sim_language.specs.declared.shape.Role.{Role}
-use Rattle.sim_language.specs.declared.shape.Role.TheVariants.{Declares, Parameter, Gives, Value, Within, Capacity, Refers, Names, Free}
+use Rattle.sim_language.specs.declared.shape.Role.TheVariants.{Parameter, Gives}
 use Rattle.sim_language.specs.Shapes.{Slot}
-use Rattle.sim_language.specs.Variables.{given_by, given_by_slot}
+use Rattle.sim_language.specs.Variables.{given_by}
 
 -- the operand gives a variable
 abbrev pub gives : Role → Bool

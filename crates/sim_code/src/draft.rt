@@ -1,15 +1,17 @@
 //! A scenario that is being read.
-ghost use Rattle.std.specs.Prelude.{◌≡◌, ◌<◌, ◌≤◌, ◌^◌, ◌++◌, ◌∷◌, [], None, OnOk, false, if◌then◌else◌, length, map, pos, take};
+ghost use Rattle.std.specs.Prelude.{◌≡◌, ◌<◌, ◌≤◌, ◌^◌, None, OnOk, false, if◌then◌else◌, length, map, pos, take};
 ghost use Rattle.sim_code.specs.LineGroups.{is_of_declarations, is_of_entries, is_of_headers, is_of_resources};
 ghost use Rattle.sim_language.specs.Faults.{fault_at};
 ghost use Rattle.sim_language.specs.LimitFaults.{form_is_full};
 ghost use Rattle.sim_language.specs.Places as places;
-ghost use Rattle.sim_language.specs.Reads.{add, add_said, capacity_of, classes_of, kind_of, natural_of, nothing_said, onto_last, start_argument_of, with_arrival, with_kind, with_port, with_resource, with_start, with_statement};
+ghost use Rattle.sim_language.specs.Reads.{add, add_said, capacity_of, classes_of, kind_of, natural_of, nothing_said, onto_last, start_argument_of, with_arrival, with_kind, with_port, with_resource, with_statement};
 ghost use Rattle.sim_language.specs.Said.{Fits};
 ghost use Rattle.sim_language.specs.Shapes as shapes;
 ghost use Rattle.sim_language.specs.Statements as statements;
+ghost use Rattle.sim_language.specs.Statements.{literal_of};
 ghost use Rattle.sim_language.specs.Variables.{given_by};
 ghost use Rattle.sim_language.specs.declared.form.Form.TheVariants as form;
+ghost use Rattle.sim_types.specs.declared.setup.ResourceKind.TheVariants as resource;
 
 use crate::heads::Heads;
 use crate::line::What;
@@ -30,6 +32,9 @@ const MOST_LEVEL: i64 = 4_611_686_018_427_387_904;
 
 /// The greatest capacity of a store.
 const MOST_ITEMS: i64 = 4_294_967_296;
+
+/// How many variables a process has beside `val`.
+const MOST_VARIABLES: usize = 63;
 
 /// What the lines that were read say.
 #[derive(Drop)]
@@ -134,7 +139,7 @@ impl Draft {
     {
         match (form, slots) {
             (Form::UntilTime, [time]) => self.until = Until::At(literal(time.word())),
-            (Form::Seed, [seed]) => self.seed = literal(seed.word()).unsigned_abs(),
+            (Form::Seed, [seed]) => self.seed = natural(seed.word()),
             _ => {}
         }
     }
@@ -155,46 +160,41 @@ impl Draft {
         Ok(())
     }
 
+    /// Adds a resource that so many can use at once.
+    fn push_shared(&mut self, kind: ResourceKind, users: &Slot<'_>) -> Result<(), AllocError>
+        ensures { OnOk result (self.new ≡ with_resource self.old kind (literal_of users.now.word) (pos 0)) }
+    {
+        self.push_resource(kind, literal(users.word()), 0)
+    }
+
+    fn push_container(&mut self, most: &Slot<'_>, opening: &Slot<'_>) -> Result<(), AllocError>
+        ensures { OnOk result (self.new ≡ with_resource self.old resource.Container (capacity_of (pos (2 ^ 62)) most.now.word) (literal_of opening.now.word)) }
+    {
+        self.push_resource(
+            ResourceKind::Container,
+            capacity_of(MOST_LEVEL, most.word()),
+            literal(opening.word()),
+        )
+    }
+
+    fn push_store(&mut self, kind: ResourceKind, most: &Slot<'_>) -> Result<(), AllocError>
+        ensures { OnOk result (self.new ≡ with_resource self.old kind (capacity_of (pos (2 ^ 32)) most.now.word) (pos 0)) }
+    {
+        self.push_resource(kind, capacity_of(MOST_ITEMS, most.word()), 0)
+    }
+
     /// Adds the resource that a line declares.
     fn add_resource(&mut self, form: Form, slots: &[Slot<'_>]) -> Result<(), AllocError>
         ensures { (heads : shapes.Heads) (place : places.Place) → OnOk result (self.new ≡ (if is_of_resources form then add heads place form slots.now self.old else self.old)) }
     {
         match (form, slots) {
-            (Form::Resource, [_, users]) => self.push_resource(
-                ResourceKind::Plain,
-                literal(users.word()),
-                0,
-            ),
-            (Form::Priority, [_, users]) => self.push_resource(
-                ResourceKind::Priority,
-                literal(users.word()),
-                0,
-            ),
-            (Form::Preemptive, [_, users]) => self.push_resource(
-                ResourceKind::Preemptive,
-                literal(users.word()),
-                0,
-            ),
-            (Form::Container, [_, most, opening]) => self.push_resource(
-                ResourceKind::Container,
-                capacity_of(MOST_LEVEL, most.word()),
-                literal(opening.word()),
-            ),
-            (Form::Store, [_, most]) => self.push_resource(
-                ResourceKind::Store,
-                capacity_of(MOST_ITEMS, most.word()),
-                0,
-            ),
-            (Form::PStore, [_, most]) => self.push_resource(
-                ResourceKind::PStore,
-                capacity_of(MOST_ITEMS, most.word()),
-                0,
-            ),
-            (Form::FStore, [_, most]) => self.push_resource(
-                ResourceKind::FStore,
-                capacity_of(MOST_ITEMS, most.word()),
-                0,
-            ),
+            (Form::Resource, [_, users]) => self.push_shared(ResourceKind::Plain, users),
+            (Form::Priority, [_, users]) => self.push_shared(ResourceKind::Priority, users),
+            (Form::Preemptive, [_, users]) => self.push_shared(ResourceKind::Preemptive, users),
+            (Form::Container, [_, most, opening]) => self.push_container(most, opening),
+            (Form::Store, [_, most]) => self.push_store(ResourceKind::Store, most),
+            (Form::PStore, [_, most]) => self.push_store(ResourceKind::PStore, most),
+            (Form::FStore, [_, most]) => self.push_store(ResourceKind::FStore, most),
             _ => Ok(()),
         }
     }
@@ -263,7 +263,7 @@ impl Draft {
         Ok(())
     }
 
-    /// Adds an entry of a journal, a poster, or a value for its port.
+    /// Adds an entry of the journal, a poster, or a value that the last poster posts.
     fn add_entry(
         &mut self,
         alloc: Global,
@@ -352,12 +352,12 @@ fn count_given(slots: &[Slot<'_>]) -> usize
         .count()
 }
 
-/// The class of each variable by its number.
+/// The class of each variable by its number; `val`, which has the number 0, is a number.
 fn classes_of(variables: &Table<'_, Class>) -> Classes
     ensures { result ≡ classes_of variables.now }
 {
     let mut classes = Classes::new();
-    for place in 0..variables.len().min(63) {
+    for place in 0..variables.len().min(MOST_VARIABLES) {
         classes.set(place + 1, variables.at(place));
     }
     classes

@@ -1,5 +1,5 @@
 //! Where statements go on besides at the next.
-ghost use Rattle.std.specs.Prelude.{◌≡◌, ◌<◌, ◌≤◌, ◌^◌, [], OnOk, length, suc};
+ghost use Rattle.std.specs.Prelude.{◌≡◌, ◌<◌, ◌≤◌, [], OnOk, length};
 ghost use Rattle.sim_language.specs.Links.{closings_then, link, linked, past_of, split_at, split_of};
 
 use sim_types::Stmt;

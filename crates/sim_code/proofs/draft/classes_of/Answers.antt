@@ -1,4 +1,4 @@
-use Rattle.std.proofs.Common.{◌≡◌, ◌∙◌, map, lit≤, arith}
+use Rattle.std.proofs.Common.{◌∙◌, map, lit≤, arith}
 use Rattle.std.proofs.lemmas.List.{length-map}
 use Rattle.sim_types.specs.declared.setup.Class.TheVariants as class
 use Rattle.sim_code.proofs.KeptClasses.{kept_none, kept_more, kept_all}

@@ -1,4 +1,4 @@
-use Rattle.std.proofs.Common.{◌≡◌, ◌∙◌, FitsSigned, w64, rules}
+use Rattle.std.proofs.Common.{◌∙◌, FitsSigned, w64, rules}
 use Rattle.std.proofs.lemmas.Int.{to_z-of_z}
 use Rattle.sim_language.specs.Reads.{start_argument_of}
 use Rattle.sim_code.proofs.FirstFew.{first_few_more}

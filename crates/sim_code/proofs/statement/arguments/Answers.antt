@@ -1,6 +1,5 @@
-use Rattle.std.proofs.Common.{◌≡◌}
 use Rattle.sim_language.specs.Statements.{argument_of}
-use Rattle.sim_code.proofs.FirstFew.{first_few_more, first_few_all}
+use Rattle.sim_code.proofs.FirstFew.{first_few_more}
 use Rattle.sim_code.proofs.statement.arguments.Goals as goal
 
 pub loop-slot-preserved : goal.loop-slot-preserved

@@ -1,4 +1,4 @@
-use Rattle.std.proofs.Common.{◌≡◌, ◌∙◌, ap}
+use Rattle.std.proofs.Common.{◌∙◌, ap}
 use Rattle.sim_language.specs.Statements.{event_of}
 use Rattle.sim_code.proofs.FirstFew.{first_few_more, first_few_all}
 use Rattle.sim_code.proofs.statement.members.Goals as goal

@@ -1,6 +1,5 @@
-use Rattle.std.proofs.Common.{◌≡◌, ◌∙◌, ap, false}
+use Rattle.std.proofs.Common.{◌≡◌, ◌∙◌, ap}
 use Rattle.sim_language.specs.LimitFaults.{form_is_full}
-use Rattle.sim_language.specs.Sayings.{Line}
 use Rattle.sim_code.specs.declared.line.What.TheVariants.{Says}
 use Rattle.sim_code.specs.LineOf.{slots_of, what_of}
 use Rattle.sim_code.proofs.CleanLines.{not_full}

@@ -1,4 +1,4 @@
-use Rattle.std.proofs.Common.{◌≡◌, true, rules, arith}
+use Rattle.std.proofs.Common.{◌≡◌, true, arith}
 use Rattle.sim_code.specs.LineGroups.{is_of_declarations, is_of_entries, is_of_resources}
 use Rattle.sim_code.proofs.draft.Draft.add_form.Goals as goal
 

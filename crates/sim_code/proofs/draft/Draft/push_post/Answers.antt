@@ -1,4 +1,4 @@
-use Rattle.std.proofs.Common.{◌≡◌, refl}
+use Rattle.std.proofs.Common.{refl}
 use Rattle.sim_code.proofs.LastPoster.{onto_last_set, onto_none}
 use Rattle.sim_code.proofs.draft.Draft.push_post.Goals as goal
 use Rattle.sim_code.proofs.draft.Draft.push_post.Goals.{in-Some+in_ok-push, in_default}

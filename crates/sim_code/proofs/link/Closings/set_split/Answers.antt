@@ -1,5 +1,4 @@
-use Rattle.std.proofs.Common.{◌≡◌, refl, sym, ap, ◌∙◌, reverse, arith}
-use Rattle.sim_language.specs.Links.{split_at}
+use Rattle.std.proofs.Common.{refl}
 use Rattle.sim_code.proofs.Linking.{split_last, split_none}
 use Rattle.sim_code.proofs.link.Closings.set_split.Goals as goal
 use Rattle.sim_code.proofs.link.Closings.set_split.Goals.{in-Some, in_default}
