@@ -12,6 +12,9 @@ use crate::variables::variable;
 use sim_language::{Form, Role};
 use sim_types::{Arith, Num, Ref, Refs, SpawnArg, SpawnArgs, Stmt};
 
+/// What stands for a number that the form has not.
+const NOTHING: Num = Num::Lit(0);
+
 /// The statement of a line, if it is one. Where it goes on besides at the next is still 0.
 pub fn statement(
     heads: &Heads<'_>,
@@ -141,9 +144,6 @@ fn number_or_nothing(place: &Place<'_, '_>, slots: &[Slot<'_>]) -> Num
         [] => NOTHING,
     }
 }
-
-/// What stands for a number that the form has not.
-const NOTHING: Num = Num::Lit(0);
 
 /// What the operator computes.
 fn operator(word: &[u8]) -> Arith
