@@ -8,3 +8,10 @@ mod OpenBlocks
 mod OperandTests
 mod ReadingLines
 mod SortCounts
+pub mod CleanLines
+pub mod FirstFew
+pub mod GivenVariables
+pub mod JournalNumbers
+pub mod KeptClasses
+pub mod LastPoster
+pub mod Linking

@@ -1,3 +1,5 @@
 pub mod LineOf
 pub mod AboveOf
 pub mod Readings
+pub mod StatementGroups
+pub mod LineGroups
