@@ -18,6 +18,7 @@ ghost use Rattle.sim_types.specs.declared.setup.ResourceKind.TheVariants as reso
 
 use crate::heads::Heads;
 use crate::line::What;
+use crate::link::link;
 use crate::place::Place;
 use crate::scenario::Scenario;
 use crate::slot::{Slot, capacity};
@@ -25,8 +26,8 @@ use crate::statement::{kind_number, literal, number_declared, statement};
 use sim_language::{Form, Role};
 use sim_names::Table;
 use sim_types::{
-    Args, Arrival, Class, Classes, Kind, List, Name, Post, Resource, ResourceKind, Start, Stmt,
-    Until,
+    Args, Arrival, Class, Classes, Kind, List, Name, Post, Resource, ResourceKind, Setup, Start,
+    Stmt, Until,
 };
 use std::alloc::{AllocError, Global};
 use std::marker::Model;
@@ -338,7 +339,36 @@ impl Draft {
         requires built { IsTrue (is_built_scenario (with_links self)) }
         ensures { IfOk result (λ scenario. scenario ≡ with_links self) }
     {
-        unreachable!()
+        let Draft {
+            until,
+            seed,
+            events,
+            resources,
+            ports,
+            port_names,
+            starts,
+            kinds,
+            mut code,
+            journal,
+            posters,
+        } = self;
+        link(alloc, &mut code)?;
+        let setup = Setup {
+            until,
+            events,
+            resources: List::from_vec(resources),
+            ports: List::from_vec(ports),
+            starts: List::from_vec(starts),
+        };
+        Ok(Scenario::new(
+            setup,
+            seed,
+            List::from_vec(port_names),
+            List::from_vec(kinds),
+            List::from_vec(code),
+            List::from_vec(journal),
+            List::from_vec(posters),
+        ))
     }
 }
 

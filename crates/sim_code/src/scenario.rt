@@ -33,6 +33,31 @@ impl Model for Scenario {
 }
 
 impl Scenario {
+    /// A scenario of these parts.
+    pub fn new(
+        setup: Setup,
+        seed: u64,
+        port_names: List<Name>,
+        kinds: List<Kind>,
+        code: List<Stmt>,
+        journal: List<Arrival>,
+        posters: List<List<Post>>,
+    ) -> Scenario
+        requires well_formed { IsTrue (is_well_formed (record { setup = setup; seed = seed; port_names = port_names; kinds = kinds; code = code; journal = journal; posters = posters })) }
+        requires built { IsTrue (is_built_scenario (record { setup = setup; seed = seed; port_names = port_names; kinds = kinds; code = code; journal = journal; posters = posters })) }
+        ensures { result ≡ record { setup = setup; seed = seed; port_names = port_names; kinds = kinds; code = code; journal = journal; posters = posters } }
+    {
+        Scenario {
+            setup,
+            seed,
+            port_names,
+            kinds,
+            code,
+            journal,
+            posters,
+        }
+    }
+
     /// What a kernel is opened with.
     pub fn setup(&self) -> &Setup
         ensures setup { result.now ≡ self.now.setup }

@@ -10,7 +10,8 @@ use Rattle.sim_code.proofs.reading.read_lines.Given as goal
 abbrev pub invariant-loop-draft : goal.invariant-loop-draft
 invariant-loop-draft l = record {
   heads : l.heads ≡ l.fn.heads;
-  reading : IsReading l.fn.heads (reads_text is_built l.fn.heads (lines l.fn.text)) l.number l.above l.variables l.draft l.lines }
+  reading : IsReading l.fn.heads (reads_text is_built l.fn.heads (lines l.fn.text)) l.number l.above l.variables l.draft l.lines;
+}
 
 abbrev pub decreases-loop-draft : goal.decreases-loop-draft
 decreases-loop-draft l = length l.lines
