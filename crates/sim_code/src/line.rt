@@ -6,6 +6,7 @@ ghost use Rattle.sim_language.specs.Said.{IsSaid};
 ghost use Rattle.sim_code.specs.LineOf.{slots_of, what_of};
 
 use crate::slot::Slot;
+use crate::words::Words;
 use sim_language::Form;
 use sim_types::FaultKind;
 use std::alloc::{AllocError, Global};
@@ -46,7 +47,11 @@ impl<'t> Model for Line<'t> {
 impl<'t> Line<'t> {
     /// A line to be read.
     pub fn new(alloc: Global) -> Line<'t> {
-        unreachable!()
+        Line {
+            cut: &[],
+            what: What::Blank,
+            slots: Vec::new(alloc),
+        }
     }
 
     /// What it says.
@@ -61,20 +66,32 @@ impl<'t> Line<'t> {
         ensures slots { result.now ≡ slots_of self.now.saying }
         ensures said { IsSaid self.now.saying }
     {
-        unreachable!()
+        match self.what {
+            What::Says(_) => &self.slots,
+            _ => &[],
+        }
     }
 
     /// Whether its first word is this one.
     pub fn begins_with(&self, word: &[u8]) -> bool
         ensures { result ≡ begins_with word.now self.now.words }
     {
-        unreachable!()
+        match Words::new(self.cut).next() {
+            Some(first) => first == word,
+            None => false,
+        }
     }
 
     /// Whether its words are `scenario 1`.
     pub fn is_header(&self) -> bool
         ensures { result ≡ is_header self.now.words }
     {
-        unreachable!()
+        let mut words = Words::new(self.cut);
+        match (words.next(), words.next()) {
+            (Some(first), Some(second)) => {
+                first == b"scenario".as_slice() && second == b"1".as_slice() && words.is_empty()
+            }
+            _ => false,
+        }
     }
 }
