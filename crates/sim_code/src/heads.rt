@@ -1,5 +1,5 @@
 //! The process lines of a text.
-ghost use Rattle.std.specs.Prelude.{◌≡◌, ◌<◌, ◌≤◌, ◌++◌, IfOk, OnOk, length, map, option_to_list, vec_len};
+ghost use Rattle.std.specs.Prelude.{◌≡◌, ◌<◌, ◌≤◌, [], ◌∷◌, ◌++◌, IfOk, OnOk, false, length, map, option_map, option_to_list, vec_len};
 ghost use Rattle.sim_language.specs.Lines.{lines};
 ghost use Rattle.sim_language.specs.Named.{is_named, place_of, with_all};
 ghost use Rattle.sim_language.specs.Parameters.{parameter_class};
@@ -59,20 +59,25 @@ impl<'t> Heads<'t> {
         Ok(heads)
     }
 
-    /// One more, where the words are those of a process line and its name is not there.
+    /// The process that the line declares behind the others, if it declares one and its name is not there.
     fn add(&mut self, line: &Words<'t>) -> Result<(), AllocError>
         requires { length self.old < 4194304 }
         ensures { OnOk result (self.new ≡ with_all self.old (option_to_list (head_of line.now))) }
     {
-        let mut words = line.again();
-        let (Some(first), Some(name)) = (words.next(), words.next()) else {
-            return Ok(());
-        };
-        if first != b"process".as_slice() || !is_name(name) || self.contains(name) {
-            return Ok(());
+        match head_of(line) {
+            Some((name, parameters)) if !self.contains(name) => self.push(name, parameters),
+            _ => Ok(()),
         }
+    }
+
+    /// A process behind the others.
+    fn push(&mut self, name: &'t [u8], parameters: Words<'t>) -> Result<(), AllocError>
+        requires few { length self.old < 4194304 }
+        requires other { is_named name.now self.old ≡ false }
+        ensures { OnOk result (self.new ≡ self.old ++ record { name = name.now; value = map parameter_class parameters.entry } ∷ []) }
+    {
         let from = self.classes.len();
-        push_classes(&mut self.classes, words)?;
+        push_classes(&mut self.classes, parameters)?;
         let to = self.classes.len();
         self.spans.add(name, Span { from, to })
     }
@@ -101,6 +106,20 @@ impl<'t> Heads<'t> {
             Some(span) => &self.classes[span.from..span.to],
             None => &[],
         }
+    }
+}
+
+/// The name and the parameters in a process line.
+fn head_of<'t>(line: &Words<'t>) -> Option<(&'t [u8], Words<'t>)>
+    ensures { option_map (λ head. record { name = head.0.now; value = map parameter_class head.1 }) result ≡ head_of line.now }
+{
+    let mut words = line.again();
+    let first = words.next()?;
+    let name = words.next()?;
+    if first == b"process".as_slice() && is_name(name) {
+        Some((name, words))
+    } else {
+        None
     }
 }
 
