@@ -1,1 +1,2 @@
 mod HeadsOfLines
+mod SlotsOfWords

@@ -1,2 +1,3 @@
 pub mod LineOf
 pub mod AboveOf
+pub mod OneWord
