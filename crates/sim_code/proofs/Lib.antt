@@ -1,2 +1,4 @@
 mod HeadsOfLines
 mod SlotsOfWords
+mod SaidByLines
+mod CountsOfLines

@@ -21,6 +21,7 @@ mod operands;
 mod order_faults;
 mod parameter;
 mod place;
+mod saying;
 mod slot;
 mod statement;
 mod variable_faults;

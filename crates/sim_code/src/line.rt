@@ -1,13 +1,17 @@
 //! A line with what it says.
-ghost use Rattle.std.specs.Prelude.{◌≡◌, codes};
+ghost use Rattle.std.specs.Prelude.{◌≡◌, OnOk};
+ghost use Rattle.sim_language.specs.Built.{is_built};
 ghost use Rattle.sim_language.specs.OrderFaults.{is_header};
-ghost use Rattle.sim_language.specs.Sayings.{begins_with};
+ghost use Rattle.sim_language.specs.Sayings.{begins_with, line_of};
 ghost use Rattle.sim_language.specs.Said.{IsSaid};
 ghost use Rattle.sim_code.specs.LineOf.{slots_of, what_of};
 
+use crate::cutting::cut;
+use crate::heads::Heads;
+use crate::saying::{begins_with, say};
 use crate::slot::Slot;
 use crate::words::Words;
-use sim_language::Form;
+use sim_language::{Form, Section};
 use sim_types::FaultKind;
 use std::alloc::{AllocError, Global};
 use std::marker::Model;
@@ -54,6 +58,23 @@ impl<'t> Line<'t> {
         }
     }
 
+    /// Reads a line of a text where it stands in this section below so many `poster` lines.
+    pub fn read(
+        &mut self,
+        line: &'t [u8],
+        heads: &Heads<'_>,
+        section: Section,
+        posters: u32,
+    ) -> Result<(), AllocError>
+        ensures { OnOk result (self.new ≡ line_of (record { built = is_built; heads = heads.now; section = section; posters = posters }) line.now) }
+    {
+        self.cut = cut(line);
+        self.what = What::Blank;
+        self.slots.clear();
+        self.what = say(&mut self.slots, heads, section, posters, self.cut)?;
+        Ok(())
+    }
+
     /// What it says.
     pub fn what(&self) -> What
         ensures { result ≡ what_of self.now.saying }
@@ -76,10 +97,7 @@ impl<'t> Line<'t> {
     pub fn begins_with(&self, word: &[u8]) -> bool
         ensures { result ≡ begins_with word.now self.now.words }
     {
-        match Words::new(self.cut).next() {
-            Some(first) => first == word,
-            None => false,
-        }
+        begins_with(&Words::new(self.cut), word)
     }
 
     /// Whether its words are `scenario 1`.

@@ -1,4 +1,4 @@
-use Rattle.std.proofs.Common.{◌≡◌, Some, None, arith}
+use Rattle.std.proofs.Common.{Some, None, arith}
 use Rattle.sim_code.proofs.HeadsOfLines.{span_is_within, parameters_in_spans}
 use Rattle.sim_code.proofs.heads.Heads.parameters.Goals as goal
 

@@ -10,6 +10,6 @@ returns c =
     let to : c.len-to.result ≡ length c.push_classes.new.classes.items = omega (arith, c.len-to.ensures) in
     rw (← c.self.view_is)
     (on_ok_weaker c.add.result
-        (seen_with_one c.args.name.now c.self.inside.spans c.add.new.self c.self.inside.classes.items (map parameter_class c.args.parameters) c.push_classes.new.classes.items c.len-from.result c.len-to.result
-            c.self.invariant.1 (rw c.self.view_is c.requires.other) c.in_ok-push_classes.ensures.classes from to)
+    (seen_with_one c.args.name.now c.self.inside.spans c.add.new.self c.self.inside.classes.items (map parameter_class c.args.parameters) c.push_classes.new.classes.items c.len-from.result c.len-to.result
+    c.self.invariant.1 (rw c.self.view_is c.requires.other) c.in_ok-push_classes.ensures.classes from to)
     c.add.ensures.ok)
