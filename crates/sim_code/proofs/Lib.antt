@@ -1,12 +1,16 @@
 mod AboveBounds
 mod AddedEvents
+mod CountsOfLines
 mod Cuts
 mod Digits
 mod FirstLines
 mod FirstWords
+mod HeadsOfLines
 mod OpenBlocks
 mod OperandTests
 mod ReadingLines
+mod SaidByLines
+mod SlotsOfWords
 mod SortCounts
 pub mod CleanLines
 pub mod FirstFew

@@ -3,3 +3,4 @@ pub mod AboveOf
 pub mod Readings
 pub mod StatementGroups
 pub mod LineGroups
+pub mod OneWord

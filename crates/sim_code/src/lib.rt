@@ -23,6 +23,7 @@ mod parameter;
 mod place;
 mod reading;
 mod scenario;
+mod saying;
 mod slot;
 mod statement;
 mod variable_faults;

@@ -1,14 +1,18 @@
 //! A line with what it says.
-ghost use Rattle.std.specs.Prelude.{◌≡◌, codes};
+ghost use Rattle.std.specs.Prelude.{◌≡◌, OnOk};
+ghost use Rattle.sim_language.specs.Built.{is_built};
 ghost use Rattle.sim_language.specs.Lines.{is_empty};
 ghost use Rattle.sim_language.specs.OrderFaults.{is_header};
-ghost use Rattle.sim_language.specs.Sayings.{begins_with};
+ghost use Rattle.sim_language.specs.Sayings.{begins_with, line_of};
 ghost use Rattle.sim_language.specs.Said.{IsSaid};
 ghost use Rattle.sim_code.specs.LineOf.{slots_of, what_of};
 
+use crate::cutting::cut;
+use crate::heads::Heads;
+use crate::saying::{begins_with, say};
 use crate::slot::Slot;
 use crate::words::Words;
-use sim_language::Form;
+use sim_language::{Form, Section};
 use sim_types::FaultKind;
 use std::alloc::{AllocError, Global};
 use std::marker::Model;
@@ -48,7 +52,28 @@ impl<'t> Model for Line<'t> {
 impl<'t> Line<'t> {
     /// A line to be read.
     pub fn new(alloc: Global) -> Line<'t> {
-        unreachable!()
+        Line {
+            cut: &[],
+            what: What::Blank,
+            slots: Vec::new(alloc),
+        }
+    }
+
+    /// Reads a line of a text where it stands in this section below so many `poster` lines.
+    pub fn read(
+        &mut self,
+        line: &'t [u8],
+        heads: &Heads<'_>,
+        section: Section,
+        posters: u32,
+    ) -> Result<(), AllocError>
+        ensures { OnOk result (self.new ≡ line_of (record { built = is_built; heads = heads.now; section = section; posters = posters }) line.now) }
+    {
+        self.cut = cut(line);
+        self.what = What::Blank;
+        self.slots.clear();
+        self.what = say(&mut self.slots, heads, section, posters, self.cut)?;
+        Ok(())
     }
 
     /// What it says.
@@ -63,7 +88,10 @@ impl<'t> Line<'t> {
         ensures slots { result.now ≡ slots_of self.now.saying }
         ensures said { IsSaid self.now.saying }
     {
-        unreachable!()
+        match self.what {
+            What::Says(_) => &self.slots,
+            _ => &[],
+        }
     }
 
     /// Whether it has no words.
@@ -77,13 +105,19 @@ impl<'t> Line<'t> {
     pub fn begins_with(&self, word: &[u8]) -> bool
         ensures { result ≡ begins_with word.now self.now.words }
     {
-        unreachable!()
+        begins_with(&Words::new(self.cut), word)
     }
 
     /// Whether its words are `scenario 1`.
     pub fn is_header(&self) -> bool
         ensures { result ≡ is_header self.now.words }
     {
-        unreachable!()
+        let mut words = Words::new(self.cut);
+        match (words.next(), words.next()) {
+            (Some(first), Some(second)) => {
+                first == b"scenario".as_slice() && second == b"1".as_slice() && words.is_empty()
+            }
+            _ => false,
+        }
     }
 }

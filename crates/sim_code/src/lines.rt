@@ -2,8 +2,9 @@
 ghost use Rattle.std.specs.Prelude.{◌≡◌, ◌≤◌, [], ◌∷◌, false, IfOk, cond, length};
 ghost use Rattle.sim_language.specs.Built.{is_built};
 ghost use Rattle.sim_language.specs.Lines.{lines};
-ghost use Rattle.sim_language.specs.Sayings.{sayings};
+ghost use Rattle.sim_language.specs.Sayings.{section_behind, sayings};
 
+use crate::cutting::first_line;
 use crate::heads::Heads;
 use crate::line::Line;
 use sim_language::Section;
@@ -35,6 +36,7 @@ impl<'t, 'h> Model for Lines<'t, 'h> {
 
 impl<'t, 'h> Lines<'t, 'h> {
     /// The lines of a text with these process lines.
+    #[tactic(auto, using(crate::proofs::CountsOfLines::few_lines))]
     pub fn of_text(text: &'t [u8], heads: &'h Heads<'t>) -> Lines<'t, 'h>
         requires { length text.now ≤ 4194304 }
         ensures lines { result ≡ sayings is_built heads.now (lines text.now) }
@@ -65,6 +67,27 @@ impl<'t, 'h> Lines<'t, 'h> {
         ensures next { IfOk result (λ more. self.old ≡ cond more (line.new ∷ self.new) []) }
         ensures none { IfOk result (λ more. more ≡ false → self.new ≡ []) }
     {
-        unreachable!()
+        let Some((first, rest)) = first_line(self.rest) else {
+            return Ok(false);
+        };
+        line.read(first, self.heads, self.section, self.posters)?;
+        self.rest = rest;
+        self.section = section_behind(self.section, line);
+        if line.begins_with(b"poster") {
+            self.posters += 1;
+        }
+        Ok(true)
+    }
+}
+
+/// The section behind a line that stands in this one.
+fn section_behind(section: Section, line: &Line<'_>) -> Section
+    ensures { result ≡ section_behind line.now.words section }
+{
+    match section {
+        Section::InPosters => Section::InPosters,
+        _ if line.begins_with(b"poster") => Section::InPosters,
+        _ if line.begins_with(b"journal") => Section::InJournal,
+        section => section,
     }
 }
