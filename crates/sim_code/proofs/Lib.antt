@@ -1,0 +1,2 @@
+mod NamedPlaces
+mod VariablesSoFar
