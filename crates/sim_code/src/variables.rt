@@ -32,8 +32,8 @@ pub fn variables_of<'t>(
             if ends_process(deep, form) {
                 break;
             }
-            deep = deep_behind(deep, form);
             add_given(&mut variables, line.slots())?;
+            deep = deep_behind(deep, form);
         }
     }
     Ok(variables)

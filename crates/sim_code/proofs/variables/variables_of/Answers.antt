@@ -10,8 +10,8 @@ loop-line-init c = record {
   few = search rules;
 }
 
-pub loop-line-preserved-in-Continue-branch-3 : goal.loop-line-preserved-in-Continue-branch-3
-loop-line-preserved-in-Continue-branch-3 c = 
+pub loop-line-preserved-in-Says : goal.loop-line-preserved-in-Says
+loop-line-preserved-in-Says c = 
   let lines = rw c.if-branch.true at c.in_ok-next.ensures.next in
   let count = ap length lines in
   record {
