@@ -1,2 +1,3 @@
 mod NamedPlaces
 mod VariablesSoFar
+mod NamesGiven
