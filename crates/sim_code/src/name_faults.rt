@@ -5,7 +5,7 @@ ghost use Rattle.sim_language.specs.declared.form.Form.{Form};
 ghost use Rattle.sim_language.specs.Blocks.{first_word};
 ghost use Rattle.sim_language.specs.Forms.{same_sort};
 ghost use Rattle.sim_language.specs.Lines.{is_among};
-ghost use Rattle.sim_language.specs.NameFaults.{arguments_wrong, behind_first, declares_again, duplicate, gives_again, hides_event, is_one_number, miscounts, names_other, names_unknown, not_taken, port_wrong, repeats, repeats_parameter, starts_wrong, takes_get, takes_not, takes_put, takes_request, unknown_name, wrong_kind};
+ghost use Rattle.sim_language.specs.NameFaults.{arguments_wrong, behind_first, declares_again, duplicate, gives_again, hides_event, is_process_class, miscounts, names_other, names_unknown, not_taken, port_wrong, repeats, repeats_parameter, starts_wrong, takes_get, takes_not, takes_put, takes_request, unknown_name, wrong_kind};
 ghost use Rattle.sim_language.specs.Variables.{given_by};
 
 use crate::above::Above;
@@ -52,7 +52,9 @@ fn repeats(slots: &[Slot<'_>]) -> bool
 {
     let mut left = slots;
     while let [slot, rest @ ..] = left {
-        if let Some(given) = Given::by(slot) && gives(rest, given.name()) {
+        if let Some(given) = Given::by(slot)
+            && gives(rest, given.name())
+        {
             return true;
         }
         left = rest;
@@ -65,7 +67,9 @@ fn gives(slots: &[Slot<'_>], name: &[u8]) -> bool
     ensures { result ≡ is_among name.now (map (λ given. given.name) (given_by slots.now)) }
 {
     for slot in slots {
-        if let Some(given) = Given::by(slot) && given.name() == name {
+        if let Some(given) = Given::by(slot)
+            && given.name() == name
+        {
             return true;
         }
     }
@@ -172,11 +176,7 @@ fn not_taken(above: &Above<'_>, form: Form, slots: &[Slot<'_>]) -> bool
 }
 
 /// Whether the kind of the first operand does not take the others, where `takes` says how many a kind takes.
-fn takes_not<F: Fn(Form) -> Option<usize>>(
-    takes: F,
-    above: &Above<'_>,
-    slots: &[Slot<'_>],
-) -> bool
+fn takes_not<F: Fn(Form) -> Option<usize>>(takes: F, above: &Above<'_>, slots: &[Slot<'_>]) -> bool
     requires { F.IsAlwaysCallable takes }
     ensures { (t : Form → Option ℕ) → ((kind : Form) (words : Option ℕ) → F.post takes kind words → words ≡ t kind) → result ≡ takes_not t above.now slots.now }
 {
@@ -263,8 +263,21 @@ fn starts_wrong(heads: &Heads<'_>, slots: &[Slot<'_>]) -> bool
 {
     match slots {
         [] => false,
-        [process, ..] => heads.parameters(process.word()).iter().any(|class| matches!(class, Class::Proc)),
+        [process, ..] => has_process(heads.parameters(process.word())),
     }
+}
+
+/// Whether one of the parameters is a process.
+fn has_process(parameters: &[Class]) -> bool
+    ensures { result ≡ list_any is_process_class parameters.now }
+{
+    parameters.iter().any(|class| is_process_class(*class))
+}
+
+fn is_process_class(class: Class) -> bool
+    ensures { result ≡ is_process_class class }
+{
+    matches!(class, Class::Proc)
 }
 
 /// Whether a port's process has not exactly one parameter, a number.
