@@ -1,3 +1,2 @@
 mod NamedPlaces
 mod VariablesSoFar
-mod NamesGiven

@@ -1,6 +1,5 @@
 -- The variables of the lines so far, and of what is left.
-use Rattle.std.proofs.Common.{◌≡◌, refl, sym, ap, ◌∙◌, ℕ, zero, suc, ◌+◌, ◌≤◌, Bool, true, false, ◌||◌, cond, List, [], ◌∷◌, ◌++◌, length, add-one, arith}
-use Rattle.std.proofs.lemmas.Bool.{true≢false}
+use Rattle.std.proofs.Common.{◌≡◌, refl, sym, ℕ, zero, suc, ◌+◌, ◌≤◌, Bool, true, false, List, [], ◌∷◌, arith}
 use Rattle.sim_types.specs.declared.setup.Class.{Class}
 use Rattle.sim_language.specs.declared.form.Form.{Form}
 use Rattle.sim_language.specs.Named.{Named, with_all}
@@ -9,7 +8,6 @@ use Rattle.sim_language.specs.Shapes.{Slot}
 use Rattle.sim_language.specs.Sayings.{Line, Saying}
 use Rattle.sim_language.specs.Sayings as sayings
 use Rattle.sim_language.specs.Variables.{given_by, given_below, deep_behind, ends_process, variables_of}
-use Rattle.sim_code.specs.declared.line.What.{What}
 use Rattle.sim_code.specs.declared.line.What.TheVariants.{Blank, Wrong, Says}
 use Rattle.sim_code.specs.LineOf.{what_of, slots_of}
 use Rattle.sim_code.proofs.NamedPlaces.{with_all_append}

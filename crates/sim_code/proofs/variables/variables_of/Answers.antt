@@ -1,4 +1,4 @@
-use Rattle.std.proofs.Common.{sym, ap, ◌∙◌, cond, rules, arith, length, ◌≡◌, ◌+◌}
+use Rattle.std.proofs.Common.{sym, ap, ◌∙◌, rules, arith, length}
 use Rattle.sim_language.specs.Named.{with_all}
 use Rattle.sim_language.specs.Variables.{given_by}
 use Rattle.sim_code.proofs.VariablesSoFar.{variables_begin, variables_further, deep_few}
