@@ -6,12 +6,14 @@ mod Digits
 mod FirstLines
 mod FirstWords
 mod HeadsOfLines
+mod NamedPlaces
 mod OpenBlocks
 mod OperandTests
 mod ReadingLines
 mod SaidByLines
 mod SlotsOfWords
 mod SortCounts
+mod VariablesSoFar
 pub mod CleanLines
 pub mod FirstFew
 pub mod GivenVariables

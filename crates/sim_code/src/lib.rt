@@ -9,6 +9,7 @@ mod cutting;
 mod declared;
 mod draft;
 mod fault;
+mod given;
 mod heads;
 mod limit_faults;
 mod line;
