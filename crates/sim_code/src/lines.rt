@@ -91,3 +91,81 @@ fn section_behind(section: Section, line: &Line<'_>) -> Section
         section => section,
     }
 }
+
+#[cfg(test)]
+mod tests {
+    use super::*;
+    use crate::line::What;
+    use sim_language::{Form, Role, Sort};
+    use sim_types::FaultKind;
+    use std::test::Fail;
+
+    fn next_fault<'t>(
+        lines: &mut Lines<'t, '_>,
+        line: &mut Line<'t>,
+    ) -> Result<Option<FaultKind>, AllocError> {
+        lines.next(line)?;
+        Ok(match line.what() {
+            What::Wrong(kind) => Some(kind),
+            _ => None,
+        })
+    }
+
+    #[test]
+    fn lines_say_forms(rt: HostRuntime) -> Result<(), Fail> {
+        let text = b"scenario 1\n\t \nprocess car n done:event # two\r\nend\nstart car -5 free x";
+        let heads = Heads::of_text(rt.alloc(), text)?;
+        assert_eq!(rt; heads.parameters(b"car").len(), 2);
+        let mut lines = Lines::of_text(text, &heads);
+        let mut line = Line::new(rt.alloc());
+
+        assert!(rt; lines.next(&mut line)? && line.is_header());
+        assert!(rt; matches!(line.what(), What::Says(Form::Scenario)));
+        assert!(rt; lines.next(&mut line)? && matches!(line.what(), What::Blank));
+        assert!(rt; lines.next(&mut line)? && line.begins_with(b"process"));
+        assert!(rt; matches!(line.what(), What::Says(Form::Process)));
+        assert_eq!(rt; line.slots().len(), 3);
+        assert!(rt; lines.again().next(&mut line)? && matches!(line.what(), What::Says(Form::End)));
+        assert!(rt; lines.next(&mut line)? && line.slots().is_empty());
+        assert!(rt; lines.next(&mut line)? && matches!(line.what(), What::Says(Form::Start)));
+        let [name, number, event, free] = line.slots() else {
+            return Err("no four operands".into());
+        };
+        assert!(rt; name.word() == b"car".as_slice());
+        assert!(rt; matches!(name.role(), Role::Names(Sort::Process)));
+        assert!(rt; matches!(number.role(), Role::Within(..)));
+        assert!(rt; matches!(event.role(), Role::Names(Sort::Event)));
+        assert!(rt; matches!(free.role(), Role::Free));
+        assert!(rt; !lines.next(&mut line)?);
+        Ok(())
+    }
+
+    #[test]
+    fn lines_are_wrong(rt: HostRuntime) -> Result<(), Fail> {
+        let text = b"log 1x\nlog proc\nstart\nwalk\nlog \x01";
+        let heads = Heads::of_text(rt.alloc(), text)?;
+        let mut lines = Lines::of_text(text, &heads);
+        let mut line = Line::new(rt.alloc());
+        assert!(rt;
+            matches!(
+                next_fault(&mut lines, &mut line)?,
+                Some(FaultKind::BadNumber)
+            )
+        );
+        assert!(rt; matches!(next_fault(&mut lines, &mut line)?, Some(FaultKind::BadName)));
+        assert!(rt;
+            matches!(
+                next_fault(&mut lines, &mut line)?,
+                Some(FaultKind::BadShape)
+            )
+        );
+        assert!(rt;
+            matches!(
+                next_fault(&mut lines, &mut line)?,
+                Some(FaultKind::UnknownWord)
+            )
+        );
+        assert!(rt; matches!(next_fault(&mut lines, &mut line)?, Some(FaultKind::NotText)));
+        Ok(())
+    }
+}
