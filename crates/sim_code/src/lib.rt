@@ -5,6 +5,7 @@
 mod above;
 mod beginning;
 mod blocks;
+mod commands;
 mod cutting;
 mod declared;
 mod draft;
@@ -29,7 +30,10 @@ mod slot;
 mod statement;
 mod variable_faults;
 mod variables;
+mod word;
 mod words;
 
+pub use commands::command;
 pub use reading::{ReadError, read};
 pub use scenario::Scenario;
+pub use word::Word;
