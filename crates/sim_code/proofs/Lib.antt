@@ -1,5 +1,5 @@
 mod AboveBounds
-mod AddedEvents
+mod AddedParts
 mod CountsOfLines
 mod Cuts
 mod Digits

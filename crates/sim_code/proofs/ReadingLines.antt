@@ -1,21 +1,28 @@
 -- A text is read line by line.
-use Rattle.std.proofs.Common.{subst, ◌≡◌, refl, sym, ap, ◌∙◌, ℕ, suc, ◌+◌, ◌≤◌, List, [], ◌∷◌, length, Option, Some, None, Result, Ok, Err, arith}
+use Rattle.std.proofs.Common.{subst, ◌≡◌, refl, sym, ap, ◌∙◌, ℕ, suc, ◌+◌, ◌≤◌, List, [], ◌∷◌, length, Option, Some, None, Result, Ok, Err, true, false, ◌<◌, arith}
+use Rattle.std.specs.Prelude.{IsErrAnd, IsTrue, nat_lt}
+use Rattle.std.proofs.lemmas.Bool.Decides.{nat_tests}
+use Rattle.std.proofs.lemmas.Result.{err_from_is_err_and}
 use Rattle.sim_types.specs.Scenarios.{ScenarioOf}
 use Rattle.sim_types.specs.declared.fault.Fault.{Fault}
 use Rattle.sim_types.specs.declared.fault.FaultKind.{FaultKind}
+use Rattle.sim_types.specs.declared.fault.FaultKind.TheVariants as fault
 use Rattle.sim_types.specs.declared.setup.Class.{Class}
-use Rattle.sim_language.specs.Built.{is_built}
-use Rattle.sim_language.specs.Lines.{Word}
+use Rattle.sim_language.specs.Built.{is_built, is_built_scenario}
+use Rattle.sim_language.specs.Lines.{Word, lines}
 use Rattle.sim_language.specs.Named.{Named}
 use Rattle.sim_language.specs.Shapes.{Heads}
-use Rattle.sim_language.specs.Sayings.{Line, sayings}
+use Rattle.sim_language.specs.Sayings.{Line, heads_of, sayings}
 use Rattle.sim_language.specs.Variables.{variables_at, variables_then}
 use Rattle.sim_language.specs.Places.{Above, Place, above_of, places}
 use Rattle.sim_language.specs.Faults.{at_line, fault_at, fault_past, end_fault}
-use Rattle.sim_language.specs.Reads.{add_said, nothing_said, outcome, reads_text, unless_faulty}
+use Rattle.sim_language.specs.Reads.{add_said, nothing_said, outcome, reads, reads_text, unless_faulty}
+use Rattle.sim_language.specs.WellFormed.{is_well_formed}
 use Rattle.sim_code.specs.AboveOf.{IsBelow, above_behind}
-use Rattle.sim_code.specs.Readings.{IsReading, end_from, with_links}
-use Rattle.sim_code.proofs.AddedEvents.{events_added}
+use Rattle.sim_code.specs.declared.reading.ReadError.{ReadError}
+use Rattle.sim_code.specs.declared.reading.ReadError.TheVariants as error
+use Rattle.sim_code.specs.Readings.{Gives, GivesDraft, IsReading, end_from, with_links}
+use Rattle.sim_code.proofs.AddedParts.{OneMore, line_adds}
 use Rattle.sim_code.proofs.AboveBounds.{below_most}
 
 end-start : (ls : List Line) → end_from 1 [] ls ≡ end_fault ls
@@ -34,6 +41,7 @@ starts-with heads ls few = record {
   variables_are = refl;
   few = omega (arith, few);
   few_events = omega arith;
+  few_statements = omega arith;
   outcome_is = ap (outcome heads nothing_said (places 1 [] ls)) (end-start ls);
 }
 
@@ -90,14 +98,16 @@ module _ (heads : Heads) (answer : Result ScenarioOf Fault) (n : ℕ) (above : A
       let two : length (l ∷ below) ≡ length below + 1 = omega arith in
       let few : length r.before + length (l ∷ below) ≤ 4194304 = r.few in
       let events : draft.setup.events ≤ length r.before = r.few_events in
-      let added : later.setup.events ≤ draft.setup.events + 1 = subst (λ d. d.setup.events ≤ draft.setup.events + 1) (sym later_is) (events_added heads (place_of n above next l) l.saying draft) in
+      let statements : length draft.code ≤ length r.before = r.few_statements in
+      let added : OneMore draft later = subst (OneMore draft) (sym later_is) (line_adds heads (place_of n above next l) l.saying draft) in
       record {
         before = l ∷ r.before;
         above_is = behind_is ∙ ap (λ a. above_behind a l) r.above_is;
         number_is = omega (arith, number, one);
         variables_are = next_is ∙ ap (variables_then l.saying below) r.variables_are;
         few = omega (arith, few, one, two);
-        few_events = omega (arith, events, added, one);
+        few_events = omega (arith, events, added.events, one);
+        few_statements = omega (arith, statements, added.statements, one);
         outcome_is = goes-on-so later none later_is;
       }
 
@@ -115,5 +125,25 @@ module _ (heads : Heads) (answer : Result ScenarioOf Fault) (n : ℕ) (above : A
   pub reading_ends : fault_past above ≡ None → answer ≡ Ok (with_links draft)
   reading_ends past = sym r.outcome_is ∙ ends-with draft n (above_of r.before) None (ap fault_past (sym r.above_is) ∙ past)
 
+  pub reading_few : length draft.code ≤ 4194304
+  reading_few = omega (arith, r.few, r.few_statements)
+
   pub reading_ends_faulty : (kind : FaultKind) → fault_past above ≡ Some kind → answer ≡ Err (record { line = n; kind = kind })
   reading_ends_faulty kind past = sym r.outcome_is ∙ ends-with draft n (above_of r.before) (Some kind) (ap fault_past (sym r.above_is) ∙ past)
+
+-- ---- want of memory
+
+pub memory_says_nothing : (result : Result ScenarioOf ReadError) (read : Result ScenarioOf Fault) → IsErrAnd result (λ why. why ≡ error.Memory) → GivesDraft result read
+memory_says_nothing result read err = let why = err_from_is_err_and result err in rw (why.1, why.2) tt
+
+pub memory_says_nothing_of_it : (result : Result ScenarioOf ReadError) (read : Result ScenarioOf Fault) → IsErrAnd result (λ why. why ≡ error.Memory) → Gives result read
+memory_says_nothing_of_it result read err = let why = err_from_is_err_and result err in rw (why.1, why.2) tt
+
+-- ---- a whole text
+
+pub reads_is : (text : List ℕ) (heads : Heads) → length text ≤ 4194304 → heads ≡ heads_of (lines text) → reads is_built text ≡ reads_text is_built heads (lines text)
+reads_is text heads few heads_are = let short : nat_lt 4194304 (length text) ≡ false = grind (arith, nat_tests) in rw (short, heads_are) refl
+
+pub reads_long : (text : List ℕ) → 4194304 < length text → reads is_built text ≡ Err (record { line = 0; kind = fault.TooLong })
+reads_long text long = let passes : nat_lt 4194304 (length text) ≡ true = grind (arith, nat_tests) in rw passes refl
+

@@ -46,4 +46,5 @@ pub record IsReading (heads : Heads) (answer : Result ScenarioOf Fault) (number 
   pub variables_are : variables ≡ variables_at before lines
   pub few : length before + length lines ≤ 4194304
   pub few_events : draft.setup.events ≤ length before
+  pub few_statements : length draft.code ≤ length before
   pub outcome_is : outcome heads draft (places number before lines) (end_from number before lines) ≡ answer

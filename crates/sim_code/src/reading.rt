@@ -61,7 +61,8 @@ pub fn read(alloc: Global, text: &[u8]) -> Result<Scenario, ReadError>
 /// What the lines of the text say, with these process lines; the statements are yet to be linked.
 fn read_lines<'t>(alloc: Global, text: &'t [u8], heads: &Heads<'t>) -> Result<Draft, ReadError>
     requires { length text.now ≤ 4194304 }
-    ensures { GivesDraft result (reads_text is_built heads.now (lines text.now)) }
+    ensures gives { GivesDraft result (reads_text is_built heads.now (lines text.now)) }
+    ensures few { IfOk result (λ draft. length draft.code ≤ 4194304) }
 {
     let mut lines = Lines::of_text(text, heads);
     let mut line = Line::new(alloc);
