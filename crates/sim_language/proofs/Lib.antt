@@ -14,3 +14,6 @@ mod ProcessFirsts
 mod StandingCode
 mod LineForms
 pub mod ClosedTexts
+pub mod SaidByLines
+pub mod SaidTexts
+pub mod BuiltTexts
