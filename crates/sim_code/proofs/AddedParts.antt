@@ -12,7 +12,7 @@ use Rattle.sim_language.specs.Reads.{add, add_said, with_statement}
 use Rattle.sim_language.specs.Statements.{statement}
 
 -- no more events and no more statements than one
-record OneMore (s t : ScenarioOf) : Type 0 where
+pub record OneMore (s t : ScenarioOf) : Type 0 where
   pub events : t.setup.events ≤ s.setup.events + 1
   pub statements : length t.code ≤ length s.code + 1
 

@@ -10,7 +10,6 @@ mod NamedPlaces
 mod OpenBlocks
 mod OperandTests
 mod ReadingLines
-mod SaidByLines
 mod SlotsOfWords
 mod SortCounts
 mod VariablesSoFar

@@ -116,6 +116,10 @@ pub reading_below : (heads : Heads) (answer : Result ScenarioOf Fault) (n : ℕ)
     → IsReading heads answer n above variables draft lines → IsBelow 4194304 above
 reading_below heads answer n above variables draft lines r = rw r.above_is (below_most 4194304 r.before (omega (arith, r.few)))
 
+pub reading_few : (heads : Heads) (answer : Result ScenarioOf Fault) (n : ℕ) (above : Above) (variables : List (Named Class)) (draft : ScenarioOf) (lines : List Line)
+    → IsReading heads answer n above variables draft lines → length draft.code ≤ 4194304
+reading_few heads answer n above variables draft lines r = omega (arith, r.few, r.few_statements)
+
 -- ---- behind the last line
 
 ends-with : (draft : ScenarioOf) (n : ℕ) (above : Above) → (past : Option FaultKind) → fault_past above ≡ past → unless_faulty (at_line (n + 0) (fault_past above)) draft ≡ unless_faulty (at_line n past) draft
@@ -124,9 +128,6 @@ ends-with draft n above past is = let same : n + 0 ≡ n = omega arith in rw (sa
 module _ (heads : Heads) (answer : Result ScenarioOf Fault) (n : ℕ) (above : Above) (variables : List (Named Class)) (draft : ScenarioOf) (r : IsReading heads answer n above variables draft []) where
   pub reading_ends : fault_past above ≡ None → answer ≡ Ok (with_links draft)
   reading_ends past = sym r.outcome_is ∙ ends-with draft n (above_of r.before) None (ap fault_past (sym r.above_is) ∙ past)
-
-  pub reading_few : length draft.code ≤ 4194304
-  reading_few = omega (arith, r.few, r.few_statements)
 
   pub reading_ends_faulty : (kind : FaultKind) → fault_past above ≡ Some kind → answer ≡ Err (record { line = n; kind = kind })
   reading_ends_faulty kind past = sym r.outcome_is ∙ ends-with draft n (above_of r.before) (Some kind) (ap fault_past (sym r.above_is) ∙ past)

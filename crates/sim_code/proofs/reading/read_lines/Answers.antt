@@ -4,7 +4,7 @@ use Rattle.sim_language.specs.Lines.{lines}
 use Rattle.sim_language.specs.Faults.{fault_at}
 use Rattle.sim_language.specs.Reads.{add_said, reads_text}
 use Rattle.sim_code.specs.Readings.{IsReading}
-use Rattle.sim_code.proofs.ReadingLines.{memory_says_nothing, place_of, reading_starts, reading_below, reading_goes_on}
+use Rattle.sim_code.proofs.ReadingLines.{memory_says_nothing, place_of, reading_starts, reading_below, reading_few, reading_goes_on}
 use Rattle.sim_code.proofs.reading.read_lines.Goals as goal
 
 pub loop-draft-init : goal.loop-draft-init
@@ -15,8 +15,8 @@ loop-draft-init c = record {
 pub pass-requires : goal.pass-requires
 pass-requires c = reading_below _ _ _ _ _ _ _ c.loop-draft.invariant.reading
 
-pub returns-in_err-pass : goal.returns-in_err-pass
-returns-in_err-pass c = memory_says_nothing c.from_residual-in_err-pass.result (reads_text is_built c.args.heads.now (lines c.args.text.now)) c.from_residual-in_err-pass.ensures.1
+pub returns-in_err-pass-clause-gives : goal.returns-in_err-pass-clause-gives
+returns-in_err-pass-clause-gives c = memory_says_nothing c.from_residual-in_err-pass.result (reads_text is_built c.args.heads.now (lines c.args.text.now)) c.from_residual-in_err-pass.ensures.1
 
 pub loop-draft-preserved : goal.loop-draft-preserved
 loop-draft-preserved c =
@@ -31,4 +31,4 @@ loop-draft-preserved c =
           c.in_ok-pass.ensures }
 
 pub returns-clause-few : goal.returns-clause-few
-returns-clause-few c = ?
+returns-clause-few c = reading_few _ _ _ _ _ _ _ c.loop-draft.invariant.reading

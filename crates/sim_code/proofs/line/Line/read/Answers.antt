@@ -2,7 +2,7 @@ use Rattle.std.proofs.Common.{sym, subst}
 use Rattle.sim_language.specs.Built.{is_built}
 use Rattle.sim_language.specs.Lines.{words}
 use Rattle.sim_language.specs.Said.{IsSaid}
-use Rattle.sim_code.proofs.SaidByLines.{saying_is_said}
+use Rattle.sim_language.proofs.SaidByLines.{saying_is_said}
 use Rattle.sim_code.proofs.line.Line.read.Goals as goal
 
 pub invariant_of-self-2 : goal.invariant_of-self-2
