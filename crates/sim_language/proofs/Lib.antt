@@ -5,3 +5,7 @@ mod RefusedTexts
 mod ScenariosRead
 pub mod Walking
 mod WellFormedScenarios
+pub mod Faultless
+pub mod ByShape
+pub mod Additions
+pub mod AdditionsByForm
