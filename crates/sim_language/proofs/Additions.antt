@@ -1,7 +1,7 @@
 -- What a line adds to a scenario, by what it is.
 --     added heads place form slots      what a line of this form and these operands adds
 --     add_added                         so it is
-use Rattle.std.specs.Prelude.{◌≡◌, refl, ℕ, ◌+◌, Bool, true, false, List, [], ◌∷◌, ◌++◌, map, take, ℤ, pos, ◌^◌, Option, Some, None}
+use Rattle.std.specs.Prelude.{◌≡◌, refl, ℕ, ◌+◌, List, [], ◌∷◌, ◌++◌, map, take, ℤ, pos, ◌^◌, Option, Some, None}
 use Rattle.sim_types.specs.Scenarios.{ScenarioOf}
 use Rattle.sim_types.specs.declared.script.Kind.{Kind}
 use Rattle.sim_types.specs.declared.script.Stmt.{Stmt}
@@ -12,8 +12,6 @@ use Rattle.sim_types.specs.declared.setup.Arrival.{Arrival}
 use Rattle.sim_types.specs.declared.setup.Post.{Post}
 use Rattle.sim_language.specs.declared.form.Form.{Form}
 use Rattle.sim_language.specs.declared.form.Form.TheVariants as form
-use Rattle.sim_language.specs.declared.form.Sort.{Sort}
-use Rattle.sim_language.specs.declared.form.Sort.TheVariants as sort
 use Rattle.sim_language.specs.Lines.{Word}
 use Rattle.sim_language.specs.Shapes.{Slot, Heads}
 use Rattle.sim_language.specs.Places.{Place}

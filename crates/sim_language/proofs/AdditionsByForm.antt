@@ -1,6 +1,6 @@
 -- The form of a line tells what kind of thing it adds.
 --     told      so it is for operands that have the shape of the form
-use Rattle.std.specs.Prelude.{◌≡◌, refl, Bool, true, false, List, [], Option, Some, None}
+use Rattle.std.specs.Prelude.{◌≡◌, refl, Bool, true, false, [], Option, Some, None}
 use Rattle.sim_types.specs.declared.setup.ResourceKind.{ResourceKind}
 use Rattle.sim_types.specs.declared.setup.ResourceKind.TheVariants as resource
 use Rattle.sim_language.specs.declared.form.Form.{Form}
@@ -8,10 +8,10 @@ use Rattle.sim_language.specs.declared.form.Form.TheVariants as form
 use Rattle.sim_language.specs.declared.form.Sort.{Sort}
 use Rattle.sim_language.specs.declared.form.Sort.TheVariants as sort
 use Rattle.sim_language.specs.Forms.{declares_sort, is_statement}
-use Rattle.sim_language.specs.Shapes.{Slot, Heads, Context, shape}
+use Rattle.sim_language.specs.Shapes.{Heads, Context, shape}
 use Rattle.sim_language.specs.Places.{Place, is_entry, is_poster}
 use Rattle.sim_language.proofs.ByShape.{Rule}
-use Rattle.sim_language.proofs.Additions.{Added, Nothing, TheUntil, TheSeed, AResource, AnEvent, APort, AKind, AStart, AStatement, AnArrival, APoster, APost, added}
+use Rattle.sim_language.proofs.Additions.{Added, AResource, AnEvent, APort, AKind, AStart, AStatement, AnArrival, APoster, APost, added}
 
 -- what is declared by what is added
 abbrev pub sort_added : Added → Option Sort

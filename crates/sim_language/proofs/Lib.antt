@@ -9,3 +9,5 @@ pub mod Faultless
 pub mod ByShape
 pub mod Additions
 pub mod AdditionsByForm
+pub mod CleanLines
+pub mod LineByLine
