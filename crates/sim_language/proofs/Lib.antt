@@ -11,3 +11,5 @@ pub mod Additions
 pub mod AdditionsByForm
 pub mod CleanLines
 pub mod LineByLine
+pub mod Literals
+pub mod FittingAdditions
