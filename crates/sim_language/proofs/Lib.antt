@@ -13,3 +13,5 @@ pub mod CleanLines
 pub mod LineByLine
 pub mod Literals
 pub mod FittingAdditions
+pub mod NamedLists
+pub mod DeclaredNames
