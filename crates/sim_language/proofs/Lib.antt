@@ -15,3 +15,4 @@ pub mod Literals
 pub mod FittingAdditions
 pub mod NamedLists
 pub mod DeclaredNames
+pub mod FittingSetup
