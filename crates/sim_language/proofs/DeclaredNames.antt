@@ -115,7 +115,7 @@ last_kind : (rs : List Resource) (r : Resource) → option_map (λ q. q.kind) (s
 last_kind [] r = refl
 last_kind (q ∷ rs) r = last_kind rs r
 
-kind_put : (a : Added) (s : ScenarioOf) (i : ℕ) (k : ResourceKind) → option_map (λ q. q.kind) (slice_get s.setup.resources i) ≡ Some k → option_map (λ q. q.kind) (slice_get (put_in a s).setup.resources i) ≡ Some k
+pub kind_put : (a : Added) (s : ScenarioOf) (i : ℕ) (k : ResourceKind) → option_map (λ q. q.kind) (slice_get s.setup.resources i) ≡ Some k → option_map (λ q. q.kind) (slice_get (put_in a s).setup.resources i) ≡ Some k
 kind_put (AResource kind c o) s i k h = kept_kind s.setup.resources _ i k h
 kind_put a s i k h = h
 

@@ -16,3 +16,5 @@ pub mod FittingAdditions
 pub mod NamedLists
 pub mod DeclaredNames
 pub mod FittingSetup
+pub mod GoodNames
+pub mod GrowingScenarios
