@@ -18,3 +18,4 @@ pub mod DeclaredNames
 pub mod FittingSetup
 pub mod GoodNames
 pub mod GrowingScenarios
+pub mod EntriesByForm
