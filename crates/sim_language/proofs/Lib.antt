@@ -19,3 +19,4 @@ pub mod FittingSetup
 pub mod GoodNames
 pub mod GrowingScenarios
 pub mod EntriesByForm
+pub mod FittingEntries
