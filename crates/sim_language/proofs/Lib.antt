@@ -20,3 +20,4 @@ pub mod GoodNames
 pub mod GrowingScenarios
 pub mod EntriesByForm
 pub mod FittingEntries
+pub mod NamesApart
