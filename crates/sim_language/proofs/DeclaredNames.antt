@@ -26,7 +26,7 @@ use Rattle.sim_language.specs.NameFaults.{declares_again}
 use Rattle.sim_language.specs.LimitFaults.{most_of, sort_is_full}
 use Rattle.sim_language.specs.Reads.{nothing_said}
 use Rattle.sim_language.proofs.ByShape.{Rule, rule_all}
-use Rattle.sim_language.proofs.NamedLists.{value_of_push, with_one_new}
+use Rattle.sim_language.proofs.NamedLists.{value_of_kept, value_of_push, with_one_new}
 use Rattle.sim_language.proofs.Additions.{Added, AResource, AnEvent, APort, AKind, put_in}
 use Rattle.sim_language.proofs.AdditionsByForm.{sort_added, resource_kind, Told}
 
@@ -80,6 +80,20 @@ grown context above form.Event = λ n again. one_grown form.Event sort.Event abo
 grown context above form.Port = λ n p again. one_grown form.Port sort.Port above.declared n _ again
 grown context above form.Process = λ n ws again. one_grown form.Process sort.Process above.declared n _ again
 grown context above f = rule_all context [] (shape f) (λ slots. list_any (declares_again above) slots ≡ false → Grown f (declares_sort f) above.declared (with_declared above.declared f (declares_sort f) slots)) (λ slots again. refl)
+
+-- what is declared keeps its meaning
+pub grown_kept : (f : Form) (o : Option Sort) (ds es : List (Named Meaning)) (w : Word) (d : Meaning) → Grown f o ds es → value_of w ds ≡ Some d → value_of w es ≡ Some d
+grown_kept f None ds es w d more h = subst (λ fs. value_of w fs ≡ Some d) (sym more) h
+grown_kept f (Some o) ds es w d more h = subst (λ fs. value_of w fs ≡ Some d) (sym more.2) (value_of_kept w ds _ d h)
+
+-- what is declared was so above, or is so by the line
+pub grown_cases : (f : Form) (o : Option Sort) (ds es : List (Named Meaning)) (w : Word) (d : Meaning) → Grown f o ds es → value_of w es ≡ Some d → (value_of w ds ≡ Some d) ⊎ (f ≡ d.form)
+grown_cases f None ds es w d more h = inl (subst (λ fs. value_of w fs ≡ Some d) more h)
+grown_cases f (Some o) ds es w d more h = by (value_of_push w ds _ d (subst (λ fs. value_of w fs ≡ Some d) more.2 h))
+  where
+    by : (value_of w ds ≡ Some d) ⊎ ((same w more.0 ≡ true) × (record { form = f; number = count_of o ds } ≡ d)) → (value_of w ds ≡ Some d) ⊎ (f ≡ d.form)
+    by (inl old) = inl old
+    by (inr new) = inr (ap (λ c. c.form) new.1)
 
 -- ---- the names and the scenario
 

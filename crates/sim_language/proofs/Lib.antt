@@ -21,3 +21,4 @@ pub mod GrowingScenarios
 pub mod EntriesByForm
 pub mod FittingEntries
 pub mod NamesApart
+pub mod ProcessHeads

@@ -1,7 +1,7 @@
 -- Lists of things with names, as they grow.
 use Rattle.std.specs.Prelude.{◌≡◌, refl, Bool, true, false, if◌then◌else◌, List, [], ◌∷◌, ◌++◌, Option, Some, None, is_some}
-use Rattle.std.proofs.Common.{sym, ◌∙◌, ◌⊎◌, inl, inr}
-use Rattle.std.proofs.lemmas.Bool.{true≢false}
+use Rattle.std.proofs.Common.{sym, ap, ◌∙◌, ◌⊎◌, inl, inr}
+use Rattle.std.proofs.lemmas.Bool.{true≢false, false≢true}
 use Rattle.std.proofs.lemmas.Option.{none-some, same_Some}
 use Rattle.std.proofs.lemmas.Slice.Eq.{bytes_eq-Decides}
 use Rattle.sim_language.specs.Lines.{Word, same}
@@ -52,3 +52,30 @@ value_of_push w ns n v h = by (value_of w ns) refl
 
 pub with_one_new : {A : Type 0} (ns : List (Named A)) (n : Named A) → is_named n.name ns ≡ false → with_one ns n ≡ ns ++ n ∷ []
 with_one_new ns n h = rw h refl
+
+-- ---- whether a name is there
+
+some_is : {A : Type 0} (o : Option A) → is_some o ≡ true → (v : A) × (o ≡ Some v)
+some_is None h = absurd (false≢true h)
+some_is (Some v) h = (v, refl)
+
+pub named_value : {A : Type 0} (w : Word) (ns : List (Named A)) → is_named w ns ≡ true → (v : A) × (value_of w ns ≡ Some v)
+named_value w ns h = some_is (value_of w ns) h
+
+pub named_kept : {A : Type 0} (w : Word) (ns ms : List (Named A)) → is_named w ns ≡ true → is_named w (ns ++ ms) ≡ true
+named_kept w ns ms h = let found = named_value w ns h in ap is_some (value_of_kept w ns ms found.0 found.1)
+
+pub named_last : {A : Type 0} (w : Word) (ns : List (Named A)) (n : Named A) → same w n.name ≡ true → is_named w (ns ++ n ∷ []) ≡ true
+named_last w [] n h = rw h refl
+named_last w (m ∷ ns) n h = by (same w m.name) (named_last w ns n h)
+  where
+    by : (b : Bool) → is_some (value_of w (ns ++ n ∷ [])) ≡ true → is_some (if b then Some m.value else value_of w (ns ++ n ∷ [])) ≡ true
+    by true rest = refl
+    by false rest = rest
+
+pub named_push : {A : Type 0} (w : Word) (ns : List (Named A)) (n : Named A) → is_named w (ns ++ n ∷ []) ≡ true → (is_named w ns ≡ true) ⊎ (same w n.name ≡ true)
+named_push w ns n h = by (value_of_push w ns n (named_value w (ns ++ n ∷ []) h).0 (named_value w (ns ++ n ∷ []) h).1)
+  where
+    by : (value_of w ns ≡ Some (named_value w (ns ++ n ∷ []) h).0) ⊎ ((same w n.name ≡ true) × (n.value ≡ (named_value w (ns ++ n ∷ []) h).0)) → (is_named w ns ≡ true) ⊎ (same w n.name ≡ true)
+    by (inl old) = inl (ap is_some old)
+    by (inr new) = inr new.0
