@@ -5,7 +5,7 @@ use Rattle.std.specs.List.{list_any, AllByRecursion}
 use Rattle.std.proofs.lemmas.Bool.{or_parts}
 use Rattle.sim_language.specs.declared.form.Form.{Form}
 use Rattle.sim_language.specs.Forms.{declares_sort}
-use Rattle.sim_language.specs.Shapes.{Slot, Heads}
+use Rattle.sim_language.specs.Shapes.{Slot, Heads, shape}
 use Rattle.sim_language.specs.Sayings.{is_bad_number, is_bad_name}
 use Rattle.sim_language.specs.Said.{Fits}
 use Rattle.sim_language.specs.Places.{Place}
@@ -14,6 +14,7 @@ use Rattle.sim_language.specs.OrderFaults.{misplaced, bad_order}
 use Rattle.sim_language.specs.LimitFaults.{sort_is_full, form_is_full, gives_too_many}
 use Rattle.sim_language.specs.VariableFaults.{is_variable, clashes, is_unset}
 use Rattle.sim_language.proofs.Faultless.{Faultless}
+use Rattle.sim_language.proofs.ByShape.{Rule, by_shape}
 
 -- none of a list passes the test
 pub none_of : {X : Type 0} (test : X → Bool) (xs : List X) → list_any test xs ≡ false → AllByRecursion (λ x. test x ≡ false) xs
@@ -88,3 +89,7 @@ clean_line heads place f slots fits none =
       variables = m.1;
       order = none.order;
     }
+
+-- what holds by the rule of the form holds of the line's operands
+pub of_shape : (heads : Heads) (place : Place) (f : Form) (slots : List Slot) (clean : CleanLine heads place f slots) (P : List Slot → Type 0) → Rule clean.fits.fits.context [] (shape f) P → P slots
+of_shape heads place f slots clean P rule = by_shape clean.fits.fits.context [] (shape f) clean.fits.fits.words slots P clean.fits.fits.shape rule

@@ -1,13 +1,14 @@
 -- The setup and the kinds of a faultless text fit, as far as they fit by themselves.
 --     Alone n s                    so it is for the scenario s that the lines in front of line n say
 --     alone_nothing, alone_line    at the start, and behind each line
-use Rattle.std.specs.Prelude.{◌≡◌, refl, ℕ, ◌+◌, ◌≤◌, ◌<◌, ◌^◌, Bool, true, false, nat_lt, List, [], ◌∷◌, ◌++◌, length}
+use Rattle.std.specs.Prelude.{◌≡◌, refl, ℕ, ◌+◌, ◌≤◌, ◌<◌, ◌^◌, Bool, true, false, ◌&&◌, ◌==◌, nat_le, nat_lt, List, [], ◌∷◌, ◌++◌, length}
 use Rattle.std.specs.List.{list_all}
 use Rattle.std.proofs.Common.{arith}
-use Rattle.std.proofs.lemmas.Bool.{ltb-false}
+use Rattle.std.proofs.lemmas.Bool.{ltb-false, leb-true, and_parts}
 use Rattle.std.proofs.lemmas.List.{length_push}
 use Rattle.std.proofs.lemmas.List.Folds.{list_all-append}
 use Rattle.sim_types.specs.Scenarios.{ScenarioOf}
+use Rattle.sim_types.specs.declared.script.Kind.{Kind}
 use Rattle.sim_language.specs.Names.{is_spelled}
 use Rattle.sim_language.specs.Reads.{nothing_said}
 use Rattle.sim_language.specs.WellFormed.{until_fits, resource_fits, kind_fits}
@@ -77,3 +78,10 @@ alone_line n a s low fits h =
       starts = omega arith;
       few = omega arith;
     }
+
+-- a kind that fits has no more than 8 parameters
+pub kind_params : (k : Kind) → kind_fits k ≡ true → k.params ≤ 8
+kind_params k h = by (and_parts (nat_le k.params 8 && (length k.classes == 64)) _ h)
+  where
+    by : {b : Bool} → ((nat_le k.params 8 && (length k.classes == 64)) ≡ true) × (b ≡ true) → k.params ≤ 8
+    by parts = leb-true k.params 8 (and_parts (nat_le k.params 8) (length k.classes == 64) parts.0).0

@@ -22,3 +22,4 @@ pub mod EntriesByForm
 pub mod FittingEntries
 pub mod NamesApart
 pub mod ProcessHeads
+pub mod LinesSoFar
