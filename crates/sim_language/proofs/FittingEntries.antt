@@ -85,7 +85,7 @@ poster_push s n post posts one fits =
     let few = leb-true (length posts) n parts.0 in
     and_from _ _ (le-leb (length (posts ++ post ∷ [])) (n + 1) (omega (arith, length_push posts post))) (list_all_push (post_fits s) posts post parts.1 one)
 
-more_posts : (s : ScenarioOf) (n m : ℕ) (posters : List (List Post)) → n ≤ m → list_all (poster_fits s n) posters ≡ true → list_all (poster_fits s m) posters ≡ true
+pub more_posts : (s : ScenarioOf) (n m : ℕ) (posters : List (List Post)) → n ≤ m → list_all (poster_fits s n) posters ≡ true → list_all (poster_fits s m) posters ≡ true
 more_posts s n m [] h all = refl
 more_posts s n m (posts ∷ posters) h all = let parts = and_parts (poster_fits s n posts) (list_all (poster_fits s n) posters) all in and_from _ _ (poster_more s n m posts h parts.0) (more_posts s n m posters h parts.1)
 

@@ -23,3 +23,4 @@ pub mod FittingEntries
 pub mod NamesApart
 pub mod ProcessHeads
 pub mod LinesSoFar
+pub mod FittingTexts
