@@ -24,3 +24,4 @@ pub mod NamesApart
 pub mod ProcessHeads
 pub mod LinesSoFar
 pub mod FittingTexts
+pub mod KindsOfHeads

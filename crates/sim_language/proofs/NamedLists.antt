@@ -1,11 +1,11 @@
 -- Lists of things with names, as they grow.
-use Rattle.std.specs.Prelude.{◌≡◌, refl, Bool, true, false, if◌then◌else◌, List, [], ◌∷◌, ◌++◌, Option, Some, None, is_some}
+use Rattle.std.specs.Prelude.{◌≡◌, refl, ℕ, suc, Bool, true, false, if◌then◌else◌, List, [], ◌∷◌, ◌++◌, Option, Some, None, is_some, option_map, map, slice_get}
 use Rattle.std.proofs.Common.{sym, ap, ◌∙◌, ◌⊎◌, inl, inr}
 use Rattle.std.proofs.lemmas.Bool.{true≢false, false≢true}
 use Rattle.std.proofs.lemmas.Option.{none-some, same_Some}
 use Rattle.std.proofs.lemmas.Slice.Eq.{bytes_eq-Decides}
 use Rattle.sim_language.specs.Lines.{Word, same}
-use Rattle.sim_language.specs.Named.{Named, value_of, is_named, with_one}
+use Rattle.sim_language.specs.Named.{Named, value_of, is_named, place_of, with_one}
 
 pub same_self : (w : Word) → same w w ≡ true
 same_self w = (bytes_eq-Decides w w).1 refl
@@ -79,3 +79,14 @@ named_push w ns n h = by (value_of_push w ns n (named_value w (ns ++ n ∷ []) h
     by : (value_of w ns ≡ Some (named_value w (ns ++ n ∷ []) h).0) ⊎ ((same w n.name ≡ true) × (n.value ≡ (named_value w (ns ++ n ∷ []) h).0)) → (is_named w ns ≡ true) ⊎ (same w n.name ≡ true)
     by (inl old) = inl (ap is_some old)
     by (inr new) = inr new.0
+
+-- ---- places
+
+-- what has a name stands at its place
+pub place_value : {A : Type 0} (w : Word) (ns : List (Named A)) (v : A) → value_of w ns ≡ Some v → (i : ℕ) × (place_of w ns ≡ Some i) × (slice_get (map (λ n. n.value) ns) i ≡ Some v)
+place_value w [] v h = absurd (none-some v h)
+place_value w (n ∷ ns) v h = by (same w n.name) refl h (place_value w ns v)
+  where
+    by : (b : Bool) → same w n.name ≡ b → (if b then Some n.value else value_of w ns) ≡ Some v → (value_of w ns ≡ Some v → (i : ℕ) × (place_of w ns ≡ Some i) × (slice_get (map (λ m. m.value) ns) i ≡ Some v)) → (i : ℕ) × ((if b then Some 0 else option_map suc (place_of w ns)) ≡ Some i) × (slice_get (map (λ m. m.value) (n ∷ ns)) i ≡ Some v)
+    by true e some rest = (0, refl, some)
+    by false e some rest = let found = rest some in (suc found.0, ap (option_map suc) found.1, found.2)
