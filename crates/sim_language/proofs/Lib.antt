@@ -25,3 +25,4 @@ pub mod ProcessHeads
 pub mod LinesSoFar
 pub mod FittingTexts
 pub mod KindsOfHeads
+pub mod FittingCalls
