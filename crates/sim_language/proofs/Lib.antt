@@ -26,3 +26,4 @@ pub mod LinesSoFar
 pub mod FittingTexts
 pub mod KindsOfHeads
 pub mod FittingCalls
+pub mod ProcessVariables
