@@ -2,7 +2,7 @@
 --     HeadsOf heads ls        the process lines of the text are these
 --     KindsFit heads t        each name of a process is that of a kind with the classes of its parameters
 --     kinds_of_heads          so it is for a faultless text
-use Rattle.std.specs.Prelude.{◌≡◌, refl, ℕ, zero, suc, ◌≤◌, Bool, true, false, if◌then◌else◌, List, [], ◌∷◌, ◌++◌, map, length, drop, codes, Some, option_map, unwrap_or, slice_get}
+use Rattle.std.specs.Prelude.{◌≡◌, refl, ℕ, zero, suc, ◌≤◌, Bool, true, false, if◌then◌else◌, List, [], ◌∷◌, map, length, drop, codes, Some, option_map, unwrap_or, slice_get}
 use Rattle.std.specs.List.{list_all, AllByRecursion}
 use Rattle.std.proofs.Common.{arith, sym, ap, ◌∙◌, subst}
 use Rattle.std.proofs.lemmas.Bool.{and_parts, and_from}
@@ -23,7 +23,7 @@ use Rattle.sim_language.specs.FittingStatements.{parameter_classes, classes_at}
 use Rattle.sim_language.specs.WellFormed.{kind_fits}
 use Rattle.sim_language.proofs.Walking.{passed}
 use Rattle.sim_language.proofs.FittingSetup.{kind_params}
-use Rattle.sim_language.proofs.NamesApart.{with_all_apart, Apart}
+use Rattle.sim_language.proofs.NamesApart.{all_append, with_all_apart, Apart}
 use Rattle.sim_language.proofs.NamedLists.{place_value}
 use Rattle.sim_language.proofs.ProcessHeads.{ProcessHeads, head_said, heads_said, heads_passed}
 
@@ -56,10 +56,6 @@ plain_class w = by (same (class_part w) (codes ":event")) (same (class_part w) (
 plain_classes : (params : List Slot) → list_all is_parameter_class (map (λ p. parameter_class p.word) params) ≡ true
 plain_classes [] = refl
 plain_classes (p ∷ params) = and_from _ _ (plain_class p.word) (plain_classes params)
-
-all_append : {X : Type 0} (P : X → Type 0) (xs ys : List X) → AllByRecursion P xs → AllByRecursion P ys → AllByRecursion P (xs ++ ys)
-all_append P [] ys all more = more
-all_append P (x ∷ xs) ys all more = (all.0, all_append P xs ys all.1 more)
 
 plain_head : (saying : Saying) → AllByRecursion (λ h. list_all is_parameter_class h.value ≡ true) (head_said saying)
 plain_head (Says form.Process (name ∷ params)) = (plain_classes params, tt)

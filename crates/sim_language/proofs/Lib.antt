@@ -27,3 +27,4 @@ pub mod FittingTexts
 pub mod KindsOfHeads
 pub mod FittingCalls
 pub mod ProcessVariables
+pub mod FittingOperands

@@ -69,6 +69,10 @@ pub all_push : {X : Type 0} (P : X → Type 0) (xs : List X) (x : X) → AllByRe
 all_push P [] x all one = (one, tt)
 all_push P (y ∷ xs) x all one = (all.0, all_push P xs x all.1 one)
 
+pub all_append : {X : Type 0} (P : X → Type 0) (xs ys : List X) → AllByRecursion P xs → AllByRecursion P ys → AllByRecursion P (xs ++ ys)
+all_append P [] ys all more = more
+all_append P (x ∷ xs) ys all more = (all.0, all_append P xs ys all.1 more)
+
 pub all_weaker : {X : Type 0} (P Q : X → Type 0) (xs : List X) → ((x : X) → P x → Q x) → AllByRecursion P xs → AllByRecursion Q xs
 all_weaker P Q [] each all = tt
 all_weaker P Q (x ∷ xs) each all = (each x all.0, all_weaker P Q xs each all.1)

@@ -30,7 +30,7 @@ use Rattle.sim_language.proofs.CleanLines.{CleanLine, FitsAmong, none_of}
 use Rattle.sim_language.proofs.LineByLine.{line, AllAmong, Among, first_clean, others_clean}
 use Rattle.sim_language.proofs.DeclaredNames.{Grown, grown_kept, grown_cases}
 use Rattle.sim_language.proofs.NamedLists.{same_self, same_is}
-use Rattle.sim_language.proofs.NamesApart.{Apart, fresh, fresh_apart, fresh_all, with_all_fresh, all_weaker}
+use Rattle.sim_language.proofs.NamesApart.{all_append, Apart, fresh, fresh_apart, fresh_all, with_all_fresh, all_weaker}
 use Rattle.sim_language.proofs.LinesSoFar.{grown_line}
 
 pub record VariablesFit (vs : List (Named Class)) (ds : List (Named Meaning)) : Type 0 where
@@ -96,10 +96,6 @@ GoodName vs ds v = (variable_number vs v.name < 64) × (is_event ds v.name ≡ f
 line_good : (ds : List (Named Meaning)) (vs given : List (Named Class)) → AllByRecursion (λ v. nat_le 64 (variable_number vs v.name) ≡ false) given → AllByRecursion (λ v. is_event ds v.name ≡ false) given → AllByRecursion (GoodName vs ds) given
 line_good ds vs [] numbers events = tt
 line_good ds vs (v ∷ given) numbers events = ((leb-false 64 (variable_number vs v.name) numbers.0, events.0), line_good ds vs given numbers.1 events.1)
-
-pub all_append : {X : Type 0} (P : X → Type 0) (xs ys : List X) → AllByRecursion P xs → AllByRecursion P ys → AllByRecursion P (xs ++ ys)
-all_append P [] ys all more = more
-all_append P (x ∷ xs) ys all more = (all.0, all_append P xs ys all.1 more)
 
 goes_on : (deep : ℕ) (f : Form) → ends_process deep f ≡ false → is_process f ≡ false
 goes_on zero f h = (or_parts (is_process f) (is_end f) h).0
