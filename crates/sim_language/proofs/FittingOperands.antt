@@ -144,7 +144,7 @@ module _ (heads : Heads) (final : ScenarioOf) (k : Kind) (place : Place) (inside
           rw (number_is place.above.declared w d e) (le-leb (suc d.number) final.setup.events there)
 
   -- where a variable stands for an event
-  event_variable : (reference : Reference) (w : Word) → GoodSlot heads place (record { role = Refers reference; word = w }) → is_variable place.above (record { role = Refers reference; word = w }) ≡ true → (nat_lt (variable place.variables w) 64 && takes_class reference (class_of k (variable place.variables w))) ≡ true
+  pub event_variable : (reference : Reference) (w : Word) → GoodSlot heads place (record { role = Refers reference; word = w }) → is_variable place.above (record { role = Refers reference; word = w }) ≡ true → (nat_lt (variable place.variables w) 64 && takes_class reference (class_of k (variable place.variables w))) ≡ true
   event_variable reference w good h = let v = variable_of (record { role = Refers reference; word = w }) good h in and_from _ _ v.1.below (rw (v.1.class) v.2)
 
   no_event : (reference : Reference) (w : Word) → GoodSlot heads place (record { role = Refers reference; word = w }) → is_variable place.above (record { role = Refers reference; word = w }) ≡ true → is_event place.above.declared w ≡ false

@@ -28,3 +28,4 @@ pub mod KindsOfHeads
 pub mod FittingCalls
 pub mod ProcessVariables
 pub mod FittingOperands
+pub mod FittingParts
