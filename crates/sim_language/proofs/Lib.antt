@@ -29,3 +29,4 @@ pub mod FittingCalls
 pub mod ProcessVariables
 pub mod FittingOperands
 pub mod FittingParts
+pub mod FittingByForm
