@@ -15,7 +15,7 @@ use Rattle.sim_language.specs.declared.shape.Reference.{Reference}
 use Rattle.sim_language.specs.declared.shape.Reference.TheVariants.{AnyEvent, PlainEvent, AProcess}
 use Rattle.sim_language.specs.declared.shape.Role.TheVariants.{Gives, Value, Refers, Names, Free}
 use Rattle.sim_language.specs.Lines.{Word}
-use Rattle.sim_language.specs.Shapes.{Slot, Heads, Context, shape, slot_of, parameters, side_by_side, spawn_argument}
+use Rattle.sim_language.specs.Shapes.{Heads, Context, shape, slot_of, parameters, side_by_side, spawn_argument}
 use Rattle.sim_language.specs.Blocks.{Block}
 use Rattle.sim_language.specs.Places.{Place, blocks_of}
 use Rattle.sim_language.specs.Statements.{variable, number_of, event_of, nothing, preempts, kind_number, arguments, end_of, statement}

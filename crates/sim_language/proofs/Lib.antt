@@ -30,3 +30,4 @@ pub mod ProcessVariables
 pub mod FittingOperands
 pub mod FittingParts
 pub mod FittingByForm
+pub mod CodeOfKinds
