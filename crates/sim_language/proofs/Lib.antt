@@ -31,3 +31,4 @@ pub mod FittingOperands
 pub mod FittingParts
 pub mod FittingByForm
 pub mod CodeOfKinds
+pub mod BlocksByForm
