@@ -32,3 +32,4 @@ pub mod FittingParts
 pub mod FittingByForm
 pub mod CodeOfKinds
 pub mod BlocksByForm
+pub mod ProcessesSoFar

@@ -101,7 +101,7 @@ declares_process : (f : Form) → declares_sort f ≡ Some sort.Process → is_p
 declares_process form.Process h = refl
 declares_process f h = absurd cc
 
-same_kinds : (f : Form) (a : Added) (s : ScenarioOf) → is_process f ≡ false → sort_added a ≡ declares_sort f → (put_in a s).kinds ≡ s.kinds
+pub same_kinds : (f : Form) (a : Added) (s : ScenarioOf) → is_process f ≡ false → sort_added a ≡ declares_sort f → (put_in a s).kinds ≡ s.kinds
 same_kinds f (AKind kind) s h e = absurd (true≢false (sym (declares_process f (sym e)) ∙ h))
 same_kinds f a s h e = refl
 
