@@ -33,3 +33,4 @@ pub mod FittingByForm
 pub mod CodeOfKinds
 pub mod BlocksByForm
 pub mod ProcessesSoFar
+pub mod WholeTexts

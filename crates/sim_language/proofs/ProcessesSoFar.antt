@@ -107,7 +107,7 @@ is_there : {A : Type 0} (o : Option A) → is_some o ≡ true → (x : A) × (o 
 is_there None h = absurd (true≢false (sym h))
 is_there (Some x) h = (x, refl)
 
-is_none_by : {A : Type 0} (o : Option A) → is_some o ≡ false → o ≡ None
+pub is_none_by : {A : Type 0} (o : Option A) → is_some o ≡ false → o ≡ None
 is_none_by None h = refl
 is_none_by (Some x) h = absurd (true≢false h)
 
@@ -117,10 +117,10 @@ same_code (AStatement st) s h = absurd (true≢false h)
 same_code a s h = refl
 
 module _ (heads : Heads) (final : ScenarioOf) (n : ℕ) (above : List Line) (ws : List Word) (f : Form) (slots : List Slot) (below : List Line) (s : ScenarioOf) where
-  abbrev here : Line
+  abbrev pub here : Line
   here = line ws (Says f slots)
 
-  abbrev place : Place
+  abbrev pub place : Place
   place = place_at n above (line ws (Says f slots)) below
 
   -- a line of a process leaves the declared names as they are
@@ -140,7 +140,7 @@ module _ (heads : Heads) (final : ScenarioOf) (n : ℕ) (above : List Line) (ws 
       of_shape heads place f slots clean (λ more. CleanLine heads place f more → clean.fits.fits.context.heads ≡ heads → StatementFits final process.kind (statement heads place f more)) (statements_fit heads final process.kind place inside clean.fits.fits.context f) clean clean.fits.among
 
   -- a statement
-  processes_statement : CleanLine heads place f slots → Ground heads final place → is_statement f ≡ true → Processes final above (here ∷ below) s → Processes final (here ∷ above) below (put_in (added heads place f slots) s)
+  pub processes_statement : CleanLine heads place f slots → Ground heads final place → is_statement f ≡ true → Processes final above (here ∷ below) s → Processes final (here ∷ above) below (put_in (added heads place f slots) s)
   processes_statement clean ground is h = by (statement heads place f slots) refl (is_there (open_blocks above) inside)
     where
       other : is_process f ≡ false
@@ -165,7 +165,7 @@ module _ (heads : Heads) (final : ScenarioOf) (n : ℕ) (above : List Line) (ws 
           })
 
   -- a line that is no statement, and begins no process
-  processes_other : CleanLine heads place f slots → is_statement f ≡ false → is_process f ≡ false → Processes final above (here ∷ below) s → Processes final (here ∷ above) below (put_in (added heads place f slots) s)
+  pub processes_other : CleanLine heads place f slots → is_statement f ≡ false → is_process f ≡ false → Processes final above (here ∷ below) s → Processes final (here ∷ above) below (put_in (added heads place f slots) s)
   processes_other clean no_statement no_process h = record {
     code = ap length same_statements ∙ (h.code ∙ rw no_statement refl);
     fits = rw (same_statements, same_processes) h.fits;
