@@ -3,7 +3,7 @@
 --     said_by, linked_by        the scenario that the lines say
 use Rattle.std.specs.Prelude.{◌≡◌, refl, ◌+◌, ◌≤◌, ◌^◌, true, nat_lt, nat_le, List, [], length, None}
 use Rattle.std.specs.List.{list_all}
-use Rattle.std.proofs.Common.{arith}
+use Rattle.std.proofs.Common.{arith, ◌∙◌}
 use Rattle.std.proofs.lemmas.Bool.{le-leb, and_from, eq-eqb}
 use Rattle.sim_types.specs.Scenarios.{ScenarioOf}
 use Rattle.sim_language.specs.declared.form.Sort.TheVariants as sort
@@ -13,11 +13,15 @@ use Rattle.sim_language.specs.Places.{places, is_entry, count_above}
 use Rattle.sim_language.specs.Faults.{first_fault, end_fault}
 use Rattle.sim_language.specs.Links.{linked}
 use Rattle.sim_language.specs.Reads.{nothing_said, with_lines}
-use Rattle.sim_language.specs.WellFormed.{until_fits, resource_fits, kind_fits, posts_fit}
+use Rattle.sim_language.specs.FittingStatements.{script_fits}
+use Rattle.sim_language.specs.WellFormed.{setup_fits, until_fits, resource_fits, kind_fits, posts_fit}
 use Rattle.sim_language.proofs.Walking.{passed}
 use Rattle.sim_language.proofs.LineByLine.{AllAmong}
 use Rattle.sim_language.proofs.FittingEntries.{more_posts}
 use Rattle.sim_language.proofs.LinesSoFar.{SoFar, so_far}
+use Rattle.sim_language.proofs.KindsOfHeads.{HeadsOf, KindsFit, kinds_of_heads, heads_are}
+use Rattle.sim_language.proofs.WholeTexts.{Beyond, whole_text}
+use Rattle.sim_language.proofs.LinkedScripts.{scripts_linked}
 
 pub record IsFaultless (heads : Heads) (ls : List Line) : Type 0 where
   pub among : AllAmong heads ls
@@ -66,3 +70,18 @@ module _ (heads : Heads) (ls : List Line) (text : IsFaultless heads ls) where
       let few : length (said_by heads ls).journal ≤ 65536 = let n = e.arrivals in let m = e.all in omega arith in
       let posters : length (said_by heads ls).posters ≤ 16 = let n = e.posters in let m = e.few in omega arith in
       and_from _ _ (and_from _ _ (and_from _ _ (and_from _ _ (and_from _ _ (and_from _ _ (eq-eqb _ _ all_lines.alone.named) all_lines.alone.names) (le-leb _ 65536 few)) e.journal) e.falls) (le-leb _ 16 posters)) (more_posts (said_by heads ls) (count_above is_entry (passed [] ls)) 65536 (said_by heads ls).posters e.all e.posts)
+
+-- ---- with the process lines of the text
+
+module _ (heads : Heads) (ls : List Line) (text : IsFaultless heads ls) (of : HeadsOf heads ls) where
+  kinds_found : KindsFit heads (said_by heads ls)
+  kinds_found = kinds_of_heads heads ls (said_by heads ls) of (all_lines heads ls text).heads (all_kinds_fit heads ls text)
+
+  whole : Beyond heads (said_by heads ls) (1 + length ls) (passed [] ls) [] (said_by heads ls)
+  whole = whole_text heads (end_fault ls) (said_by heads ls) kinds_found ls (heads_are heads ls (said_by heads ls) of (all_lines heads ls text).heads) text.among text.none refl
+
+  pub all_setup_fits : setup_fits (linked_by heads ls) ≡ true
+  all_setup_fits = and_from _ _ (and_from _ _ (and_from _ _ (and_from _ _ (and_from _ _ (and_from _ _ (and_from _ _ (end_fits heads ls text) (events_few heads ls text)) (resources_few heads ls text)) (ports_few heads ls text)) (starts_few heads ls text)) (resources_fit heads ls text)) whole.ports) whole.starts
+
+  pub scripts_fit : list_all (script_fits (linked_by heads ls)) (linked_by heads ls).kinds ≡ true
+  scripts_fit = scripts_linked (said_by heads ls) (said_by heads ls).kinds ∙ whole.processes.fits

@@ -34,3 +34,4 @@ pub mod CodeOfKinds
 pub mod BlocksByForm
 pub mod ProcessesSoFar
 pub mod WholeTexts
+pub mod LinkedScripts
