@@ -35,3 +35,4 @@ pub mod BlocksByForm
 pub mod ProcessesSoFar
 pub mod WholeTexts
 pub mod LinkedScripts
+pub mod SaidTexts
