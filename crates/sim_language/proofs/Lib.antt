@@ -36,3 +36,4 @@ pub mod ProcessesSoFar
 pub mod WholeTexts
 pub mod LinkedScripts
 pub mod SaidTexts
+pub mod HeadsOfTexts

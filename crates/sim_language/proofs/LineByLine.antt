@@ -42,6 +42,9 @@ none_here (Some kind) n later h = absurd (none-some _ (sym h))
 pub first_clean : (heads : Heads) (end : Option Fault) (n : ℕ) (above : List Line) (ws : List Word) (f : Form) (slots : List Slot) (below : List Line) → FitsAmong heads f slots → first_fault heads (places n above (line ws (Says f slots) ∷ below)) end ≡ None → CleanLine heads (place_at n above (line ws (Says f slots)) below) f slots
 first_clean heads end n above ws f slots below among none = clean_at heads n above ws f slots below among (none_here (fault_at heads (place_at n above (line ws (Says f slots)) below)) n _ none).0
 
+pub first_faultless : (heads : Heads) (end : Option Fault) (n : ℕ) (above : List Line) (l : Line) (below : List Line) → first_fault heads (places n above (l ∷ below)) end ≡ None → fault_at heads (place_at n above l below) ≡ None
+first_faultless heads end n above l below none = (none_here (fault_at heads (place_at n above l below)) n _ none).0
+
 pub others_clean : (heads : Heads) (end : Option Fault) (n : ℕ) (above : List Line) (l : Line) (below : List Line) → first_fault heads (places n above (l ∷ below)) end ≡ None → first_fault heads (places (n + 1) (l ∷ above) below) end ≡ None
 others_clean heads end n above l below none = (none_here (fault_at heads (place_at n above l below)) n _ none).1
 
