@@ -37,3 +37,4 @@ pub mod WholeTexts
 pub mod LinkedScripts
 pub mod SaidTexts
 pub mod HeadsOfTexts
+pub mod ReadTexts
