@@ -1,5 +1,5 @@
 -- The open blocks as the code keeps them: a list with the innermost last, which is empty outside of processes.
-use Rattle.std.proofs.Common.{◌≡◌, refl, sym, ap, ◌∙◌, ℕ, suc, ◌+◌, ◌<◌, Bool, true, false, cond, List, [], ◌∷◌, ◌++◌, length, get_or, set, take, drop, reverse, Option, Some, None, unwrap_or, option_map, arith, drop-cons}
+use Rattle.std.proofs.Common.{◌≡◌, refl, sym, ap, ◌∙◌, ℕ, suc, ◌+◌, ◌<◌, Bool, true, false, cond, List, [], ◌∷◌, ◌++◌, length, get_or, set, take, drop, reverse, Some, None, unwrap_or, option_map, arith, drop-cons}
 use Rattle.std.proofs.lemmas.List.{reverse-append, set_split, take-append-drop}
 use Rattle.std.proofs.lemmas.Grind.{common_steps}
 use Rattle.sim_language.specs.Blocks.{Block, split_first}

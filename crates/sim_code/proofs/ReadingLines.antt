@@ -18,6 +18,8 @@ use Rattle.sim_language.specs.Places.{Above, Place, above_of, places}
 use Rattle.sim_language.specs.Faults.{at_line, fault_at, fault_past, end_fault}
 use Rattle.sim_language.specs.Reads.{add_said, nothing_said, outcome, reads, reads_text, unless_faulty}
 use Rattle.sim_language.specs.WellFormed.{is_well_formed}
+use Rattle.sim_language.proofs.BuiltTexts.{read_built}
+use Rattle.sim_language.proofs.WellFormedTexts.{read_well_formed}
 use Rattle.sim_code.specs.AboveOf.{IsBelow, above_behind}
 use Rattle.sim_code.specs.declared.reading.ReadError.{ReadError}
 use Rattle.sim_code.specs.declared.reading.ReadError.TheVariants as error
@@ -148,3 +150,12 @@ reads_is text heads few heads_are = let short : nat_lt 4194304 (length text) ≡
 pub reads_long : (text : List ℕ) → 4194304 < length text → reads is_built text ≡ Err (record { line = 0; kind = fault.TooLong })
 reads_long text long = let passes : nat_lt 4194304 (length text) ≡ true = grind (arith, nat_tests) in rw passes refl
 
+module _ (text : List ℕ) (heads : Heads) (draft : ScenarioOf) (few : length text ≤ 4194304) (heads_are : heads ≡ heads_of (lines text)) (says : reads_text is_built heads (lines text) ≡ Ok (with_links draft)) where
+  pub draft_says : reads is_built text ≡ Ok (with_links draft)
+  draft_says = reads_is text heads few heads_are ∙ says
+
+  pub draft_well_formed : IsTrue (is_well_formed (with_links draft))
+  draft_well_formed = read_well_formed is_built text (with_links draft) draft_says
+
+  pub draft_built : IsTrue (is_built_scenario (with_links draft))
+  draft_built = read_built text (with_links draft) draft_says

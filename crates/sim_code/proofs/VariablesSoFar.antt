@@ -8,7 +8,7 @@ use Rattle.sim_language.specs.Shapes.{Slot}
 use Rattle.sim_language.specs.Sayings.{Line, Saying}
 use Rattle.sim_language.specs.Sayings as sayings
 use Rattle.sim_language.specs.Variables.{given_by, given_below, deep_behind, ends_process, variables_of}
-use Rattle.sim_code.specs.declared.line.What.TheVariants.{Blank, Wrong, Says}
+use Rattle.sim_code.specs.declared.line.What.TheVariants.{Says}
 use Rattle.sim_code.specs.LineOf.{what_of, slots_of}
 use Rattle.sim_code.proofs.NamedPlaces.{with_all_append}
 

@@ -66,36 +66,47 @@ module _ (heads : Heads) (final : ScenarioOf) (k : Kind) (place : Place) (inside
     statements_fit form.Has = λ y c e clean same. both (both (given class.Number y clean.good.0) (uses_condition heads final k place inside c clean.good.1.0)) (event AnyEvent e clean.good.1.1.0)
     statements_fit form.Spawn = λ p ws clean same.
         subst (λ hs. CleanLine heads place form.Spawn (slot_of (Names sort.Process) p ∷ side_by_side (map spawn_argument (parameters hs p)) ws) → arguments_fit final k (kind_number heads p) (arguments place (side_by_side (map spawn_argument (parameters hs p)) ws)) ≡ true) (sym same)
-            (λ fine. spawned p ws fine.good.0 fine.good.1 fine.arguments)
-            clean
+        (λ fine. spawned p ws fine.good.0 fine.good.1 fine.arguments)
+        clean
     statements_fit form.NewSpawn = λ x p ws clean same.
         both (given class.Proc x clean.good.0)
-            (subst (λ hs. CleanLine heads place form.NewSpawn (slot_of (Gives class.Proc) x ∷ slot_of (Names sort.Process) p ∷ side_by_side (map spawn_argument (parameters hs p)) ws) → arguments_fit final k (kind_number heads p) (arguments place (side_by_side (map spawn_argument (parameters hs p)) ws)) ≡ true) (sym same)
-                (λ fine. spawned p ws fine.good.1.0 fine.good.1.1 fine.arguments)
-                clean)
+        (subst (λ hs. CleanLine heads place form.NewSpawn (slot_of (Gives class.Proc) x ∷ slot_of (Names sort.Process) p ∷ side_by_side (map spawn_argument (parameters hs p)) ws) → arguments_fit final k (kind_number heads p) (arguments place (side_by_side (map spawn_argument (parameters hs p)) ws)) ≡ true) (sym same)
+        (λ fine. spawned p ws fine.good.1.0 fine.good.1.1 fine.arguments)
+        clean)
     statements_fit form.Interrupt = λ p c clean same. both (event AProcess p clean.good.0) (value c clean.good.1.0)
     statements_fit form.Drop = λ p v clean same. both (event AProcess p clean.good.0) (value v clean.good.1.0)
     statements_fit form.Raise = λ c clean same. value c clean.good.0
     statements_fit form.Finish = λ v clean same. value v clean.good.0
-    statements_fit form.With = λ x e q r.
-        (λ clean same. both (both (given class.Request x clean.good.0) refl) (request_fit heads final k place inside r [] nothing true clean.good.1.0 clean.taken (λ n. refl) (λ n. refl)),
-        λ p. (λ clean same. both (both (given class.Request x clean.good.0) (value p clean.good.1.1.0)) (request_fit heads final k place inside r (slot_of Value p ∷ []) (number_of place.variables (slot_of Value p)) true clean.good.1.0 clean.taken (λ n. absurd (omega arith)) (λ n. refl)),
-        λ w among clean same. both (both (given class.Request x clean.good.0) (value p clean.good.1.1.0)) (request_fit heads final k place inside r (slot_of Value p ∷ slot_of Free w ∷ []) (number_of place.variables (slot_of Value p)) (preempts (slot_of Value p ∷ slot_of Free w ∷ [])) clean.good.1.0 clean.taken (λ n. absurd (omega arith)) (λ n. absurd (omega arith)))))
+    statements_fit form.With = λ x e q r. (
+      λ clean same. both (both (given class.Request x clean.good.0) refl) (request_fit heads final k place inside r [] nothing true clean.good.1.0 clean.taken (λ n. refl) (λ n. refl)),
+      λ p. (
+        λ clean same. both (both (given class.Request x clean.good.0) (value p clean.good.1.1.0)) (request_fit heads final k place inside r (slot_of Value p ∷ []) (number_of place.variables (slot_of Value p)) true clean.good.1.0 clean.taken (λ n. absurd (omega arith)) (λ n. refl)),
+        λ w among clean same. both (both (given class.Request x clean.good.0) (value p clean.good.1.1.0)) (request_fit heads final k place inside r (slot_of Value p ∷ slot_of Free w ∷ []) (number_of place.variables (slot_of Value p)) (preempts (slot_of Value p ∷ slot_of Free w ∷ [])) clean.good.1.0 clean.taken (λ n. absurd (omega arith)) (λ n. absurd (omega arith))),
+      ),
+    )
     statements_fit form.Release = λ x clean same. uses_request heads final k place inside x clean.good.0
-    statements_fit form.Put = λ r a.
-        (λ clean same. both (both (value a clean.good.1.0) refl) (put_fit heads final k place inside r (slot_of Value a ∷ []) nothing clean.good.0 clean.taken (λ n. refl)),
-        λ p clean same. both (both (value a clean.good.1.0) (value p clean.good.1.1.0)) (put_fit heads final k place inside r (slot_of Value a ∷ slot_of Value p ∷ []) (number_of place.variables (slot_of Value p)) clean.good.0 clean.taken (λ n. absurd (omega arith))))
-    statements_fit form.NewPut = λ x r a.
-        (λ clean same. both (both (both (given class.Move x clean.good.0) (value a clean.good.1.1.0)) refl) (put_fit heads final k place inside r (slot_of Value a ∷ []) nothing clean.good.1.0 clean.taken (λ n. refl)),
-        λ p clean same. both (both (both (given class.Move x clean.good.0) (value a clean.good.1.1.0)) (value p clean.good.1.1.1.0)) (put_fit heads final k place inside r (slot_of Value a ∷ slot_of Value p ∷ []) (number_of place.variables (slot_of Value p)) clean.good.1.0 clean.taken (λ n. absurd (omega arith))))
-    statements_fit form.Get = λ r.
-        (λ clean same. get_fit heads final k place inside r [] nothing nothing clean.good.0 clean.taken (λ n. refl) (λ n. refl),
-        λ a. (λ clean same. both (both (value a clean.good.1.0) refl) (get_fit heads final k place inside r (slot_of Value a ∷ []) (number_of place.variables (slot_of Value a)) nothing clean.good.0 clean.taken (λ n. absurd (omega arith)) (λ n. refl)),
-        λ b clean same. both (both (value a clean.good.1.0) (value b clean.good.1.1.0)) (get_fit heads final k place inside r (slot_of Value a ∷ slot_of Value b ∷ []) (number_of place.variables (slot_of Value a)) (number_of place.variables (slot_of Value b)) clean.good.0 clean.taken (λ n. absurd (omega arith)) (λ n. absurd (omega arith)))))
-    statements_fit form.NewGet = λ x r.
-        (λ clean same. both (both (both (given class.Move x clean.good.0) refl) refl) (get_fit heads final k place inside r [] nothing nothing clean.good.1.0 clean.taken (λ n. refl) (λ n. refl)),
-        λ a. (λ clean same. both (both (both (given class.Move x clean.good.0) (value a clean.good.1.1.0)) refl) (get_fit heads final k place inside r (slot_of Value a ∷ []) (number_of place.variables (slot_of Value a)) nothing clean.good.1.0 clean.taken (λ n. absurd (omega arith)) (λ n. refl)),
-        λ b clean same. both (both (both (given class.Move x clean.good.0) (value a clean.good.1.1.0)) (value b clean.good.1.1.1.0)) (get_fit heads final k place inside r (slot_of Value a ∷ slot_of Value b ∷ []) (number_of place.variables (slot_of Value a)) (number_of place.variables (slot_of Value b)) clean.good.1.0 clean.taken (λ n. absurd (omega arith)) (λ n. absurd (omega arith)))))
+    statements_fit form.Put = λ r a. (
+      λ clean same. both (both (value a clean.good.1.0) refl) (put_fit heads final k place inside r (slot_of Value a ∷ []) nothing clean.good.0 clean.taken (λ n. refl)),
+      λ p clean same. both (both (value a clean.good.1.0) (value p clean.good.1.1.0)) (put_fit heads final k place inside r (slot_of Value a ∷ slot_of Value p ∷ []) (number_of place.variables (slot_of Value p)) clean.good.0 clean.taken (λ n. absurd (omega arith))),
+    )
+    statements_fit form.NewPut = λ x r a. (
+      λ clean same. both (both (both (given class.Move x clean.good.0) (value a clean.good.1.1.0)) refl) (put_fit heads final k place inside r (slot_of Value a ∷ []) nothing clean.good.1.0 clean.taken (λ n. refl)),
+      λ p clean same. both (both (both (given class.Move x clean.good.0) (value a clean.good.1.1.0)) (value p clean.good.1.1.1.0)) (put_fit heads final k place inside r (slot_of Value a ∷ slot_of Value p ∷ []) (number_of place.variables (slot_of Value p)) clean.good.1.0 clean.taken (λ n. absurd (omega arith))),
+    )
+    statements_fit form.Get = λ r. (
+      λ clean same. get_fit heads final k place inside r [] nothing nothing clean.good.0 clean.taken (λ n. refl) (λ n. refl),
+      λ a. (
+        λ clean same. both (both (value a clean.good.1.0) refl) (get_fit heads final k place inside r (slot_of Value a ∷ []) (number_of place.variables (slot_of Value a)) nothing clean.good.0 clean.taken (λ n. absurd (omega arith)) (λ n. refl)),
+        λ b clean same. both (both (value a clean.good.1.0) (value b clean.good.1.1.0)) (get_fit heads final k place inside r (slot_of Value a ∷ slot_of Value b ∷ []) (number_of place.variables (slot_of Value a)) (number_of place.variables (slot_of Value b)) clean.good.0 clean.taken (λ n. absurd (omega arith)) (λ n. absurd (omega arith))),
+      ),
+    )
+    statements_fit form.NewGet = λ x r. (
+      λ clean same. both (both (both (given class.Move x clean.good.0) refl) refl) (get_fit heads final k place inside r [] nothing nothing clean.good.1.0 clean.taken (λ n. refl) (λ n. refl)),
+      λ a. (
+        λ clean same. both (both (both (given class.Move x clean.good.0) (value a clean.good.1.1.0)) refl) (get_fit heads final k place inside r (slot_of Value a ∷ []) (number_of place.variables (slot_of Value a)) nothing clean.good.1.0 clean.taken (λ n. absurd (omega arith)) (λ n. refl)),
+        λ b clean same. both (both (both (given class.Move x clean.good.0) (value a clean.good.1.1.0)) (value b clean.good.1.1.1.0)) (get_fit heads final k place inside r (slot_of Value a ∷ slot_of Value b ∷ []) (number_of place.variables (slot_of Value a)) (number_of place.variables (slot_of Value b)) clean.good.1.0 clean.taken (λ n. absurd (omega arith)) (λ n. absurd (omega arith))),
+      ),
+    )
     statements_fit form.Cancel = λ x clean same. uses_move heads final k place inside x clean.good.0
     statements_fit form.Loop = λ clean same. refl
     statements_fit form.Repeat = λ a clean same. value a clean.good.0

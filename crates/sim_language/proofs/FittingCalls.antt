@@ -136,8 +136,8 @@ module _ (context : Context) (heads : Heads) (final : ScenarioOf) (place : Place
   calls_fit form.Process = λ n ws clean e ground. tt
   calls_fit form.Start = λ p ws clean e ground.
       subst (λ hs. CleanLine heads place form.Start (slot_of (Names sort.Process) p ∷ side_by_side (map start_argument (parameters hs p)) ws) → start_fits final (record { kind = kind_number heads p; args = take 8 (map (start_argument_of place.above.declared) (side_by_side (map start_argument (parameters hs p)) ws)) }) ≡ true) (sym e)
-          (λ fine. let parts = or_parts _ (list_any is_process_class (parameters heads p)) fine.arguments in start_fit heads final place p ws ground fine.good (not-false _ parts.0) parts.1)
-          clean
+      (λ fine. let parts = or_parts _ (list_any is_process_class (parameters heads p)) fine.arguments in start_fit heads final place p ws ground fine.good (not-false _ parts.0) parts.1)
+      clean
   calls_fit form.After = λ k p n port v clean e ground. tt
   calls_fit form.Poster = λ n clean e ground. tt
   calls_fit form.Post = λ port v clean e ground. tt

@@ -74,5 +74,5 @@ module _ (heads : Heads) (end : Option Fault) (final : ScenarioOf) where
         let both : (fault_at heads (place_at n above l below) ≡ None) × (first_fault heads (places (n + 1) (l ∷ above) below) end ≡ None) = none_here (fault_at heads (place_at n above l below)) n (first_fault heads (places (n + 1) (l ∷ above) below) end) clean in
         let same : n + 1 + length below ≡ n + suc (length below) = omega arith in
         subst (λ m. Q m (passed (l ∷ above) below) [] final) same
-            (by_lines steps below (n + 1) (l ∷ above) (add_said heads (place_at n above l below) l.saying s) among.1 both.1 ahead
-                (step steps n above l.words l.saying below s among.0 among.1 both.0 both.1 ahead q))
+        (by_lines steps below (n + 1) (l ∷ above) (add_said heads (place_at n above l below) l.saying s) among.1 both.1 ahead
+        (step steps n above l.words l.saying below s among.0 among.1 both.0 both.1 ahead q))

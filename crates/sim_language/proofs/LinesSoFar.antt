@@ -59,9 +59,9 @@ module _ (heads : Heads) (place : Place) (f : Form) (slots : List Slot) (clean :
 heads_line : (heads : Heads) (n : ℕ) (above : List Line) (ws : List Word) (f : Form) (slots : List Slot) (below : List Line) (s : ScenarioOf) → CleanLine heads (place_at n above (line ws (Says f slots)) below) f slots → ProcessHeads above s → ProcessHeads (line ws (Says f slots) ∷ above) (put_in (added heads (place_at n above (line ws (Says f slots)) below) f slots) s)
 heads_line heads n above ws form.Process slots below s clean h =
     of_shape heads (place_at n above (line ws (Says form.Process slots)) below) form.Process slots clean
-        (λ more. CleanLine heads (place_at n above (line ws (Says form.Process more)) below) form.Process more → ProcessHeads (line ws (Says form.Process more) ∷ above) (put_in (added heads (place_at n above (line ws (Says form.Process more)) below) form.Process more) s))
-        (λ name params fine. process name params fine)
-        clean
+    (λ more. CleanLine heads (place_at n above (line ws (Says form.Process more)) below) form.Process more → ProcessHeads (line ws (Says form.Process more) ∷ above) (put_in (added heads (place_at n above (line ws (Says form.Process more)) below) form.Process more) s))
+    (λ name params fine. process name params fine)
+    clean
   where
     process : (name : Word) (params : List Word) → CleanLine heads (place_at n above (line ws (Says form.Process (slot_of Declares name ∷ map (slot_of Parameter) params))) below) form.Process (slot_of Declares name ∷ map (slot_of Parameter) params)
         → ProcessHeads (line ws (Says form.Process (slot_of Declares name ∷ map (slot_of Parameter) params)) ∷ above) (put_in (added heads (place_at n above (line ws (Says form.Process (slot_of Declares name ∷ map (slot_of Parameter) params))) below) form.Process (slot_of Declares name ∷ map (slot_of Parameter) params)) s)

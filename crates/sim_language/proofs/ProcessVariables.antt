@@ -128,8 +128,8 @@ module _ (heads : Heads) (end : Option Fault) where
       by false e =
           let stays = variables_other above ws f slots below (goes_on deep f e) ∙ same in
           all_append (GoodName vs (declared above)) (given_by slots) (given_below (deep_behind deep f) below)
-              (line_given heads n above ws f slots below vs here stays)
-              (weaker_names vs f (declares_sort f) (declared above) _ (given_below (deep_behind deep f) below) (grown_line heads (place_at n above (line ws (Says f slots)) below) f slots here) (rest (deep_behind deep f) stays))
+          (line_given heads n above ws f slots below vs here stays)
+          (weaker_names vs f (declares_sort f) (declared above) _ (given_below (deep_behind deep f) below) (grown_line heads (place_at n above (line ws (Says f slots)) below) f slots here) (rest (deep_behind deep f) stays))
 
   pub given_good : (below : List Line) (n : ℕ) (above : List Line) (deep : ℕ) (vs : List (Named Class)) → AllAmong heads below → first_fault heads (places n above below) end ≡ None → variables_at above below ≡ vs → AllByRecursion (GoodName vs (declared above)) (given_below deep below)
   given_good [] n above deep vs among none same = tt

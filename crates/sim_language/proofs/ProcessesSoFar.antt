@@ -76,9 +76,9 @@ module _ (final : ScenarioOf) (ks : List Kind) (code : List Stmt) (st : Stmt) (v
   fits_more fits one =
       let parts = all_front (fits_from final code) process.front process.kind (subst (λ all. list_all (fits_from final code) all ≡ true) process.kinds fits) in
       subst (λ all. list_all (fits_from final (code ++ st ∷ [])) all ≡ true) (sym process.kinds)
-          (list_all_push (fits_from final (code ++ st ∷ [])) process.front process.kind
-              (list_all_both (is_closed code) (fits_from final code) (fits_from final (code ++ st ∷ [])) process.front (λ k h g. closed_fits final code st k h g) process.closed parts.0)
-              (open_fits final code st process.kind process.within parts.1 one))
+      (list_all_push (fits_from final (code ++ st ∷ [])) process.front process.kind
+      (list_all_both (is_closed code) (fits_from final code) (fits_from final (code ++ st ∷ [])) process.front (λ k h g. closed_fits final code st k h g) process.closed parts.0)
+      (open_fits final code st process.kind process.within parts.1 one))
 
   goes_on : OpenProcess ks (code ++ st ∷ []) vs ds
   goes_on = record { front = process.front; kind = process.kind; kinds = process.kinds; closed = closed_more; within = let few = process.within in omega (arith, length_push code st); classes = process.classes; variables = process.variables }

@@ -32,7 +32,7 @@ module _ (heads : Heads) (P : ℕ → List Line → List Line → ScenarioOf →
     pub none : end ≡ None
 
   none_here : (k : Option FaultKind) (n : ℕ) (later : Option Fault) → option_or (at_line n k) later ≡ None → (k ≡ None) × (later ≡ None)
-  none_here None n later h = (refl , h)
+  none_here None n later h = (refl, h)
   none_here (Some kind) n later h = absurd (none-some _ (sym h))
 
   walk-nil : (n : ℕ) (above : List Line) (s : ScenarioOf) (end : Option Fault) → end ≡ None → P n above [] s → Ends n above [] s end

@@ -7,7 +7,7 @@ use Rattle.sim_language.specs.Lines.{lines}
 use Rattle.sim_language.specs.Sayings.{heads_of}
 use Rattle.sim_language.specs.Reads.{reads}
 use Rattle.sim_language.specs.WellFormed.{is_well_formed}
-use Rattle.sim_language.proofs.ClosedTexts.{Closed, closed_text}
+use Rattle.sim_language.proofs.ClosedTexts.{closed_text}
 use Rattle.sim_language.proofs.FittingTexts.{linked_by}
 use Rattle.sim_language.proofs.ReadTexts.{Read, all_is_said, lines_of, read_is, well_formed}
 

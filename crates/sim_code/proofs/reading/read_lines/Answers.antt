@@ -1,16 +1,17 @@
-use Rattle.std.proofs.Common.{rules, ◌≡◌, ◌≤◌, ◌∷◌, sym, ◌∙◌, refl, ap, length, subst, cond, [], None, arith}
+use Rattle.std.proofs.Common.{◌≡◌, ◌∷◌, sym, ◌∙◌, refl, ap, subst, cond, [], arith}
 use Rattle.sim_language.specs.Built.{is_built}
 use Rattle.sim_language.specs.Lines.{lines}
 use Rattle.sim_language.specs.Faults.{fault_at}
 use Rattle.sim_language.specs.Reads.{add_said, reads_text}
 use Rattle.sim_code.specs.Readings.{IsReading}
-use Rattle.sim_code.proofs.ReadingLines.{memory_says_nothing, place_of, reading_starts, reading_below, reading_few, reading_goes_on}
+use Rattle.sim_code.proofs.ReadingLines.{memory_says_nothing, reading_starts, reading_below, reading_few, reading_goes_on}
 use Rattle.sim_code.proofs.reading.read_lines.Goals as goal
 
 pub loop-draft-init : goal.loop-draft-init
 loop-draft-init c = record {
   heads = refl;
-  reading = reading_starts c.args.heads.now (lines c.args.text.now) c.new-above.result c.new-variables.result c.new-draft.result c.of_text-lines.result c.new-above.ensures c.new-variables.ensures c.new-draft.ensures c.of_text-lines.ensures.lines (omega (arith, c.of_text-lines.ensures.few, c.requires)) }
+  reading = reading_starts c.args.heads.now (lines c.args.text.now) c.new-above.result c.new-variables.result c.new-draft.result c.of_text-lines.result c.new-above.ensures c.new-variables.ensures c.new-draft.ensures c.of_text-lines.ensures.lines (omega (arith, c.of_text-lines.ensures.few, c.requires));
+}
 
 pub pass-requires : goal.pass-requires
 pass-requires c = reading_below _ _ _ _ _ _ _ c.loop-draft.invariant.reading
@@ -28,7 +29,8 @@ loop-draft-preserved c =
       reading = reading_goes_on c.args.heads.now answer c.loop-draft.number c.loop-draft.above c.loop-draft.variables c.in_ok-variables.variables c.loop-draft.draft c.next.new.line c.next.new.self reading c.in_ok-variables.ensures c.add.new.self c.pass.new.self
           (ap (fault_at c.args.heads.now) (sym c.of-place.ensures) ∙ sym c.fault_at.ensures ∙ c.in_default.is)
           (c.in_ok-add.ensures ∙ ap (λ p. add_said c.args.heads.now p p.line.saying c.loop-draft.draft) c.of-place.ensures)
-          c.in_ok-pass.ensures }
+          c.in_ok-pass.ensures;
+    }
 
 pub returns-clause-few : goal.returns-clause-few
 returns-clause-few c = reading_few _ _ _ _ _ _ _ c.loop-draft.invariant.reading

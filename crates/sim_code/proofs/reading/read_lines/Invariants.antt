@@ -3,7 +3,6 @@ use Rattle.sim_language.specs.Built.{is_built}
 use Rattle.sim_language.specs.Lines.{lines}
 use Rattle.sim_language.specs.Reads.{reads_text}
 use Rattle.sim_code.specs.Readings.{IsReading}
-use Rattle.sim_code.proofs.ReadingLines.{reading_starts}
 use Rattle.sim_code.proofs.reading.read_lines.Given as goal
 
 -- what was read and what is left say what the text says
