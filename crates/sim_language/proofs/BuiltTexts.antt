@@ -23,7 +23,7 @@ use Rattle.sim_language.specs.Links.{Closing, linked, closings, link}
 use Rattle.sim_language.specs.Reads.{add, add_said, with_statement, with_lines, nothing_said, unless_faulty, is_too_long, reads_text, reads}
 use Rattle.sim_language.specs.Built.{is_built, is_built_statement, is_never, is_built_scenario}
 use Rattle.sim_language.proofs.Walking.{place_at}
-use Rattle.sim_language.proofs.SaidTexts.{IsBuiltSaid, all_built}
+use Rattle.sim_language.proofs.BuiltLines.{IsBuiltSaid, all_built}
 
 -- ---- other code
 

@@ -15,7 +15,7 @@ mod StandingCode
 mod LineForms
 pub mod ClosedTexts
 pub mod SaidByLines
-pub mod SaidTexts
+pub mod BuiltLines
 pub mod BuiltTexts
 pub mod ByShape
 pub mod Additions

@@ -1,4 +1,4 @@
--- What the lines of a text say is what lines can say, and each form is one that is built.
+-- Each form that a line of a text says is one that is built.
 use Rattle.std.proofs.Common.{◌≡◌, refl, Bool, true, false, not, if◌then◌else◌, nat_lt, List, [], ◌∷◌, length, Option, Some, None}
 use Rattle.std.specs.List.{All, list_any, list_all}
 use Rattle.std.proofs.lemmas.List.Elements.{All-nil, All-cons}
@@ -8,19 +8,6 @@ use Rattle.sim_language.specs.Lines.{Word, cut, words, is_text}
 use Rattle.sim_language.specs.Forms.{operands}
 use Rattle.sim_language.specs.Shapes.{Slot, Heads, Context, fit, shape}
 use Rattle.sim_language.specs.Sayings.{Setting, Saying, Blank, Wrong, Says, context_of, form_in, if_built, is_bad_name, is_bad_number, said_by_form, said_by_slots, saying, line_of, setting_behind, lines_from, sayings}
-use Rattle.sim_language.specs.Said.{IsSaid}
-use Rattle.sim_language.proofs.SaidByLines.{saying_is_said}
-
--- ---- what a line can say
-
-lines_said : (s : Setting) (ls : List Word) → All (λ l. IsSaid l.saying) (lines_from s ls)
-lines_said s [] = All-nil (λ l. IsSaid l.saying)
-lines_said s (l ∷ ls) = All-cons (λ k. IsSaid k.saying) (line_of s l) _ (saying_is_said s (cut l) (words (cut l))) (lines_said (setting_behind (words (cut l)) s) ls)
-
-pub all_said : (built : Form → Bool) (heads : Heads) (ls : List Word) → All (λ l. IsSaid l.saying) (sayings built heads ls)
-all_said built heads ls = lines_said _ ls
-
--- ---- the forms that are built
 
 -- a form that is said is built
 abbrev pub IsBuiltSaid : (Form → Bool) → Saying → Type 0
