@@ -1,10 +1,9 @@
 -- A scenario that is read can be run: nothing arrives, no port has a name, and its scripts ask for what is built.
-use Rattle.std.proofs.Common.{◌≡◌, ℤ, true, List, [], ◌∷◌, refl}
+use Rattle.std.proofs.Common.{◌≡◌, true, List, [], ◌∷◌, refl}
 use Rattle.std.specs.Prelude.{IsTrue, ◌&&◌, ◌==◌}
 use Rattle.std.specs.List.{list_all}
 use Rattle.std.proofs.lemmas.Bool.{false≢true, and_parts}
 use Rattle.sim_types.specs.Scenarios.{ScenarioOf}
-use Rattle.sim_types.specs.declared.event.Signal.{Signal}
 use Rattle.sim_types.specs.declared.op.Op.{Op}
 use Rattle.sim_types.specs.declared.op.Op.TheVariants as op
 use Rattle.sim_types.specs.declared.setup.Until.{Until}
@@ -13,7 +12,6 @@ use Rattle.sim_machine.proofs.PlainBodies.{is_plain}
 use Rattle.sim_language.specs.Built.{is_never, is_built_statement, is_built_scenario}
 use Rattle.sim_language.specs.Lines.{is_empty}
 use Rattle.sim_kernel.specs.Built.{is_built, AsksForBuilt}
-use Rattle.sim_script_model.specs.Scripts.{Script}
 use Rattle.sim_script.specs.ScriptMembers.{IsScriptTurn, IsSoundScript}
 use Rattle.sim_script.proofs.ScriptAsks.{asks_plain}
 

@@ -1,6 +1,6 @@
 -- What a call on a text has written and answers.
 use Rattle.std.proofs.Common.{◌≡◌, ℕ, ◌<◌, Bool, true, false, List, [], length, take, refl, sym, subst, ap, ◌∙◌, Option, None, Some, Result, Ok, Err, arith}
-use Rattle.std.specs.Prelude.{nat_lt, nat_le, if◌then◌else◌, IfSome, IsTrue}
+use Rattle.std.specs.Prelude.{nat_le, if◌then◌else◌, IfSome, IsTrue}
 use Rattle.std.specs.Io.KnownBytes.{Appends}
 use Rattle.std.proofs.KnownBytes.{Appends-nil}
 use Rattle.std.proofs.lemmas.Bool.{false≢true}

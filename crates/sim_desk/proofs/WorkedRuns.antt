@@ -26,6 +26,10 @@ two_starts : answer_of (Run 1000) (codes "scenario 1\nuntil empty\nprocess car\n
 unfolding digits
 two_starts = refl
 
+two_processes : answer_of (Run 1000) (codes "scenario 1\nuntil empty\nseed 7\nprocess p pause # in minutes\ntimeout pause\nlog pause\nend\nprocess q\nlog -3\nend\nstart p 5\nstart q") ≡ codes "@0 0 0 init 2 ok 0\n@0 0 1 init 4 ok 0\nlog 0 3 -3\n@0 1 3 process 3 ok 0\n@5 1 2 timeout 5 ok 0\nlog 5 1 5\n@5 1 4 process 1 ok 0\nend empty 5 5\n"
+unfolding digits
+two_processes = refl
+
 refused : answer_of (Run 1000) (codes "scenario 1\nuntil empty\nprocess p\nwalk\nend\n") ≡ codes "fault 4 UnknownWord\n"
 unfolding digits
 refused = refl
