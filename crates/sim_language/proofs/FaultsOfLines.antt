@@ -9,8 +9,8 @@ use Rattle.sim_language.specs.Reads.{fault_of}
 byte_0x80_in_a_word : fault_of all_forms (codes "scenario 1\nuntil empty\nprocess p\nlog 1\u{80}\nend\n") ≡ Some (record { line = 4; kind = fault.NotText })
 byte_0x80_in_a_word = refl
 
-byte_0xff : fault_of all_forms (codes "scenario 1\nuntil empty\nevent a\u{ff}\n") ≡ Some (record { line = 3; kind = fault.NotText })
-byte_0xff = refl
+byte_0x9f : fault_of all_forms (codes "scenario 1\nuntil empty\nevent a\u{9f}\n") ≡ Some (record { line = 3; kind = fault.NotText })
+byte_0x9f = refl
 
 byte_0x1f_in_a_name : fault_of all_forms (codes "scenario 1\nuntil empty\nevent a\u{1f}b\n") ≡ Some (record { line = 3; kind = fault.NotText })
 byte_0x1f_in_a_name = refl
@@ -18,7 +18,7 @@ byte_0x1f_in_a_name = refl
 byte_0x7f_in_a_name : fault_of all_forms (codes "scenario 1\nuntil empty\nevent a\u{7f}\n") ≡ Some (record { line = 3; kind = fault.NotText })
 byte_0x7f_in_a_name = refl
 
-byte_0 : fault_of all_forms (codes "scenario 1\nuntil empty\nevent a\u{0}\n") ≡ Some (record { line = 3; kind = fault.NotText })
+byte_0 : fault_of all_forms (codes "scenario 1\nuntil empty\nevent a\0\n") ≡ Some (record { line = 3; kind = fault.NotText })
 byte_0 = refl
 
 tilde_is_text_and_no_name : fault_of all_forms (codes "scenario 1\nuntil empty\nevent ~a\n") ≡ Some (record { line = 3; kind = fault.BadName })
