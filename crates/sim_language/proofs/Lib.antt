@@ -50,3 +50,10 @@ pub mod TextsAmong
 pub mod HeadsOfTexts
 pub mod ReadTexts
 pub mod WellFormedTexts
+mod FaultsOfLines
+mod FaultsOfWords
+mod FaultsOfNames
+mod FaultsOfOrder
+mod FaultsOfLimits
+mod FaultsOfVariables
+mod LongTexts
