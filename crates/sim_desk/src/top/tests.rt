@@ -127,6 +127,20 @@ fn answers_texts(rt: HostRuntime) -> Result<(), Fail> {
             0,
             "end empty 0 0\n",
         ),
+        (
+            "another layout",
+            "run 1000",
+            "# a shop\r\nscenario 1\r\nuntil empty\r\nprocess p\r\ntimeout 5\r\nlog now\r\nend\r\nstart p",
+            0,
+            ONE_TIMEOUT_TRACE,
+        ),
+        (
+            "an open process",
+            "run 1000",
+            "scenario 1\nuntil empty\nprocess p\ntimeout 5\nlog now\n",
+            3,
+            "fault 6 Unclosed\n",
+        ),
         ("no text", "run 1000", "", 3, BAD_HEADER),
         (
             "another statement",
