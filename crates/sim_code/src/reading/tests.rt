@@ -5,10 +5,13 @@ use std::test::Fail;
 /// The lines that stand above those of most tables. What stands below them begins with line 3.
 const HEADER: &[u8] = b"scenario 1\nuntil empty\n";
 
-/// The line and the kind of the fault of a text; where it is a scenario, 0 and `ok`.
+/// The answer to a text that is a scenario.
+const ACCEPTED: (u32, &str) = (0, "ok");
+
+/// The line and the kind of the fault of a text, if it has one.
 fn answer(alloc: Global, text: &[u8]) -> Result<(u32, &'static str), Fail> {
     match read(alloc, text) {
-        Ok(_) => Ok((0, "ok")),
+        Ok(_) => Ok(ACCEPTED),
         Err(ReadError::Fault(fault)) => Ok((fault.line, word_of(fault.kind))),
         Err(ReadError::Memory) => Err("no memory".into()),
     }
@@ -184,766 +187,529 @@ fn headers(rt: HostRuntime) -> Result<(), Fail> {
 }
 
 #[test]
-fn forms(rt: HostRuntime) -> Result<(), Fail> {
+fn unknown_words(rt: HostRuntime) -> Result<(), Fail> {
     let cases = [
-        ("no form", "frob\n", 3, "UnknownWord"),
-        (
-            "a form with a capital",
-            "process p\nLog 5\nend\n",
-            4,
-            "UnknownWord",
-        ),
+        ("no form", "frob", 3),
+        ("a form with a capital", "process p\nLog 5\nend", 4),
         (
             "a form that is not built",
-            "process p\nwait y\nend\nstart p\n",
+            "process p\nwait y\nend\nstart p",
             4,
-            "UnknownWord",
         ),
-        (
-            "such a form of a wrong shape",
-            "process p\nwait\nend\n",
-            4,
-            "UnknownWord",
-        ),
+        ("such a form of a wrong shape", "process p\nwait\nend", 4),
         (
             "a form behind an equals sign",
-            "process p\nx = event\nend\n",
+            "process p\nx = event\nend",
             4,
-            "UnknownWord",
         ),
-        ("a declaration", "event e\n", 3, "UnknownWord"),
-        ("a journal", "journal\n", 3, "UnknownWord"),
-        ("a poster", "poster 0\n", 3, "UnknownWord"),
-        ("no form and no text", "frob \u{e9}\n", 3, "NotText"),
-        ("no form in a comment", "# frob\nseed 1 # frob\n", 0, "ok"),
-        (
-            "a name that begins no form",
-            "process frob\nend\nstart frob\n",
-            0,
-            "ok",
-        ),
-        (
-            "a name longer than a form's word",
-            "process processes\nend\n",
-            0,
-            "ok",
-        ),
-        (
-            "a timeout without a number",
-            "process p\ntimeout\nend\n",
-            4,
-            "BadShape",
-        ),
-        (
-            "a log of two numbers",
-            "process p\nlog 5 5\nend\n",
-            4,
-            "BadShape",
-        ),
+        ("a declaration", "event e", 3),
+        ("a journal", "journal", 3),
+        ("a poster", "poster 0", 3),
+        ("a wrong shape and no form", "process p\ntimeouts\nend", 4),
+    ];
+    for (what, below, line) in cases {
+        let told = answer_below(rt.alloc(), below.as_bytes())?;
+        assert_eq!(rt; told, (line, "UnknownWord"), "{what}");
+    }
+    Ok(())
+}
+
+#[test]
+fn bad_shapes(rt: HostRuntime) -> Result<(), Fail> {
+    let cases = [
+        ("a timeout without a number", "process p\ntimeout\nend", 4),
+        ("a log of two numbers", "process p\nlog 5 5\nend", 4),
         (
             "a log of a wrong shape and a bad number",
-            "process p\nlog 5x 5\nend\n",
+            "process p\nlog 5x 5\nend",
             4,
-            "BadShape",
         ),
-        (
-            "an equals sign behind log",
-            "process p\nlog = 5\nend\n",
-            4,
-            "BadShape",
-        ),
-        ("an end with a name", "process p\nend p\n", 4, "BadShape"),
-        ("a process without a name", "process\nend\n", 3, "BadShape"),
-        ("a start without a name", "start\n", 3, "BadShape"),
-        ("a seed without a number", "seed\n", 3, "BadShape"),
-        ("a seed of two numbers", "seed 1 2\n", 3, "BadShape"),
-        (
-            "another version below the header",
-            "scenario 3\n",
-            3,
-            "BadShape",
-        ),
-        ("a wrong shape out of its place", "timeout\n", 3, "BadShape"),
-        (
-            "a wrong shape and no text",
-            "process p\ntimeout \u{b} \u{b}\nend\n",
-            4,
-            "NotText",
-        ),
-        (
-            "a wrong shape and no form",
-            "process p\ntimeouts\nend\n",
-            4,
-            "UnknownWord",
-        ),
-        (
-            "a word behind a number sign",
-            "process p # q r\nend # p\n",
-            0,
-            "ok",
-        ),
-    ];
-    for (what, below, line, kind) in cases {
-        let told = answer_below(rt.alloc(), below.as_bytes())?;
-        assert_eq!(rt; told, (line, kind), "{what}");
-    }
-    Ok(())
-}
-
-#[test]
-fn numbers(rt: HostRuntime) -> Result<(), Fail> {
-    let cases = [
-        (
-            "20 digits",
-            "process p\ntimeout 99999999999999999999\nend\n",
-            4,
-            "BadNumber",
-        ),
-        (
-            "19 digits past 64 bits",
-            "process p\ntimeout 9999999999999999999\nend\n",
-            4,
-            "BadNumber",
-        ),
-        (
-            "the greatest",
-            "process p\ntimeout 9223372036854775807\nend\n",
-            0,
-            "ok",
-        ),
-        (
-            "one more",
-            "process p\ntimeout 9223372036854775808\nend\n",
-            4,
-            "BadNumber",
-        ),
-        (
-            "the least",
-            "process p\nlog -9223372036854775808\nend\n",
-            0,
-            "ok",
-        ),
-        (
-            "one less",
-            "process p\nlog -9223372036854775809\nend\n",
-            4,
-            "BadNumber",
-        ),
-        (
-            "zeros to 19 digits",
-            "process p\nlog 0000000000000000005\nend\n",
-            0,
-            "ok",
-        ),
-        (
-            "zeros to 20 digits",
-            "process p\nlog 00000000000000000005\nend\n",
-            4,
-            "BadNumber",
-        ),
-        (
-            "a sign and 19 digits",
-            "process p\nlog -0000000000000000005\nend\n",
-            0,
-            "ok",
-        ),
-        (
-            "a sign and 20 digits",
-            "process p\nlog -00000000000000000005\nend\n",
-            4,
-            "BadNumber",
-        ),
-        ("a sign alone", "process p\nlog -\nend\n", 4, "BadNumber"),
-        ("two signs", "process p\nlog --5\nend\n", 4, "BadNumber"),
-        ("a sign behind", "process p\nlog 5-\nend\n", 4, "BadNumber"),
-        (
-            "a letter behind",
-            "process p\nlog 5x\nend\n",
-            4,
-            "BadNumber",
-        ),
-        ("a plus", "process p\nlog +5\nend\n", 4, "BadName"),
-        (
-            "a bad number out of its place",
-            "timeout 5x\n",
-            3,
-            "BadNumber",
-        ),
-        (
-            "a bad number and no text",
-            "process p\nlog 5\u{e9}\nend\n",
-            4,
-            "NotText",
-        ),
-        ("the greatest seed", "seed 9223372036854775807\n", 0, "ok"),
-        (
-            "a seed of one more",
-            "seed 9223372036854775808\n",
-            3,
-            "BadNumber",
-        ),
-        ("the least seed", "seed -0\n", 0, "ok"),
-        ("a seed of one less", "seed -1\n", 3, "BadNumber"),
-        ("a name as a seed", "seed now\n", 3, "BadNumber"),
-        (
-            "a bad seed out of its place",
-            "seed 1\nseed -1\n",
-            4,
-            "BadNumber",
-        ),
-        (
-            "a name as an argument",
-            "process p a\nend\nstart p soon\n",
-            5,
-            "BadNumber",
-        ),
-        (
-            "a bad argument and one too many",
-            "process p a\nend\nstart p now 5\n",
-            5,
-            "BadNumber",
-        ),
-        (
-            "numbers as arguments",
-            "process p a b\nend\nstart p 05 -5\n",
-            0,
-            "ok",
-        ),
-    ];
-    for (what, below, line, kind) in cases {
-        let told = answer_below(rt.alloc(), below.as_bytes())?;
-        assert_eq!(rt; told, (line, kind), "{what}");
-    }
-    Ok(())
-}
-
-#[test]
-fn names(rt: HostRuntime) -> Result<(), Fail> {
-    let cases = [
-        ("a capital", "process P\nend\n", 3, "BadName"),
-        ("a capital behind", "process pP\nend\n", 3, "BadName"),
-        ("a digit in front", "process 1p\nend\n", 3, "BadName"),
-        ("an underscore in front", "process _p\nend\n", 3, "BadName"),
-        ("a hyphen", "process p-q\nend\n", 3, "BadName"),
-        ("a tilde", "process p~\nend\n", 3, "BadName"),
-        (
-            "a colon in the name of a process",
-            "process p:event\nend\n",
-            3,
-            "BadName",
-        ),
-        (
-            "a word of the language",
-            "process proc\nend\n",
-            3,
-            "BadName",
-        ),
-        (
-            "the first word of the language",
-            "process scenario\nend\n",
-            3,
-            "BadName",
-        ),
-        (
-            "a word and a digit",
-            "process proc1\nend\nstart proc1\n",
-            0,
-            "ok",
-        ),
-        (
-            "underscores and digits behind",
-            "process p__0_9\nend\n",
-            0,
-            "ok",
-        ),
-        (
-            "an equals sign as a name",
-            "process = event\nend\n",
-            3,
-            "BadName",
-        ),
-        (
-            "a parameter with a capital",
-            "process p A\nend\n",
-            3,
-            "BadName",
-        ),
-        (
-            "a parameter that is a word of the language",
-            "process p now\nend\n",
-            3,
-            "BadName",
-        ),
-        (
-            "no class behind the colon",
-            "process p a:\nend\n",
-            3,
-            "BadName",
-        ),
-        (
-            "a class that no parameter has",
-            "process p a:number\nend\n",
-            3,
-            "BadName",
-        ),
-        ("two classes", "process p a:event:proc\nend\n", 3, "BadName"),
-        (
-            "no name in front of the colon",
-            "process p :event\nend\n",
-            3,
-            "BadName",
-        ),
-        ("all classes", "process p a b:event c:proc\nend\n", 0, "ok"),
-        ("me as a number", "process p\nlog me\nend\n", 4, "BadName"),
-        (
-            "a class behind a variable",
-            "process p a:event\nlog a:event\nend\n",
-            4,
-            "BadName",
-        ),
-        ("a capital behind start", "start Q\n", 3, "BadName"),
-        ("a number behind start", "start 5\n", 3, "BadName"),
-        (
-            "a number as an event",
-            "process p a:event\nend\nstart p 5\n",
-            5,
-            "BadName",
-        ),
-        (
-            "a bad name and a bad number",
-            "process p a:event b\nend\nstart p 5 x\n",
-            5,
-            "BadNumber",
-        ),
-        ("a bad name out of its place", "log A\n", 3, "BadName"),
-        (
-            "a bad name and too few words",
-            "process P\nlog\n",
-            3,
-            "BadName",
-        ),
+        ("an equals sign behind log", "process p\nlog = 5\nend", 4),
+        ("an end with a name", "process p\nend p", 4),
+        ("a process without a name", "process\nend", 3),
+        ("a start without a name", "start", 3),
+        ("a seed without a number", "seed", 3),
+        ("a seed of two numbers", "seed 1 2", 3),
+        ("another version below the header", "scenario 3", 3),
+        ("a wrong shape out of its place", "timeout", 3),
         (
             "a bad name and two words too many",
-            "process p\nlog A 5\nend\n",
+            "process p\nlog A 5\nend",
             4,
-            "BadShape",
-        ),
-    ];
-    for (what, below, line, kind) in cases {
-        let told = answer_below(rt.alloc(), below.as_bytes())?;
-        assert_eq!(rt; told, (line, kind), "{what}");
-    }
-    Ok(())
-}
-
-#[test]
-fn declarations(rt: HostRuntime) -> Result<(), Fail> {
-    let cases = [
-        (
-            "a process twice",
-            "process p\nend\nprocess p\nend\n",
-            5,
-            "Duplicate",
-        ),
-        (
-            "a process twice with other parameters",
-            "process p\nend\nprocess p a\nend\n",
-            5,
-            "Duplicate",
-        ),
-        (
-            "a process inside itself",
-            "process p\nprocess p\nend\n",
-            4,
-            "Duplicate",
-        ),
-        (
-            "a process twice, behind a start",
-            "process p\nend\nstart p\nprocess p\nend\n",
-            6,
-            "Duplicate",
-        ),
-        ("a parameter twice", "process p a a\nend\n", 3, "Duplicate"),
-        (
-            "a parameter twice in two classes",
-            "process p a b a:event\nend\n",
-            3,
-            "Duplicate",
-        ),
-        (
-            "a parameter twice and one too many",
-            "process p a b c d e f g h a\nend\n",
-            3,
-            "Duplicate",
-        ),
-        (
-            "a parameter twice and a bad name",
-            "process p a a B\nend\n",
-            3,
-            "BadName",
-        ),
-        (
-            "a parameter with the process's name",
-            "process p p\nlog p\nend\n",
-            0,
-            "ok",
-        ),
-        (
-            "a parameter with another process's name",
-            "process p\nend\nprocess q p\nlog p\nend\n",
-            0,
-            "ok",
-        ),
-        (
-            "a parameter of two processes",
-            "process p a\nend\nprocess q a:event\nend\n",
-            0,
-            "ok",
-        ),
-        (
-            "a process started twice",
-            "process p\nend\nstart p\nstart p\n",
-            0,
-            "ok",
-        ),
-        ("a start of no process", "start q\n", 3, "UnknownName"),
-        (
-            "a start of no process with an argument",
-            "start q 5\n",
-            3,
-            "UnknownName",
-        ),
-        (
-            "a start of no process in a process",
-            "process p\nstart q\nend\n",
-            4,
-            "UnknownName",
-        ),
-        (
-            "a start of a process in a comment",
-            "# process q\nstart q\n",
-            4,
-            "UnknownName",
-        ),
-        (
-            "a start of a parameter",
-            "process p q\nend\nstart q\n",
-            5,
-            "UnknownName",
-        ),
-        (
-            "no event as an argument",
-            "process p a:event\nend\nstart p q\n",
-            5,
-            "UnknownName",
-        ),
-        (
-            "no event and no further argument",
-            "process p a:event b\nend\nstart p q\n",
-            5,
-            "UnknownName",
-        ),
-        (
-            "no event and a bad number",
-            "process p a:event b\nend\nstart p q 5x\n",
-            5,
-            "BadNumber",
-        ),
-        (
-            "a start of a process below",
-            "start p\nprocess p\nend\n",
-            4,
-            "Misplaced",
-        ),
-        (
-            "a start without its argument",
-            "process p a\nend\nstart p\n",
-            5,
-            "WrongKind",
-        ),
-        (
-            "a start with an argument too many",
-            "process p\nend\nstart p 5\n",
-            5,
-            "WrongKind",
-        ),
-        (
-            "a process as an event",
-            "process p a:event\nend\nstart p p\n",
-            5,
-            "WrongKind",
-        ),
-        (
-            "a start with a process",
-            "process p a:proc\nend\nstart p p\n",
-            5,
-            "WrongKind",
-        ),
-        (
-            "a start without a process",
-            "process p a:proc\nend\nstart p\n",
-            5,
-            "WrongKind",
-        ),
-        (
-            "a start without its argument in a process",
-            "process p a\nstart p\nend\n",
-            4,
-            "WrongKind",
-        ),
-        (
-            "a start without the argument of a process below",
-            "start p\nprocess p a\nend\n",
-            3,
-            "WrongKind",
-        ),
-        (
-            "a process below with a fault",
-            "start p 5\nprocess p A\nend\n",
-            4,
-            "BadName",
-        ),
-        (
-            "the first of two processes counts",
-            "process p a\nend\nstart p 5\nprocess p\nend\n",
-            6,
-            "Duplicate",
-        ),
-        (
-            "events and processes that none is started with",
-            "process p a:event b:proc\nend\n",
-            0,
-            "ok",
-        ),
-    ];
-    for (what, below, line, kind) in cases {
-        let told = answer_below(rt.alloc(), below.as_bytes())?;
-        assert_eq!(rt; told, (line, kind), "{what}");
-    }
-    Ok(())
-}
-
-#[test]
-fn order(rt: HostRuntime) -> Result<(), Fail> {
-    let cases = [
-        ("a statement outside", "timeout 5\n", 3, "Misplaced"),
-        ("an end outside", "process p\nend\nend\n", 5, "Misplaced"),
-        ("a variable outside", "log q\n", 3, "Misplaced"),
-        (
-            "a variable of another class outside",
-            "process p a:event\nend\nlog a\n",
-            5,
-            "Misplaced",
-        ),
-        (
-            "a process in a process",
-            "process p\nprocess q\nend\nend\n",
-            4,
-            "Misplaced",
-        ),
-        (
-            "a process of 9 parameters in a process",
-            "process p\nprocess q a b c d e f g h i\n",
-            4,
-            "Misplaced",
-        ),
-        (
-            "a process behind a start",
-            "process p\nend\nstart p\nprocess q\nend\n",
-            6,
-            "Misplaced",
-        ),
-        (
-            "a start in a process",
-            "process p\nstart p\nend\n",
-            4,
-            "Misplaced",
-        ),
-        ("the first line again", "scenario 1\n", 3, "Misplaced"),
-        ("the second line again", "until empty\n", 3, "Misplaced"),
-        ("a second seed", "seed 1\nseed 1\n", 4, "Misplaced"),
-        (
-            "a seed behind a process",
-            "process p\nend\nseed 1\n",
-            5,
-            "Misplaced",
-        ),
-        (
-            "a seed in a process",
-            "process p\nseed 1\nend\n",
-            4,
-            "Misplaced",
-        ),
-        (
-            "a duplicate in a process",
-            "process p\nprocess p\nend\nend\n",
-            4,
-            "Duplicate",
-        ),
-        (
-            "blank lines in front of a seed",
-            "\n\n# x\nseed 1\n\nprocess p\n\nend\n",
-            0,
-            "ok",
-        ),
-        (
-            "processes that are not started",
-            "process p\nend\nprocess q\nend\nstart q\n",
-            0,
-            "ok",
-        ),
-        (
-            "a process that does not end",
-            "process p\ntimeout 5\n",
-            5,
-            "Unclosed",
-        ),
-        ("a process and no more", "process p", 4, "Unclosed"),
-        (
-            "a second process that does not end",
-            "process p\nend\nprocess q\n",
-            6,
-            "Unclosed",
-        ),
-        (
-            "lines without words behind it",
-            "process p\n\n# end\n",
-            6,
-            "Unclosed",
-        ),
-        (
-            "a line of blanks that no line feed ends",
-            "process p\n ",
-            5,
-            "Unclosed",
-        ),
-        (
-            "a faulty line in such a process",
-            "process p\nlog q\n",
-            4,
-            "Unset",
-        ),
-        (
-            "a process line with a fault opens none",
-            "process p a a",
-            3,
-            "Duplicate",
-        ),
-        ("an end that no line feed ends", "process p\nend", 0, "ok"),
-    ];
-    for (what, below, line, kind) in cases {
-        let told = answer_below(rt.alloc(), below.as_bytes())?;
-        assert_eq!(rt; told, (line, kind), "{what}");
-    }
-    Ok(())
-}
-
-#[test]
-fn variables(rt: HostRuntime) -> Result<(), Fail> {
-    let cases = [
-        (
-            "an event as a number",
-            "process p a:event\nlog a\nend\n",
-            4,
-            "ClassClash",
-        ),
-        (
-            "a process as a number",
-            "process p a:proc\nlog a\nend\n",
-            4,
-            "ClassClash",
-        ),
-        (
-            "an event as a time",
-            "process p a:event\ntimeout a\nend\n",
-            4,
-            "ClassClash",
-        ),
-        (
-            "an event behind a number",
-            "process p a b:event\nlog a\nlog b\nend\n",
-            5,
-            "ClassClash",
-        ),
-        (
-            "an event with a process's name",
-            "process p\nend\nprocess q p:event\nlog p\nend\n",
-            6,
-            "ClassClash",
         ),
         (
             "an event and a word too many",
-            "process p a:event\nlog a a\nend\n",
+            "process p a:event\nlog a a\nend",
             4,
-            "BadShape",
-        ),
-        (
-            "an event in a process, a number in the next",
-            "process p a:event\nend\nprocess q a\nlog a\nend\n",
-            0,
-            "ok",
-        ),
-        (
-            "a number beside an event",
-            "process p a:event b\nlog b\nend\n",
-            0,
-            "ok",
-        ),
-        ("no variable", "process p\nlog q\nend\n", 4, "Unset"),
-        (
-            "no variable as a time",
-            "process p\ntimeout q\nend\n",
-            4,
-            "Unset",
-        ),
-        ("the process's name", "process p\nlog p\nend\n", 4, "Unset"),
-        (
-            "a parameter of the process above",
-            "process p a\nend\nprocess q\nlog a\nend\n",
-            6,
-            "Unset",
-        ),
-        (
-            "a parameter of the process below",
-            "process p\nlog a\nend\nprocess q a\nend\n",
-            4,
-            "Unset",
-        ),
-        (
-            "the front of a parameter",
-            "process p ab\nlog a\nend\n",
-            4,
-            "Unset",
         ),
         (
             "no variable and a word too many",
-            "process p\nlog q q\nend\n",
+            "process p\nlog q q\nend",
             4,
-            "BadShape",
+        ),
+    ];
+    for (what, below, line) in cases {
+        let told = answer_below(rt.alloc(), below.as_bytes())?;
+        assert_eq!(rt; told, (line, "BadShape"), "{what}");
+    }
+    Ok(())
+}
+
+#[test]
+fn bad_numbers(rt: HostRuntime) -> Result<(), Fail> {
+    let cases = [
+        (
+            "20 digits",
+            "process p\ntimeout 99999999999999999999\nend",
+            4,
+        ),
+        (
+            "19 digits past 64 bits",
+            "process p\ntimeout 9999999999999999999\nend",
+            4,
+        ),
+        ("one more", "process p\ntimeout 9223372036854775808\nend", 4),
+        ("one less", "process p\nlog -9223372036854775809\nend", 4),
+        (
+            "zeros to 20 digits",
+            "process p\nlog 00000000000000000005\nend",
+            4,
+        ),
+        (
+            "a sign and 20 digits",
+            "process p\nlog -00000000000000000005\nend",
+            4,
+        ),
+        ("a sign alone", "process p\nlog -\nend", 4),
+        ("two signs", "process p\nlog --5\nend", 4),
+        ("a sign behind", "process p\nlog 5-\nend", 4),
+        ("a letter behind", "process p\nlog 5x\nend", 4),
+        ("a bad number out of its place", "timeout 5x", 3),
+        ("a seed of one more", "seed 9223372036854775808", 3),
+        ("a seed of one less", "seed -1", 3),
+        ("a name as a seed", "seed now", 3),
+        ("a bad seed out of its place", "seed 1\nseed -1", 4),
+        ("a name as an argument", "process p a\nend\nstart p soon", 5),
+        (
+            "a bad argument and one too many",
+            "process p a\nend\nstart p now 5",
+            5,
+        ),
+        (
+            "a bad name and a bad number",
+            "process p a:event b\nend\nstart p 5 x",
+            5,
+        ),
+        (
+            "no event and a bad number",
+            "process p a:event b\nend\nstart p q 5x",
+            5,
+        ),
+    ];
+    for (what, below, line) in cases {
+        let told = answer_below(rt.alloc(), below.as_bytes())?;
+        assert_eq!(rt; told, (line, "BadNumber"), "{what}");
+    }
+    Ok(())
+}
+
+#[test]
+fn bad_names(rt: HostRuntime) -> Result<(), Fail> {
+    let cases = [
+        ("a plus", "process p\nlog +5\nend", 4),
+        ("a capital", "process P\nend", 3),
+        ("a capital behind", "process pP\nend", 3),
+        ("a digit in front", "process 1p\nend", 3),
+        ("an underscore in front", "process _p\nend", 3),
+        ("a hyphen", "process p-q\nend", 3),
+        ("a tilde", "process p~\nend", 3),
+        (
+            "a colon in the name of a process",
+            "process p:event\nend",
+            3,
+        ),
+        ("a word of the language", "process proc\nend", 3),
+        ("the first word of the language", "process scenario\nend", 3),
+        ("an equals sign as a name", "process = event\nend", 3),
+        ("a parameter with a capital", "process p A\nend", 3),
+        (
+            "a parameter that is a word of the language",
+            "process p now\nend",
+            3,
+        ),
+        ("no class behind the colon", "process p a:\nend", 3),
+        (
+            "a class that no parameter has",
+            "process p a:number\nend",
+            3,
+        ),
+        ("two classes", "process p a:event:proc\nend", 3),
+        ("no name in front of the colon", "process p :event\nend", 3),
+        ("me as a number", "process p\nlog me\nend", 4),
+        (
+            "a class behind a variable",
+            "process p a:event\nlog a:event\nend",
+            4,
+        ),
+        ("a capital behind start", "start Q", 3),
+        ("a number behind start", "start 5", 3),
+        (
+            "a number as an event",
+            "process p a:event\nend\nstart p 5",
+            5,
+        ),
+        ("a bad name out of its place", "log A", 3),
+        ("a bad name and too few words", "process P\nlog", 3),
+        (
+            "a parameter twice and a bad name",
+            "process p a a B\nend",
+            3,
+        ),
+        (
+            "a process below with a fault",
+            "start p 5\nprocess p A\nend",
+            4,
+        ),
+    ];
+    for (what, below, line) in cases {
+        let told = answer_below(rt.alloc(), below.as_bytes())?;
+        assert_eq!(rt; told, (line, "BadName"), "{what}");
+    }
+    Ok(())
+}
+
+#[test]
+fn duplicates(rt: HostRuntime) -> Result<(), Fail> {
+    let cases = [
+        ("a process twice", "process p\nend\nprocess p\nend", 5),
+        (
+            "a process twice with other parameters",
+            "process p\nend\nprocess p a\nend",
+            5,
+        ),
+        ("a process inside itself", "process p\nprocess p\nend", 4),
+        (
+            "a process twice, behind a start",
+            "process p\nend\nstart p\nprocess p\nend",
+            6,
+        ),
+        ("a parameter twice", "process p a a\nend", 3),
+        (
+            "a parameter twice in two classes",
+            "process p a b a:event\nend",
+            3,
+        ),
+        (
+            "a parameter twice and one too many",
+            "process p a b c d e f g h a\nend",
+            3,
+        ),
+        (
+            "the first of two processes counts",
+            "process p a\nend\nstart p 5\nprocess p\nend",
+            6,
+        ),
+        (
+            "a duplicate in a process",
+            "process p\nprocess p\nend\nend",
+            4,
+        ),
+        ("a process line with a fault opens none", "process p a a", 3),
+    ];
+    for (what, below, line) in cases {
+        let told = answer_below(rt.alloc(), below.as_bytes())?;
+        assert_eq!(rt; told, (line, "Duplicate"), "{what}");
+    }
+    Ok(())
+}
+
+#[test]
+fn unknown_names(rt: HostRuntime) -> Result<(), Fail> {
+    let cases = [
+        ("a start of no process", "start q", 3),
+        ("a start of no process with an argument", "start q 5", 3),
+        (
+            "a start of no process in a process",
+            "process p\nstart q\nend",
+            4,
+        ),
+        (
+            "a start of a process in a comment",
+            "# process q\nstart q",
+            4,
+        ),
+        ("a start of a parameter", "process p q\nend\nstart q", 5),
+        (
+            "no event as an argument",
+            "process p a:event\nend\nstart p q",
+            5,
+        ),
+        (
+            "no event and no further argument",
+            "process p a:event b\nend\nstart p q",
+            5,
+        ),
+    ];
+    for (what, below, line) in cases {
+        let told = answer_below(rt.alloc(), below.as_bytes())?;
+        assert_eq!(rt; told, (line, "UnknownName"), "{what}");
+    }
+    Ok(())
+}
+
+#[test]
+fn wrong_kinds(rt: HostRuntime) -> Result<(), Fail> {
+    let cases = [
+        (
+            "a start without its argument",
+            "process p a\nend\nstart p",
+            5,
+        ),
+        (
+            "a start with an argument too many",
+            "process p\nend\nstart p 5",
+            5,
+        ),
+        (
+            "a process as an event",
+            "process p a:event\nend\nstart p p",
+            5,
+        ),
+        (
+            "a start with a process",
+            "process p a:proc\nend\nstart p p",
+            5,
+        ),
+        (
+            "a start without a process",
+            "process p a:proc\nend\nstart p",
+            5,
+        ),
+        (
+            "a start without its argument in a process",
+            "process p a\nstart p\nend",
+            4,
+        ),
+        (
+            "a start without the argument of a process below",
+            "start p\nprocess p a\nend",
+            3,
+        ),
+    ];
+    for (what, below, line) in cases {
+        let told = answer_below(rt.alloc(), below.as_bytes())?;
+        assert_eq!(rt; told, (line, "WrongKind"), "{what}");
+    }
+    Ok(())
+}
+
+#[test]
+fn misplaced_lines(rt: HostRuntime) -> Result<(), Fail> {
+    let cases = [
+        ("a start of a process below", "start p\nprocess p\nend", 4),
+        ("a statement outside", "timeout 5", 3),
+        ("an end outside", "process p\nend\nend", 5),
+        ("a variable outside", "log q", 3),
+        (
+            "a variable of another class outside",
+            "process p a:event\nend\nlog a",
+            5,
+        ),
+        (
+            "a process in a process",
+            "process p\nprocess q\nend\nend",
+            4,
+        ),
+        (
+            "a process of 9 parameters in a process",
+            "process p\nprocess q a b c d e f g h i",
+            4,
+        ),
+        (
+            "a process behind a start",
+            "process p\nend\nstart p\nprocess q\nend",
+            6,
+        ),
+        ("a start in a process", "process p\nstart p\nend", 4),
+        ("the first line again", "scenario 1", 3),
+        ("the second line again", "until empty", 3),
+        ("a second seed", "seed 1\nseed 1", 4),
+        ("a seed behind a process", "process p\nend\nseed 1", 5),
+        ("a seed in a process", "process p\nseed 1\nend", 4),
+    ];
+    for (what, below, line) in cases {
+        let told = answer_below(rt.alloc(), below.as_bytes())?;
+        assert_eq!(rt; told, (line, "Misplaced"), "{what}");
+    }
+    Ok(())
+}
+
+#[test]
+fn unclosed_processes(rt: HostRuntime) -> Result<(), Fail> {
+    let cases = [
+        ("a process that does not end", "process p\ntimeout 5", 5),
+        ("a process and no more", "process p", 4),
+        (
+            "a second process that does not end",
+            "process p\nend\nprocess q",
+            6,
+        ),
+        ("lines without words behind it", "process p\n\n# end", 6),
+        ("a line of blanks that no line feed ends", "process p\n ", 5),
+    ];
+    for (what, below, line) in cases {
+        let told = answer_below(rt.alloc(), below.as_bytes())?;
+        assert_eq!(rt; told, (line, "Unclosed"), "{what}");
+    }
+    Ok(())
+}
+
+#[test]
+fn class_clashes(rt: HostRuntime) -> Result<(), Fail> {
+    let cases = [
+        ("an event as a number", "process p a:event\nlog a\nend", 4),
+        ("a process as a number", "process p a:proc\nlog a\nend", 4),
+        ("an event as a time", "process p a:event\ntimeout a\nend", 4),
+        (
+            "an event behind a number",
+            "process p a b:event\nlog a\nlog b\nend",
+            5,
+        ),
+        (
+            "an event with a process's name",
+            "process p\nend\nprocess q p:event\nlog p\nend",
+            6,
+        ),
+    ];
+    for (what, below, line) in cases {
+        let told = answer_below(rt.alloc(), below.as_bytes())?;
+        assert_eq!(rt; told, (line, "ClassClash"), "{what}");
+    }
+    Ok(())
+}
+
+#[test]
+fn unset_variables(rt: HostRuntime) -> Result<(), Fail> {
+    let cases = [
+        ("a faulty line in such a process", "process p\nlog q", 4),
+        ("no variable", "process p\nlog q\nend", 4),
+        ("no variable as a time", "process p\ntimeout q\nend", 4),
+        ("the process's name", "process p\nlog p\nend", 4),
+        (
+            "a parameter of the process above",
+            "process p a\nend\nprocess q\nlog a\nend",
+            6,
+        ),
+        (
+            "a parameter of the process below",
+            "process p\nlog a\nend\nprocess q a\nend",
+            4,
+        ),
+        ("the front of a parameter", "process p ab\nlog a\nend", 4),
+    ];
+    for (what, below, line) in cases {
+        let told = answer_below(rt.alloc(), below.as_bytes())?;
+        assert_eq!(rt; told, (line, "Unset"), "{what}");
+    }
+    Ok(())
+}
+
+#[test]
+fn accepted_words(rt: HostRuntime) -> Result<(), Fail> {
+    let cases = [
+        ("no form in a comment", "# frob\nseed 1 # frob"),
+        (
+            "a name that begins no form",
+            "process frob\nend\nstart frob",
+        ),
+        ("a name longer than a form's word", "process processes\nend"),
+        ("a word behind a number sign", "process p # q r\nend # p"),
+        (
+            "the greatest",
+            "process p\ntimeout 9223372036854775807\nend",
+        ),
+        ("the least", "process p\nlog -9223372036854775808\nend"),
+        (
+            "zeros to 19 digits",
+            "process p\nlog 0000000000000000005\nend",
+        ),
+        (
+            "a sign and 19 digits",
+            "process p\nlog -0000000000000000005\nend",
+        ),
+        ("the greatest seed", "seed 9223372036854775807"),
+        ("the least seed", "seed -0"),
+        ("numbers as arguments", "process p a b\nend\nstart p 05 -5"),
+        ("a word and a digit", "process proc1\nend\nstart proc1"),
+        ("underscores and digits behind", "process p__0_9\nend"),
+    ];
+    for (what, below) in cases {
+        let told = answer_below(rt.alloc(), below.as_bytes())?;
+        assert_eq!(rt; told, ACCEPTED, "{what}");
+    }
+    Ok(())
+}
+
+#[test]
+fn accepted_processes(rt: HostRuntime) -> Result<(), Fail> {
+    let cases = [
+        ("all classes", "process p a b:event c:proc\nend"),
+        (
+            "a parameter with the process's name",
+            "process p p\nlog p\nend",
+        ),
+        (
+            "a parameter with another process's name",
+            "process p\nend\nprocess q p\nlog p\nend",
+        ),
+        (
+            "a parameter of two processes",
+            "process p a\nend\nprocess q a:event\nend",
+        ),
+        (
+            "a process started twice",
+            "process p\nend\nstart p\nstart p",
+        ),
+        (
+            "events and processes that none is started with",
+            "process p a:event b:proc\nend",
+        ),
+        (
+            "blank lines in front of a seed",
+            "\n\n# x\nseed 1\n\nprocess p\n\nend",
+        ),
+        (
+            "processes that are not started",
+            "process p\nend\nprocess q\nend\nstart q",
+        ),
+        ("an end that no line feed ends", "process p\nend"),
+        (
+            "an event in a process, a number in the next",
+            "process p a:event\nend\nprocess q a\nlog a\nend",
+        ),
+        (
+            "a number beside an event",
+            "process p a:event b\nlog b\nend",
         ),
         (
             "the time and the value that no line gives",
-            "process p\nlog now\ntimeout val\nend\n",
-            0,
-            "ok",
+            "process p\nlog now\ntimeout val\nend",
         ),
         (
             "a parameter as a time",
-            "process p a\ntimeout a\nend\nstart p 5\n",
-            0,
-            "ok",
+            "process p a\ntimeout a\nend\nstart p 5",
         ),
     ];
-    for (what, below, line, kind) in cases {
+    for (what, below) in cases {
         let told = answer_below(rt.alloc(), below.as_bytes())?;
-        assert_eq!(rt; told, (line, kind), "{what}");
+        assert_eq!(rt; told, ACCEPTED, "{what}");
     }
     Ok(())
 }
 
 /// How a text is laid out. A line that is no text is refused even where it would be faulty otherwise too.
 #[test]
-fn layout(rt: HostRuntime) -> Result<(), Fail> {
+fn layouts(rt: HostRuntime) -> Result<(), Fail> {
     let cases = [
         (
             "carriage returns",
@@ -1037,6 +803,19 @@ fn layout(rt: HostRuntime) -> Result<(), Fail> {
             0,
             "ok",
         ),
+        ("no form and no text", b"frob \xe9\n", 3, "NotText"),
+        (
+            "a wrong shape and no text",
+            b"process p\ntimeout \x0b \x0b\nend\n",
+            4,
+            "NotText",
+        ),
+        (
+            "a bad number and no text",
+            b"process p\nlog 5\xe9\nend\n",
+            4,
+            "NotText",
+        ),
     ];
     for (what, below, line, kind) in cases {
         let told = answer_below(rt.alloc(), below)?;
@@ -1045,21 +824,13 @@ fn layout(rt: HostRuntime) -> Result<(), Fail> {
     Ok(())
 }
 
-/// The limits of a line and of a text. The header has 23 bytes.
+/// The header has 23 bytes on its two lines.
 #[test]
-fn limits(rt: HostRuntime) -> Result<(), Fail> {
+fn long_lines(rt: HostRuntime) -> Result<(), Fail> {
     let cases = [
+        ("200 bytes", "process p", " ", 191, "\nend\n", 0, "ok"),
         (
-            "a line of 200 bytes",
-            "process p",
-            " ",
-            191,
-            "\nend\n",
-            0,
-            "ok",
-        ),
-        (
-            "a line of 201 bytes",
+            "201 bytes",
             "process p",
             " ",
             192,
@@ -1068,7 +839,7 @@ fn limits(rt: HostRuntime) -> Result<(), Fail> {
             "LineTooLong",
         ),
         (
-            "a carriage return behind 200 bytes",
+            "200 bytes and a return",
             "process p",
             " ",
             191,
@@ -1077,7 +848,7 @@ fn limits(rt: HostRuntime) -> Result<(), Fail> {
             "ok",
         ),
         (
-            "a comment behind 200 bytes",
+            "200 bytes and a comment",
             "process p",
             " ",
             191,
@@ -1086,7 +857,7 @@ fn limits(rt: HostRuntime) -> Result<(), Fail> {
             "ok",
         ),
         (
-            "200 bytes of a comment",
+            "a long comment",
             "process p #",
             "#",
             200,
@@ -1095,62 +866,14 @@ fn limits(rt: HostRuntime) -> Result<(), Fail> {
             "ok",
         ),
         ("201 blanks", "process p\n", " ", 201, "\nend\n", 0, "ok"),
+        ("196 digits", "log ", "1", 196, "\n", 3, "BadNumber"),
+        ("197 digits", "log ", "1", 197, "\n", 3, "LineTooLong"),
+        ("no form", "", "frob ", 40, "f", 3, "LineTooLong"),
+        ("no text", "log \u{e9}", "1", 195, "\n", 3, "NotText"),
+        ("32 letters", "process ", "z", 32, "\nend\n", 0, "ok"),
+        ("33 letters", "process ", "z", 33, "\nend\n", 3, "BadName"),
         (
-            "a number of 196 digits",
-            "log ",
-            "1",
-            196,
-            "\n",
-            3,
-            "BadNumber",
-        ),
-        (
-            "a number of 197 digits",
-            "log ",
-            "1",
-            197,
-            "\n",
-            3,
-            "LineTooLong",
-        ),
-        (
-            "no form of 201 bytes",
-            "",
-            "frob ",
-            40,
-            "f",
-            3,
-            "LineTooLong",
-        ),
-        (
-            "a line of 201 bytes and no text",
-            "log \u{e9}",
-            "1",
-            195,
-            "\n",
-            3,
-            "NotText",
-        ),
-        (
-            "a name of 32 letters",
-            "process ",
-            "z",
-            32,
-            "\nend\n",
-            0,
-            "ok",
-        ),
-        (
-            "a name of 33 letters",
-            "process ",
-            "z",
-            33,
-            "\nend\n",
-            3,
-            "BadName",
-        ),
-        (
-            "a parameter of 32 letters",
+            "32 letters and a class",
             "process p ",
             "a",
             32,
@@ -1159,94 +882,13 @@ fn limits(rt: HostRuntime) -> Result<(), Fail> {
             "ok",
         ),
         (
-            "a parameter of 33 letters",
+            "33 letters and a class",
             "process p ",
             "a",
             33,
             ":event\nend\n",
             3,
             "BadName",
-        ),
-        (
-            "words on line 65,536",
-            "",
-            "\n",
-            65_533,
-            "seed 5\n",
-            0,
-            "ok",
-        ),
-        (
-            "words on line 65,537",
-            "",
-            "\n",
-            65_534,
-            "seed 5\n",
-            65_537,
-            "TooMany",
-        ),
-        (
-            "a comment on line 65,537",
-            "",
-            "\n",
-            65_534,
-            "# seed 5\n",
-            0,
-            "ok",
-        ),
-        (
-            "no form on line 65,537",
-            "",
-            "\n",
-            65_534,
-            "frob\n",
-            65_537,
-            "UnknownWord",
-        ),
-        (
-            "a misplaced line 65,537",
-            "",
-            "\n",
-            65_534,
-            "scenario 1\n",
-            65_537,
-            "Misplaced",
-        ),
-        (
-            "an event on line 65,537",
-            "process p a:event",
-            "\n",
-            65_534,
-            "log a\n",
-            65_537,
-            "TooMany",
-        ),
-        (
-            "no variable on line 65,537",
-            "process p a",
-            "\n",
-            65_534,
-            "log b\n",
-            65_537,
-            "TooMany",
-        ),
-        (
-            "no variable on line 65,536",
-            "process p a",
-            "\n",
-            65_533,
-            "log b\n",
-            65_536,
-            "Unset",
-        ),
-        (
-            "no end by line 65,537",
-            "process p",
-            "\n",
-            65_535,
-            "",
-            65_538,
-            "Unclosed",
         ),
     ];
     for (what, first, again, times, last, line, kind) in cases {
@@ -1256,33 +898,57 @@ fn limits(rt: HostRuntime) -> Result<(), Fail> {
     Ok(())
 }
 
-/// The greatest texts. The header has 23 bytes.
+/// The last word of a text on the last line that may have words, or one below.
+#[test]
+fn many_lines(rt: HostRuntime) -> Result<(), Fail> {
+    let cases = [
+        ("line 65,536", "", 65_533, "seed 5\n", 0, "ok"),
+        ("one below", "", 65_534, "seed 5\n", 65_537, "TooMany"),
+        ("a comment below", "", 65_534, "# 5\n", 0, "ok"),
+        ("no form below", "", 65_534, "frob\n", 65_537, "UnknownWord"),
+        ("misplaced", "", 65_534, "scenario 1\n", 65_537, "Misplaced"),
+        (
+            "an event",
+            "process p a:event",
+            65_534,
+            "log a\n",
+            65_537,
+            "TooMany",
+        ),
+        (
+            "no variable",
+            "process p a",
+            65_534,
+            "log b\n",
+            65_537,
+            "TooMany",
+        ),
+        (
+            "one above",
+            "process p a",
+            65_533,
+            "log b\n",
+            65_536,
+            "Unset",
+        ),
+        ("unclosed", "process p", 65_535, "", 65_538, "Unclosed"),
+    ];
+    for (what, first, feeds, last, line, kind) in cases {
+        let told = answer_repeated(rt.alloc(), first, "\n", feeds, last)?;
+        assert_eq!(rt; told, (line, kind), "{what}");
+    }
+    Ok(())
+}
+
+/// The header has 23 bytes.
 #[test]
 fn long_texts(rt: HostRuntime) -> Result<(), Fail> {
     let cases = [
         ("4,194,304 bytes", "#", 4_194_280, 0, "ok"),
-        ("4,194,305 bytes", "#", 4_194_281, 0, "TooLong"),
-        (
-            "4,194,304 bytes and no form",
-            "frob #",
-            4_194_275,
-            3,
-            "UnknownWord",
-        ),
-        (
-            "4,194,305 bytes and no form",
-            "frob #",
-            4_194_276,
-            0,
-            "TooLong",
-        ),
-        (
-            "4,194,305 bytes and no text",
-            "\u{7f} #",
-            4_194_279,
-            0,
-            "TooLong",
-        ),
+        ("one more", "#", 4_194_281, 0, "TooLong"),
+        ("no form", "frob #", 4_194_275, 3, "UnknownWord"),
+        ("no form and one more", "frob #", 4_194_276, 0, "TooLong"),
+        ("no text and one more", "\u{7f} #", 4_194_279, 0, "TooLong"),
     ];
     for (what, first, times, line, kind) in cases {
         let told = answer_repeated(rt.alloc(), first, "x", times, "")?;
@@ -1297,15 +963,10 @@ fn many_processes(rt: HostRuntime) -> Result<(), Fail> {
     let cases = [
         ("256 processes", "start paa\nstart ppp\n", 0, "ok"),
         ("one more", "process q\nend\n", 515, "TooMany"),
-        (
-            "one more with a bad name",
-            "process Q\nend\n",
-            515,
-            "BadName",
-        ),
+        ("a bad name", "process Q\nend\n", 515, "BadName"),
         ("one of them again", "process ppp\nend\n", 515, "Duplicate"),
         (
-            "one more behind a start",
+            "behind a start",
             "start paa\nprocess q\nend\n",
             516,
             "Misplaced",
@@ -1315,33 +976,34 @@ fn many_processes(rt: HostRuntime) -> Result<(), Fail> {
         let told = answer_below_processes(rt.alloc(), below)?;
         assert_eq!(rt; told, (line, kind), "{what}");
     }
-    let parameters = [
+    Ok(())
+}
+
+#[test]
+fn many_parameters(rt: HostRuntime) -> Result<(), Fail> {
+    let cases = [
+        ("8", "process p a b c d e f g h\nend\n", 0, "ok"),
+        ("9", "process p a b c d e f g h i\nend\n", 3, "TooMany"),
         (
-            "8 parameters",
-            "process p a b c d e f g h\nlog h\nend\nstart p 1 2 3 4 5 6 7 8\n",
-            0,
-            "ok",
-        ),
-        (
-            "9 parameters",
-            "process p a b c d e f g h i\nend\n",
-            3,
-            "TooMany",
-        ),
-        (
-            "9 parameters of all classes",
+            "9 of all classes",
             "process p a:event b c:proc d e f g h i\nend\n",
             3,
             "TooMany",
         ),
         (
-            "9 parameters and a bad name",
+            "a bad name",
             "process p a b c d e f g h i:\nend\n",
             3,
             "BadName",
         ),
+        (
+            "8 arguments",
+            "process p a b c d e f g h\nlog h\nend\nstart p 1 2 3 4 5 6 7 8\n",
+            0,
+            "ok",
+        ),
     ];
-    for (what, below, line, kind) in parameters {
+    for (what, below, line, kind) in cases {
         let told = answer_below(rt.alloc(), below.as_bytes())?;
         assert_eq!(rt; told, (line, kind), "{what}");
     }
