@@ -108,3 +108,6 @@ fn fault(line: u32, kind: FaultKind) -> ReadError
 {
     ReadError::Fault(Fault { line, kind })
 }
+
+#[cfg(test)]
+mod tests;
