@@ -1,6 +1,0 @@
-//! Processes that do the statements of a scenario.
-#![tactic(auto)]
-
-mod script;
-
-pub use script::Script;
