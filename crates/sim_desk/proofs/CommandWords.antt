@@ -1,7 +1,13 @@
 -- Words that are a command, and words that are none.
 use Rattle.std.specs.Prelude.{◌≡◌, refl, [], ◌∷◌, codes, Some, None}
-use Rattle.sim_types.specs.declared.command.Command.TheVariants.{Run}
-use Rattle.sim_desk.specs.Words.{command}
+use Rattle.sim_types.specs.declared.command.Command.TheVariants.{Check, Run}
+use Rattle.sim_language.specs.Commands.{command}
+
+check : command (codes "check" ∷ []) ≡ Some Check
+check = refl
+
+check_with_a_number : command (codes "check" ∷ codes "5" ∷ []) ≡ None
+check_with_a_number = refl
 
 leading_zeros : command (codes "run" ∷ codes "00000007" ∷ []) ≡ Some (Run 7)
 leading_zeros = refl

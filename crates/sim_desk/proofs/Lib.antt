@@ -1,14 +1,8 @@
-pub mod Bounds
-mod CommandWords
-mod Digits
-mod FirstLines
-pub mod Processes
 pub mod LineTexts
-mod PlainScenarios
-pub mod SetupFits
-pub mod Telling
-mod WorkedRuns
-pub mod RoutineAsks
-pub mod RunUnits
 pub mod RunEnds
 pub mod RunTexts
+pub mod RunUnits
+pub mod ScriptsRun
+pub mod Telling
+mod CommandWords
+mod WorkedRuns

@@ -1,11 +1,3 @@
 pub mod Answers
-pub mod Asked
-pub mod Bounds
 pub mod Headline
-pub mod Names
-pub mod Numbers
-pub mod Plain
-pub mod Routine
-pub mod RoutineLaw
 pub mod StandsForRun
-pub mod Words

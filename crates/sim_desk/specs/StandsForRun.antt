@@ -1,31 +1,36 @@
--- How far the run of a sketch has come.
-use Rattle.std.specs.Prelude.{◌≡◌, ℕ, ◌+◌, List, length, drop, Option, Some, None, unwrap_or}
+-- How far the run of a scenario has come.
+use Rattle.std.specs.Prelude.{◌≡◌, ℕ, ◌+◌, List, [], length, drop, Option, Some, None, unwrap_or}
+use Rattle.sim_types.specs.Scenarios.{ScenarioOf}
 use Rattle.sim_types.specs.declared.line.End.{End}
 use Rattle.sim_types.specs.declared.line.End.TheVariants as end
 use Rattle.sim_types.specs.declared.line.Line.{Line}
+use Rattle.sim_types.specs.declared.setup.Until.TheVariants as until
 use Rattle.sim_kernel.specs.PartsOf.{PartsOf}
 use Rattle.sim_kernel.specs.StandsFor.{StandsFor, LawfulOf}
 use Rattle.sim_kernel.specs.declared.mode.Rest.{Rest}
 use Rattle.sim_kernel.specs.declared.mode.Rest.TheVariants as rest
-use Rattle.sim_desk.specs.declared.sketch.Sketch.{Sketch}
-use Rattle.sim_desk.specs.Routine.{RoutineOf, filled_routine, owned_routine, routine_tells, IsSoundRoutine}
-use Rattle.sim_desk.specs.Headline.{setup_of, run_of_sketch}
+use Rattle.sim_script_model.specs.Scripts.{Script}
+use Rattle.sim_script.specs.ScriptMembers.{filled_script, owned_script, script_tells, IsSoundScript}
+use Rattle.sim_desk.specs.Headline.{run_of_scenario}
 
--- the kernel was opened with the sketch, and stands for the lawful state that so many units of its run come to
-pub record StandsForRun (sketch : Sketch) (units : ℕ) (parts : PartsOf RoutineOf Sketch) : Type 0 where
-  pub code : parts.code ≡ sketch
-  pub setup : parts.setup ≡ setup_of sketch
-  pub seed : parts.seed ≡ 0
-  pub stands : StandsFor parts (run_of_sketch sketch units).state
-  pub lawful : LawfulOf filled_routine owned_routine routine_tells IsSoundRoutine parts (run_of_sketch sketch units).state
+-- the kernel was opened with the scenario, and stands for the lawful state that so many units of its run come to
+pub record StandsForRun (s : ScenarioOf) (units : ℕ) (parts : PartsOf Script ScenarioOf) : Type 0 where
+  pub code : parts.code ≡ s
+  pub setup : parts.setup ≡ s.setup
+  pub seed : parts.seed ≡ s.seed
+  -- nothing arrives, and nothing but want of events ends the run
+  pub journal : s.journal ≡ []
+  pub until : s.setup.until ≡ until.Never
+  pub stands : StandsFor parts (run_of_scenario s units).state
+  pub lawful : LawfulOf filled_script owned_script script_tells IsSoundScript parts (run_of_scenario s units).state
 
 -- the lines that so many units write
-abbrev pub lines_after : Sketch → ℕ → List Line
-lines_after sketch units = (run_of_sketch sketch units).state.lines
+abbrev pub lines_after : ScenarioOf → ℕ → List Line
+lines_after s units = (run_of_scenario s units).state.lines
 
 -- the lines that the unit after so many adds
-abbrev pub lines_added : Sketch → ℕ → List Line
-lines_added sketch units = drop (length (lines_after sketch units)) (lines_after sketch (units + 1))
+abbrev pub lines_added : ScenarioOf → ℕ → List Line
+lines_added s units = drop (length (lines_after s units)) (lines_after s (units + 1))
 
 -- how the run has ended, if it has, by where its kernel stands
 abbrev pub ended_at : Rest → Option End

@@ -1,19 +1,18 @@
 //! The top call.
-ghost use Rattle.std.specs.Prelude.{◌≡◌, ◌≢◌, ◌⊎◌, ◌↔◌, None, IsTrue, IfOk, OnOk, IsErrOf};
+ghost use Rattle.std.specs.Prelude.{◌≡◌, ◌≢◌, ◌⊎◌, ◌↔◌, None, Ok, Err, IsTrue, IfOk, IfSome, OnOk, IsErrOf};
 ghost use Rattle.std.specs.Io.KnownBytes.{Appends};
+ghost use Rattle.sim_language.specs.Commands.{command};
+ghost use Rattle.sim_language.specs.Texts.{fault_text, ok_text};
 ghost use Rattle.sim_outside.specs.Causes.{Rose};
 ghost use Rattle.sim_outside.specs.Writes.{AppendsPrefix};
-ghost use Rattle.sim_desk.specs.Headline.{answer_to, answer_of, status_of_end, status_of};
-ghost use Rattle.sim_desk.specs.Words.{command};
-ghost use Rattle.sim_desk.specs.Answers.{IfRun, is_whole, ReadsWhole, AnswersWhole, AnswersPrefix};
+ghost use Rattle.sim_desk.specs.Headline.{answer_to, answer_of, status_of_end, status_to, status_of};
+ghost use Rattle.sim_desk.specs.Answers.{is_whole, ReadsWhole, AnswersWhole, AnswersPrefix};
 
-use crate::command::command;
-use crate::reader::read_plain;
-use crate::run::{RunFault, run_sketch};
+use crate::run::{RunFault, run_scenario};
 use crate::text::render_fault;
-use crate::word::Word;
+use sim_code::{ReadError, Scenario, Word, command, read};
 use sim_outside::{Sink, Source, TakeFault, take_all, write_all};
-use sim_types::{Command, End, Fault, FaultKind, Status};
+use sim_types::{Command, End, Fault, Status};
 use std::alloc::Global;
 use std::thread::Threads;
 
@@ -21,7 +20,7 @@ use std::thread::Threads;
 const MOST_BYTES: u32 = 4_194_304;
 
 /// Carries out the command that the words say: reads from the source, and writes to the sink. The answer says how it
-/// ended. The first argument lends threads to commands that run on several; `run` needs none.
+/// ended. The first argument lends threads to commands that run on several; no command that is built needs them.
 #[tactic(auto, using(crate::proofs::Telling::whole_answer, crate::proofs::Telling::prefix_answer, crate::proofs::Telling::none_answered))]
 pub fn desk<S: Source, K: Sink, R: Threads + Sync>(
     _rt: &R,
@@ -30,11 +29,12 @@ pub fn desk<S: Source, K: Sink, R: Threads + Sync>(
     source: &mut S,
     out: &mut K,
 ) -> Status
-    // What `run LIMIT` prints is the trace of the machine on the text, and the status is that of its end.
-    ensures headline { IfRun (command words.now) (λ limit. IsTrue (is_whole result) → AnswersWhole limit (S.left source.old) (K.taken out.old) (K.taken out.new) result) }
+    // What is printed is the answer to the command on the text, and the status is that of it: for `run LIMIT` the trace of
+    // the machine on the scenario that the text says, for `check` that it says one, and else its first fault.
+    ensures headline { IfSome (command words.now) (λ asked. IsTrue (is_whole result) → AnswersWhole asked (S.left source.old) (K.taken out.old) (K.taken out.new) result) }
 
     // Whatever the status, what was written is a prefix of that.
-    ensures prefix { IfRun (command words.now) (λ limit. AnswersPrefix limit (S.left source.old) (K.taken out.old) (K.taken out.new)) }
+    ensures prefix { IfSome (command words.now) (λ asked. AnswersPrefix asked (S.left source.old) (K.taken out.old) (K.taken out.new)) }
 
     // Usage: exactly where the words are no command, and then nothing is read or written.
     ensures usage { result ≡ Status.Usage ↔ command words.now ≡ None }
@@ -56,9 +56,9 @@ pub fn desk<S: Source, K: Sink, R: Threads + Sync>(
     ensures read_whole { IsTrue (is_whole result) → ReadsWhole (S.left source.old) (S.left source.new) }
 
     // Where the words are a command and neither count rises, the whole answer is written, unless memory is wanting.
-    ensures complete { IfRun (command words.now) (λ limit. ¬ Rose (S.faults source.old) (S.faults source.new) → ¬ Rose (K.faults out.old) (K.faults out.new) → IsTrue (is_whole result) ⊎ (result ≡ Status.Memory)) }
+    ensures complete { IfSome (command words.now) (λ asked. ¬ Rose (S.faults source.old) (S.faults source.new) → ¬ Rose (K.faults out.old) (K.faults out.new) → IsTrue (is_whole result) ⊎ (result ≡ Status.Memory)) }
 {
-    let Some(Command::Run(limit)) = command(words) else {
+    let Some(asked) = command(words) else {
         return Status::Usage;
     };
     let text = match take_all(alloc, source, MOST_BYTES) {
@@ -66,51 +66,102 @@ pub fn desk<S: Source, K: Sink, R: Threads + Sync>(
         Err(TakeFault::Read) => return Status::ReadFault,
         Err(TakeFault::Memory) => return Status::Memory,
     };
-    match answer(alloc, text.as_slice(), limit, out) {
+    match answer(alloc, asked, text.as_slice(), out) {
         Ok(status) => status,
         Err(RunFault::Write) => Status::WriteFault,
         Err(RunFault::Memory) => Status::Memory,
     }
 }
 
-/// Writes the answer to a text, and says how the call ends.
+/// Writes the answer to the command on a text, and says how the call ends.
 #[tactic(auto, using(crate::proofs::Telling::none_written, crate::proofs::Telling::status_whole))]
-fn answer<K: Sink>(alloc: Global, text: &[u8], limit: u32, out: &mut K) -> Result<Status, RunFault>
-    ensures status { IfOk result (λ status. status ≡ status_of text.now limit) }
+fn answer<K: Sink>(
+    alloc: Global,
+    asked: Command,
+    text: &[u8],
+    out: &mut K,
+) -> Result<Status, RunFault>
+    ensures status { IfOk result (λ status. status ≡ status_of asked text.now) }
     ensures whole_status { IfOk result (λ status. IsTrue (is_whole status)) }
-    ensures whole { OnOk result (Appends (K.taken out.old) (K.taken out.new) (answer_of text.now limit)) }
-    ensures prefix { AppendsPrefix (K.taken out.old) (K.taken out.new) (answer_of text.now limit) }
+    ensures whole { OnOk result (Appends (K.taken out.old) (K.taken out.new) (answer_of asked text.now)) }
+    ensures prefix { AppendsPrefix (K.taken out.old) (K.taken out.new) (answer_of asked text.now) }
     ensures ok { OnOk result (K.faults out.new ≡ K.faults out.old) }
     ensures write { IsErrOf result RunFault.Write → Rose (K.faults out.old) (K.faults out.new) }
     ensures memory { IsErrOf result RunFault.Memory → K.faults out.new ≡ K.faults out.old }
 {
-    match read_plain(alloc, text)? {
-        Some(sketch) => {
-            let end = run_sketch(alloc, &sketch, limit, out)?;
-            Ok(status_of_end(end))
-        }
-        None => {
-            refuse(alloc, out)?;
+    match read(alloc, text) {
+        Ok(scenario) => carry_out(alloc, asked, &scenario, out),
+        Err(ReadError::Fault(fault)) => {
+            refuse(alloc, &fault, out)?;
             Ok(Status::Refused)
         }
+        Err(ReadError::Memory) => Err(RunFault::Memory),
     }
 }
 
-/// Writes that a text is no scenario.
-fn refuse<K: Sink>(alloc: Global, out: &mut K) -> Result<(), RunFault>
-    ensures whole { OnOk result (Appends (K.taken out.old) (K.taken out.new) (answer_to None 0)) }
-    ensures prefix { AppendsPrefix (K.taken out.old) (K.taken out.new) (answer_to None 0) }
+/// Carries out the command on a scenario, and says how the call ends.
+#[tactic(auto, using(crate::proofs::Telling::none_written))]
+fn carry_out<K: Sink>(
+    alloc: Global,
+    asked: Command,
+    scenario: &Scenario,
+    out: &mut K,
+) -> Result<Status, RunFault>
+    ensures status { IfOk result (λ status. status ≡ status_to asked (Ok scenario.now)) }
+    ensures whole { OnOk result (Appends (K.taken out.old) (K.taken out.new) (answer_to asked (Ok scenario.now))) }
+    ensures prefix { AppendsPrefix (K.taken out.old) (K.taken out.new) (answer_to asked (Ok scenario.now)) }
     ensures ok { OnOk result (K.faults out.new ≡ K.faults out.old) }
     ensures write { IsErrOf result RunFault.Write → Rose (K.faults out.old) (K.faults out.new) }
     ensures memory { IsErrOf result RunFault.Memory → K.faults out.new ≡ K.faults out.old }
 {
-    let fault = Fault {
-        line: 0,
-        kind: FaultKind::UnknownWord,
-    };
+    match asked {
+        Command::Check => {
+            accept(out)?;
+            Ok(Status::Ended)
+        }
+        Command::Run(limit) => {
+            let end = run_scenario(alloc, scenario, limit, out)?;
+            Ok(status_of_end(end))
+        }
+        // No words say one of these.
+        Command::Batch(_, _) | Command::Load(_) | Command::Live(_) => Ok(Status::Ended),
+    }
+}
+
+/// Writes that a text is a scenario.
+fn accept<K: Sink>(out: &mut K) -> Result<(), RunFault>
+    ensures whole { OnOk result (Appends (K.taken out.old) (K.taken out.new) ok_text) }
+    ensures prefix { AppendsPrefix (K.taken out.old) (K.taken out.new) ok_text }
+    ensures ok { OnOk result (K.faults out.new ≡ K.faults out.old) }
+    ensures write { IsErrOf result RunFault.Write → Rose (K.faults out.old) (K.faults out.new) }
+    ensures memory { IsErrOf result RunFault.Memory → K.faults out.new ≡ K.faults out.old }
+{
+    write_answer(b"ok\n", out)
+}
+
+/// Writes why a text is no scenario.
+#[tactic(auto, using(crate::proofs::Telling::none_written))]
+fn refuse<K: Sink>(alloc: Global, fault: &Fault, out: &mut K) -> Result<(), RunFault>
+    ensures whole { OnOk result (Appends (K.taken out.old) (K.taken out.new) (fault_text fault.now)) }
+    ensures prefix { AppendsPrefix (K.taken out.old) (K.taken out.new) (fault_text fault.now) }
+    ensures ok { OnOk result (K.faults out.new ≡ K.faults out.old) }
+    ensures write { IsErrOf result RunFault.Write → Rose (K.faults out.old) (K.faults out.new) }
+    ensures memory { IsErrOf result RunFault.Memory → K.faults out.new ≡ K.faults out.old }
+{
     let mut line = Vec::new(alloc);
-    render_fault(&fault, &mut line)?;
-    write_all(out, line.as_slice())?;
+    render_fault(fault, &mut line)?;
+    write_answer(line.as_slice(), out)
+}
+
+/// Writes a whole answer.
+fn write_answer<K: Sink>(answer: &[u8], out: &mut K) -> Result<(), RunFault>
+    ensures whole { OnOk result (Appends (K.taken out.old) (K.taken out.new) answer.now) }
+    ensures prefix { AppendsPrefix (K.taken out.old) (K.taken out.new) answer.now }
+    ensures ok { OnOk result (K.faults out.new ≡ K.faults out.old) }
+    ensures write { IsErrOf result RunFault.Write → Rose (K.faults out.old) (K.faults out.new) }
+    ensures memory { IsErrOf result RunFault.Memory → K.faults out.new ≡ K.faults out.old }
+{
+    write_all(out, answer)?;
     out.flush()?;
     Ok(())
 }

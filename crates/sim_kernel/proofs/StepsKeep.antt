@@ -199,16 +199,16 @@ active_told {B} g tell sound s e left p x y active found h =
     let fits : is_told_well tell c p y.body (Active e left p x) ≡ true = subst (λ k. is_told_well tell c p y.body k ≡ true) active (subst (λ q. is_told_well tell c q y.body s.control ≡ true) (is_process-yes y.id p has.1) has.0) in
     fits_told tell c y.body x (running_fits tell c e p x y.body (Active e left p x) (refl, refl, refl) fits)
 
-keeps_polled : {B : Type 0} (f : CodeFacts) (g : Plan B) (tell : Telling B) (sound : B → Type 0) (turn : Turn B) (s t : State B) (e : EventId) (left : List Callback) (p : ProcId) (x : Signal) → IsLawfulBody f tell sound g.start turn → AsksForBuilt turn → Lawful g tell sound s → registers_built (calendar s) → are_built (left_of s.control) → s.control ≡ Active e left p x → IsPoll g turn p x s t → StepKeeps g tell sound s t
+keeps_polled : {B : Type 0} (f : CodeFacts) (g : Plan B) (tell : Telling B) (sound : B → Type 0) (turn : Turn B) (s t : State B) (e : EventId) (left : List Callback) (p : ProcId) (x : Signal) → IsLawfulBody f tell sound g.start turn → AsksForBuilt sound turn → Lawful g tell sound s → registers_built (calendar s) → are_built (left_of s.control) → s.control ≡ Active e left p x → IsPoll g turn p x s t → StepKeeps g tell sound s t
 keeps_polled {B} f g tell sound turn s t e left p x law asks h registered later active i =
     let y = i.process in
     let time = (calendar s).time in
     let sb : sound y.body = (found_has (λ (z : ProcessOf B). sound z.body) (λ z. is_process z.id p) s.processes y i.found h.bodies.bodies).0 in
     let told : may_be_told (tell.last y.body) x ≡ true = active_told g tell sound s e left p x y active i.found h in
     subst (StepKeeps g tell sound s) (sym i.then_is)
-    (keeps_asked g tell sound s f e left p x y i.body i.asked (asks.asks y.body time x i.asked i.body i.turned) active i.found (law.keeps y.body time x i.asked i.body sb told i.turned) h (law.polls y.body time x i.asked i.body sb told i.turned) registered later)
+    (keeps_asked g tell sound s f e left p x y i.body i.asked (asks.asks y.body time x i.asked i.body sb i.turned) active i.found (law.keeps y.body time x i.asked i.body sb told i.turned) h (law.polls y.body time x i.asked i.body sb told i.turned) registered later)
 
-keeps_at : {B : Type 0} (f : CodeFacts) (g : Plan B) (tell : Telling B) (sound : B → Type 0) (turn : Turn B) (s t : State B) (c : Control) → IsLawfulBody f tell sound g.start turn → AsksForBuilt turn → Lawful g tell sound s → registers_built (calendar s) → are_built (left_of s.control) → s.control ≡ c → IsStepAt g turn s t c → StepKeeps g tell sound s t
+keeps_at : {B : Type 0} (f : CodeFacts) (g : Plan B) (tell : Telling B) (sound : B → Type 0) (turn : Turn B) (s t : State B) (c : Control) → IsLawfulBody f tell sound g.start turn → AsksForBuilt sound turn → Lawful g tell sound s → registers_built (calendar s) → are_built (left_of s.control) → s.control ≡ c → IsStepAt g turn s t c → StepKeeps g tell sound s t
 keeps_at f g tell sound turn s t Idle law asks h registered left is i =
     subst (StepKeeps g tell sound s) (sym i.then_is) (keeps_from g tell sound s (pop_entry i.entry s) (lawful-popped g tell sound s i.entry is i.is_due h) (pop_adds s i.entry registered))
 keeps_at f g tell sound turn s t (Calling e []) law asks h registered left is i = subst (StepKeeps g tell sound s) (sym i) (keeps_settled g tell sound s e is h registered)
@@ -219,5 +219,5 @@ keeps_at f g tell sound turn s t (Calling e (x ∷ later)) law asks h registered
 keeps_at f g tell sound turn s t (Active e later p x) law asks h registered left is i = keeps_polled f g tell sound turn s t e later p x law asks h registered left is i
 keeps_at f g tell sound turn s t (Over why e later) law asks h registered left is i = absurd i
 
-pub step_keeps : {B : Type 0} (f : CodeFacts) (g : Plan B) (tell : Telling B) (sound : B → Type 0) (turn : Turn B) (s t : State B) → IsLawfulBody f tell sound g.start turn → AsksForBuilt turn → Lawful g tell sound s → AllPass (λ r. is_built_callback r.callback) s.facilities.calendar.registered → AllPass is_built_callback (left_of s.control) → IsStep g turn s t → StepKeeps g tell sound s t
+pub step_keeps : {B : Type 0} (f : CodeFacts) (g : Plan B) (tell : Telling B) (sound : B → Type 0) (turn : Turn B) (s t : State B) → IsLawfulBody f tell sound g.start turn → AsksForBuilt sound turn → Lawful g tell sound s → AllPass (λ r. is_built_callback r.callback) s.facilities.calendar.registered → AllPass is_built_callback (left_of s.control) → IsStep g turn s t → StepKeeps g tell sound s t
 step_keeps f g tell sound turn s t law asks h registered left step = keeps_at f g tell sound turn s t s.control law asks h registered left refl step

@@ -7,7 +7,7 @@ use Rattle.sim_types.specs.declared.setup.Until.{Until}
 use Rattle.sim_types.specs.declared.setup.Until.TheVariants as until
 use Rattle.sim_types.specs.declared.op.Op.{Op}
 use Rattle.sim_types.specs.declared.op.Op.TheVariants as op
-use Rattle.sim_machine.proofs.PlainBodies.{is_plain}
+use Rattle.sim_machine.proofs.PlainBodies.{is_plain, IsPlainBody}
 use Rattle.sim_machine.specs.Setups.{FitsCode, start_fits, until_fits, resource_fits, port_fits}
 use Rattle.sim_kernel.specs.Travellers.{traveller_facts, IsTravellerTurn, next_is_plain}
 use Rattle.sim_kernel.specs.Clocks.{clock_facts, IsClockTurn, tick_plain}
@@ -39,11 +39,11 @@ land_fits until starts fits few pass =
     }
 
 -- travellers and clocks ask for operations that are built
-pub travellers_ask_for_built : AsksForBuilt IsTravellerTurn
-travellers_ask_for_built = record { asks = λ b time told asked later turned. rw turned.0 (plain_built _ (next_is_plain b told)) }
+pub travellers_ask_for_built : AsksForBuilt (IsPlainBody (λ b. b.last)) IsTravellerTurn
+travellers_ask_for_built = record { asks = λ b time told asked later sound turned. rw turned.0 (plain_built _ (next_is_plain b told)) }
 
-pub clocks_ask_for_built : (pace : ℤ) → AsksForBuilt (IsClockTurn pace)
-clocks_ask_for_built pace = record { asks = λ b time told asked later turned. rw turned.0 (plain_built _ (tick_plain pace time b.last)) }
+pub clocks_ask_for_built : (pace : ℤ) → AsksForBuilt (IsPlainBody (λ b. b.last)) (IsClockTurn pace)
+clocks_ask_for_built pace = record { asks = λ b time told asked later sound turned. rw turned.0 (plain_built _ (tick_plain pace time b.last)) }
 
 -- a setup with one clock
 pub clock_start_fits : FitsCode clock_facts (record { until = until.Never; events = 0; resources = []; ports = []; starts = record { kind = 0; args = [] } ∷ [] })

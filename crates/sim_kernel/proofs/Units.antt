@@ -37,14 +37,14 @@ opened_lawful : {B Code : Type 0} (filled : Code → ℕ → List ℤ → B) (ow
 opened_lawful filled owned tell sound old new s opened h = rw (opened.code, opened.setup, opened.seed) h
 
 -- what a step from a state that the kernel stood for keeps
-kept : {B Code : Type 0} (f : CodeFacts) (filled : Code → ℕ → List ℤ → B) (owned : B → ProcId → B) (tell : Code → Telling B) (sound : Code → B → Type 0) (turn : Turn B) (old : PartsOf B Code) (s t : State B) → IsLawfulBody f (tell old.code) (sound old.code) (λ kind args id. owned (filled old.code kind args) id) turn → AsksForBuilt turn → HasBuiltCallbacks old → LawfulOf filled owned tell sound old s → StandsFor old s → IsStep (plan_of filled owned old) turn s t → StepKeeps (plan_of filled owned old) (tell old.code) (sound old.code) s t
+kept : {B Code : Type 0} (f : CodeFacts) (filled : Code → ℕ → List ℤ → B) (owned : B → ProcId → B) (tell : Code → Telling B) (sound : Code → B → Type 0) (turn : Turn B) (old : PartsOf B Code) (s t : State B) → IsLawfulBody f (tell old.code) (sound old.code) (λ kind args id. owned (filled old.code kind args) id) turn → AsksForBuilt (sound old.code) turn → HasBuiltCallbacks old → LawfulOf filled owned tell sound old s → StandsFor old s → IsStep (plan_of filled owned old) turn s t → StepKeeps (plan_of filled owned old) (tell old.code) (sound old.code) s t
 kept f filled owned tell sound turn old s t law asks built lawful stands step =
     step_keeps f (plan_of filled owned old) (tell old.code) (sound old.code) turn s t law asks lawful
     (subst (AllPass (λ r. is_built_callback r.callback)) stands.calendar.registered built.registered)
     (subst (λ c. AllPass is_built_callback (left_of c)) stands.control built.left)
     step
 
-pub unit_steps : {B Code : Type 0} (f : CodeFacts) (filled : Code → ℕ → List ℤ → B) (owned : B → ProcId → B) (tell : Code → Telling B) (sound : Code → B → Type 0) (turn : Turn B) (old : PartsOf B Code) (room : RoomOf) (answer : Unit) (new : PartsOf B Code) → IsLawfulBody f (tell old.code) (sound old.code) (λ kind args id. owned (filled old.code kind args) id) turn → AsksForBuilt turn → HasBuiltCallbacks old → Moves filled owned tell sound (IsStep (plan_of filled owned old) turn) (record old { room = room }) answer new → IsOpenedAs (record old { room = room }) new → MakesStep filled owned tell sound (IsStep (plan_of filled owned old) turn) old answer new
+pub unit_steps : {B Code : Type 0} (f : CodeFacts) (filled : Code → ℕ → List ℤ → B) (owned : B → ProcId → B) (tell : Code → Telling B) (sound : Code → B → Type 0) (turn : Turn B) (old : PartsOf B Code) (room : RoomOf) (answer : Unit) (new : PartsOf B Code) → IsLawfulBody f (tell old.code) (sound old.code) (λ kind args id. owned (filled old.code kind args) id) turn → AsksForBuilt (sound old.code) turn → HasBuiltCallbacks old → Moves filled owned tell sound (IsStep (plan_of filled owned old) turn) (record old { room = room }) answer new → IsOpenedAs (record old { room = room }) new → MakesStep filled owned tell sound (IsStep (plan_of filled owned old) turn) old answer new
 unit_steps f filled owned tell sound turn old room answer new law asks built moves opened =
     record {
       each = λ s lawful stands.
@@ -74,7 +74,7 @@ unit_bounded units old new s t before after events scheduled processed h =
     one_unit : (units before after : ℕ) → after ≤ before + 1 → before ≤ units → after ≤ units + 1
     one_unit units before after x y = omega (arith)
 
-pub unit_holds : {B Code : Type 0} (f : CodeFacts) (filled : Code → ℕ → List ℤ → B) (owned : B → ProcId → B) (tell : Code → Telling B) (sound : Code → B → Type 0) (turn : Turn B) (units : ℕ) (old : PartsOf B Code) (room : RoomOf) (answer : Unit) (new : PartsOf B Code) → IsLawfulBody f (tell old.code) (sound old.code) (λ kind args id. owned (filled old.code kind args) id) turn → AsksForBuilt turn → Holds filled owned tell sound units old → Moves filled owned tell sound (IsStep (plan_of filled owned old) turn) (record old { room = room }) answer new → IsOpenedAs (record old { room = room }) new → Holds filled owned tell sound (units + 1) new
+pub unit_holds : {B Code : Type 0} (f : CodeFacts) (filled : Code → ℕ → List ℤ → B) (owned : B → ProcId → B) (tell : Code → Telling B) (sound : Code → B → Type 0) (turn : Turn B) (units : ℕ) (old : PartsOf B Code) (room : RoomOf) (answer : Unit) (new : PartsOf B Code) → IsLawfulBody f (tell old.code) (sound old.code) (λ kind args id. owned (filled old.code kind args) id) turn → AsksForBuilt (sound old.code) turn → Holds filled owned tell sound units old → Moves filled owned tell sound (IsStep (plan_of filled owned old) turn) (record old { room = room }) answer new → IsOpenedAs (record old { room = room }) new → Holds filled owned tell sound (units + 1) new
 unit_holds f filled owned tell sound turn units old room answer new law asks h moves opened =
     let s = h.stands.state in
     let later = moves.each s h.stands.lawful (roomier_stands old room s h.stands.stands) in

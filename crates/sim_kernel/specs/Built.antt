@@ -19,9 +19,9 @@ is_built (op.Finish value) = true
 is_built (op.Die what) = true
 is_built _ = false
 
--- a body that asks for operations that are built, and for no others
-pub record AsksForBuilt {B : Type 0} (turn : B → ℤ → Signal → Op → B → Type 0) : Type 0 where
-  pub asks : (b : B) (time : ℤ) (told : Signal) (asked : Op) (later : B) → turn b time told asked later → IsTrue (is_built asked)
+-- a body that in its sound states asks for operations that are built, and for no others
+pub record AsksForBuilt {B : Type 0} (sound : B → Type 0) (turn : B → ℤ → Signal → Op → B → Type 0) : Type 0 where
+  pub asks : (b : B) (time : ℤ) (told : Signal) (asked : Op) (later : B) → sound b → turn b time told asked later → IsTrue (is_built asked)
 
 -- the callbacks that come from such operations, and from what stops a run
 abbrev pub is_built_callback : Callback → Bool

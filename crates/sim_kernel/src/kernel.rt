@@ -73,7 +73,7 @@ impl<B: Body> Kernel<B> {
     pub fn unit(&mut self, code: &B::Code) -> Result<Unit, AllocError>
         requires code { code.now ≡ self.old.parts.code }
         requires can { IsTrue (can_step (rest_of self.old.parts.control self.old.parts.calendar.agenda)) }
-        requires asks { AsksForBuilt (B.turn code.now) }
+        requires asks { AsksForBuilt (B.sound code.now) (B.turn code.now) }
         requires units { self.old.units < 2 ^ 32 }
         // From each lawful state that it stood for, and by the invariant there is one.
         ensures steps { IfOk result (λ unit. MakesStep B.filled B.owned B.tell B.sound (IsStep (plan_of B.filled B.owned self.old.parts) (B.turn code.now)) self.old.parts unit self.new.parts) }

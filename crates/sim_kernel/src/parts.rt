@@ -9,7 +9,7 @@ ghost use Rattle.sim_machine.specs.Effect.{drawn_number};
 ghost use Rattle.sim_machine.specs.Standing.{left_of};
 ghost use Rattle.sim_machine.specs.Triggering.{is_too_late};
 ghost use Rattle.sim_procs.specs.RecordOf.{record_of};
-ghost use Rattle.sim_kernel.specs.Built.{AsksForBuilt, HasBuiltCallbacks};
+ghost use Rattle.sim_kernel.specs.Built.{AsksForBuilt, is_built, HasBuiltCallbacks};
 ghost use Rattle.sim_kernel.specs.CalendarOf.{HasRoom};
 ghost use Rattle.sim_kernel.specs.Resting.{can_step, rest_of};
 ghost use Rattle.sim_kernel.specs.Polling.{Asks, Pauses, Ends};
@@ -223,13 +223,15 @@ impl<B: Body> Parts<B> {
         self.rest(event);
     }
 
-    // Polls the running process: it is told this, and asks for an operation.
+    // Polls the running process: it is told this, and asks for an operation, which is built.
     fn ask(&mut self, code: &B::Code, event: EventId, process: ProcId, told: Signal) -> Op
         requires code { code.now ≡ self.old.code }
         requires stands { StandsForSome B.filled B.owned B.tell B.sound self.old }
         requires running { IsRunning event process told self.old.control }
+        requires built { AsksForBuilt (B.sound code.now) (B.turn code.now) }
         requires events { length self.old.calendar.events < 2 ^ 62 }
         ensures asked { Asks (B.turn self.old.code) process told self.old result self.new }
+        ensures built { IsTrue (is_built result) }
         ensures opened { IsOpenedAs self.old self.new }
     {
         let time = self.calendar.time();
@@ -242,7 +244,7 @@ impl<B: Body> Parts<B> {
         requires code { code.now ≡ self.old.code }
         requires stands { StandsForSome B.filled B.owned B.tell B.sound self.old }
         requires running { IsRunning event process told self.old.control }
-        requires built { AsksForBuilt (B.turn code.now) }
+        requires built { AsksForBuilt (B.sound code.now) (B.turn code.now) }
         requires room { HasRoom 1 self.old.room.calendar }
         requires events { length self.old.calendar.events < 2 ^ 62 }
         requires number { self.old.calendar.scheduled < 2 ^ 62 }
@@ -286,7 +288,7 @@ impl<B: Body> Parts<B> {
         requires code { code.now ≡ self.old.code }
         requires stands { StandsForSome B.filled B.owned B.tell B.sound self.old }
         requires can { IsTrue (can_step (rest_of self.old.control self.old.calendar.agenda)) }
-        requires asks { AsksForBuilt (B.turn code.now) }
+        requires asks { AsksForBuilt (B.sound code.now) (B.turn code.now) }
         requires built { HasBuiltCallbacks self.old }
         requires room { HasUnitRoom self.old }
         requires events { length self.old.calendar.events < 2 ^ 62 }

@@ -92,3 +92,7 @@ trace_text ports lines = flat_map (line_text ports) lines
 -- the line of a fault, counted from 1, or 0 for the text as a whole
 abbrev pub fault_text : Fault → List ℕ
 fault_text f = written (codes "fault" ∷ decimal f.line ∷ fault_word f.kind ∷ [])
+
+-- that a text is accepted
+abbrev pub ok_text : List ℕ
+ok_text = written (codes "ok" ∷ [])

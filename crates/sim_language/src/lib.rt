@@ -1,2 +1,9 @@
-//! The definitions of the texts that are read and written. They stand in specs/.
+//! The scenario language: which texts are scenarios and what they say, why other texts are refused, and the lines that
+//! are written. The words stand here as plain types; all else are definitions for contracts.
 #![tactic(auto)]
+
+mod form;
+mod shape;
+
+pub use form::{Form, Meaning, Section, Sort};
+pub use shape::{Choice, Fixed, Item, Reference, Role};

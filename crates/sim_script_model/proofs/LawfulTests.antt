@@ -199,8 +199,8 @@ abbrev pub state_breaches : ScenarioOf → State Script → List Fact
 state_breaches x s =
     let c = s.facilities.calendar in
     time_breaches c ++ registration_breaches c s.control ++ process_breaches x.setup.events s ++ interruption_breaches s
-    ++ waiting_breaches x.setup.resources (script_telling x.kinds) s ++ capacity_breaches x.setup.resources s.facilities
-    ++ condition_breaches c s.control ++ body_breaches x (script_telling x.kinds) s ++ chain_breaches c s.control
+    ++ waiting_breaches x.setup.resources script_telling s ++ capacity_breaches x.setup.resources s.facilities
+    ++ condition_breaches c s.control ++ body_breaches x script_telling s ++ chain_breaches c s.control
 
 -- whether an operation was asked for
 abbrev pub was_polled : Option Op → Bool
@@ -223,7 +223,7 @@ abbrev pub process_turn_breaches : ScenarioOf → ℤ → Signal → Option (Pro
 process_turn_breaches x time told None = ActiveFound ∷ []
 process_turn_breaches x time told (Some y) =
     breach SoundAfter (is_sound x.kinds x.code (script_turn x.code y.body time told).1)
-    ++ turn_breaches (facts_of x) (script_telling x.kinds) y.body told (script_turn x.code y.body time told)
+    ++ turn_breaches (facts_of x) script_telling y.body told (script_turn x.code y.body time told)
 
 -- what is broken of the poll that comes next, where one does
 abbrev pub poll_breaches : ScenarioOf → State Script → Control → List Fact

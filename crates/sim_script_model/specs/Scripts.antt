@@ -38,6 +38,8 @@ pub record Script : Type 0 where
   pub me : ProcId
   -- its kind, by its place in the scenario
   pub kind : ℕ
+  -- the classes of its variables
+  pub classes : List Class
   -- the statement that comes next
   pub place : ℕ
   -- 64 of them; the first is `val`, then come the parameters; an event is held by its number
@@ -116,12 +118,19 @@ first_place [] k = 0
 first_place (x ∷ xs) zero = x.first
 first_place (x ∷ xs) (suc k) = first_place xs k
 
+-- the classes of the variables of a process kind
+abbrev pub classes_at : List Kind → ℕ → List Class
+classes_at [] k = []
+classes_at (x ∷ xs) zero = x.classes
+classes_at (x ∷ xs) (suc k) = classes_at xs k
+
 -- how a process of a kind begins: with its arguments in the parameters and 0 in all other variables
 abbrev pub script_start : List Kind → ℕ → List ℤ → ProcId → Script
 script_start kinds k args p =
     record {
       me = p;
       kind = k;
+      classes = classes_at kinds k;
       place = first_place kinds k;
       variables = pos 0 ∷ args ++ replicate (63 - length args) (pos 0);
       frames = [];
@@ -130,12 +139,6 @@ script_start kinds k args p =
     }
 
 -- ---- what a script tells of itself
-
--- the classes of the variables of a process kind
-abbrev pub classes_at : List Kind → ℕ → List Class
-classes_at [] k = []
-classes_at (x ∷ xs) zero = x.classes
-classes_at (x ∷ xs) (suc k) = classes_at xs k
 
 -- the variables as places; a number holds no event
 abbrev pub places_of : List Class → List ℤ → List Place
@@ -149,11 +152,11 @@ requests_in (InScope request ∷ frames) = request ∷ requests_in frames
 requests_in (_ ∷ frames) = requests_in frames
 
 -- what a script tells of itself
-abbrev pub script_telling : List Kind → Telling Script
-script_telling kinds =
+abbrev pub script_telling : Telling Script
+script_telling =
     record {
       own = λ b. b.me;
-      places = λ b. places_of (classes_at kinds b.kind) b.variables;
+      places = λ b. places_of b.classes b.variables;
       scopes = λ b. reverse (requests_in b.frames);
       last = λ b. b.asked;
     }

@@ -1,5 +1,5 @@
 //! Lists that contracts see as lists.
-ghost use Rattle.std.specs.Prelude.{◌≡◌, ℕ, ◌+◌, ◌<◌, ◌↔◌, IsTrue, List, [], ◌∷◌, ◌++◌, length, OnOk, OnErr, slice_get, option_copied, cond, nat_lt};
+ghost use Rattle.std.specs.Prelude.{◌≡◌, ℕ, ◌+◌, ◌<◌, ◌↔◌, IsTrue, List, [], ◌∷◌, ◌++◌, length, IfOk, OnOk, OnErr, slice_get, option_copied, cond, nat_lt};
 
 use crate::event::EventId;
 use std::alloc::{AllocError, Global};
@@ -86,6 +86,23 @@ impl Model for Name {
     ghost Value = { List ℕ };
 
     ghost view = { λ a. a.bytes };
+}
+
+impl Name {
+    /// A name of these bytes.
+    pub fn new(alloc: Global, bytes: &[u8]) -> Result<Name, AllocError>
+        ensures { IfOk result (λ name. name ≡ bytes.now) }
+    {
+        Ok(Name {
+            bytes: List::from_vec(Vec::from_slice(alloc, bytes)?),
+        })
+    }
+
+    pub fn bytes(&self) -> &[u8]
+        ensures { result.now ≡ self.now }
+    {
+        self.bytes.as_slice()
+    }
 }
 
 /// At most eight numbers.

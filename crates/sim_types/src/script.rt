@@ -1,5 +1,6 @@
 //! Scripts: the statements of the processes of a scenario.
-use crate::event::EventId;
+ghost use Rattle.std.specs.Prelude.{◌≡◌, ◌<◌, ◌↔◌, IsTrue, [], ◌∷◌, ◌++◌, length, cond, nat_lt};
+
 use crate::setup::Classes;
 use std::marker::Model;
 
@@ -60,6 +61,38 @@ impl Model for Refs {
     ghost invariant = { λ a. a.len ≤ 16 };
 }
 
+impl Refs {
+    pub fn new() -> Refs
+        ensures { result ≡ [] }
+    {
+        Refs {
+            values: [Ref::Me; 16],
+            len: 0,
+        }
+    }
+
+    /// The events, in order.
+    pub fn as_slice(&self) -> &[Ref]
+        ensures { result.now ≡ self.now }
+    {
+        &self.values[..self.len]
+    }
+
+    /// False where sixteen are held.
+    pub fn push(&mut self, value: Ref) -> bool
+        ensures room { IsTrue result ↔ length self.old < 16 }
+        ensures new { self.new ≡ cond (nat_lt (length self.old) 16) (self.old ++ value ∷ []) self.old }
+    {
+        if self.len < 16 {
+            self.values[self.len] = value;
+            self.len += 1;
+            true
+        } else {
+            false
+        }
+    }
+}
+
 /// At most 8 arguments, in place.
 #[derive(Drop)]
 pub struct SpawnArgs {
@@ -76,6 +109,38 @@ impl Model for SpawnArgs {
     ghost view = { λ a. take a.len a.values };
 
     ghost invariant = { λ a. a.len ≤ 8 };
+}
+
+impl SpawnArgs {
+    pub fn new() -> SpawnArgs
+        ensures { result ≡ [] }
+    {
+        SpawnArgs {
+            values: [SpawnArg::Num(Num::Now); 8],
+            len: 0,
+        }
+    }
+
+    /// The arguments, in order.
+    pub fn as_slice(&self) -> &[SpawnArg]
+        ensures { result.now ≡ self.now }
+    {
+        &self.values[..self.len]
+    }
+
+    /// False where eight are held.
+    pub fn push(&mut self, value: SpawnArg) -> bool
+        ensures room { IsTrue result ↔ length self.old < 8 }
+        ensures new { self.new ≡ cond (nat_lt (length self.old) 8) (self.old ++ value ∷ []) self.old }
+    {
+        if self.len < 8 {
+            self.values[self.len] = value;
+            self.len += 1;
+            true
+        } else {
+            false
+        }
+    }
 }
 
 /// A statement. Variables are told by their places, resources and process kinds by theirs in the scenario, and where to

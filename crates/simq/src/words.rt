@@ -1,5 +1,5 @@
 //! The words that the program is called with.
-use sim_desk::Word;
+use sim_code::Word;
 use std::alloc::{AllocError, Global};
 use std::env::{Env, FillError};
 use std::str;

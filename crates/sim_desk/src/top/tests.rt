@@ -13,7 +13,7 @@ const ONE_TIMEOUT: &str = "scenario 1\nuntil empty\nprocess p\ntimeout 5\nlog no
 const ONE_TIMEOUT_TRACE: &str =
     "@0 0 0 init 2 ok 0\n@5 1 1 timeout 3 ok 0\nlog 5 1 5\n@5 1 2 process 1 ok 0\nend empty 5 3\n";
 
-const REFUSAL: &str = "fault 0 UnknownWord\n";
+const BAD_HEADER: &str = "fault 1 BadHeader\n";
 
 /// A source of the text that gives at most `piece` bytes a read, and whose reads with these numbers fail.
 fn source_of(alloc: Global, text: &str, piece: u32, fails: &[u64]) -> Result<MemSource, Fail>
@@ -104,28 +104,68 @@ fn answers_texts(rt: HostRuntime) -> Result<(), Fail> {
             5,
             "@0 0 0 init 2 ok 0\nend limit 0 1\n",
         ),
-        ("no text", "run 1000", "", 3, REFUSAL),
+        // The init events are 2 and 4, and the timeout is 5. Process 3 ends at once.
         (
-            "another statement",
+            "two processes",
             "run 1000",
-            "scenario 1\nuntil empty\nfrob\n",
-            3,
-            REFUSAL,
+            "scenario 1\nuntil empty\nseed 7\nprocess p pause # in minutes\ntimeout pause\nlog pause\nend\nprocess q\nlog -3\nend\nstart p 5\nstart q\n",
+            0,
+            "@0 0 0 init 2 ok 0\n@0 0 1 init 4 ok 0\nlog 0 3 -3\n@0 1 3 process 3 ok 0\n@5 1 2 timeout 5 ok 0\nlog 5 1 5\n@5 1 4 process 1 ok 0\nend empty 5 5\n",
+        ),
+        // A negative delay is error 1, which nobody catches.
+        (
+            "a failure",
+            "run 1000",
+            "scenario 1\nuntil empty\nprocess p\nlog 8\ntimeout -1\nend\nstart p\n",
+            4,
+            "@0 0 0 init 2 ok 0\nlog 0 1 8\n@0 1 1 process 1 fail 4 1\nend crash 0 2\n",
         ),
         (
             "no last line feed",
             "run 1000",
             "scenario 1\nuntil empty",
+            0,
+            "end empty 0 0\n",
+        ),
+        (
+            "another layout",
+            "run 1000",
+            "# a shop\r\nscenario 1\r\nuntil empty\r\nprocess p\r\ntimeout 5\r\nlog now\r\nend\r\nstart p",
+            0,
+            ONE_TIMEOUT_TRACE,
+        ),
+        (
+            "an open process",
+            "run 1000",
+            "scenario 1\nuntil empty\nprocess p\ntimeout 5\nlog now\n",
             3,
-            REFUSAL,
+            "fault 6 Unclosed\n",
+        ),
+        ("no text", "run 1000", "", 3, BAD_HEADER),
+        (
+            "another statement",
+            "run 1000",
+            "scenario 1\nuntil empty\nfrob\n",
+            3,
+            "fault 3 UnknownWord\n",
         ),
         (
             "a start of another name",
             "run 1000",
             "scenario 1\nuntil empty\nprocess p\nend\nstart q\n",
             3,
-            REFUSAL,
+            "fault 5 UnknownName\n",
         ),
+        ("a check", "check", "scenario 1\nuntil empty\n", 0, "ok\n"),
+        ("a check of a process", "check", ONE_TIMEOUT, 0, "ok\n"),
+        (
+            "a check of another statement",
+            "check",
+            "scenario 1\nuntil empty\nfrob\n",
+            3,
+            "fault 3 UnknownWord\n",
+        ),
+        ("a check of no text", "check", "", 3, BAD_HEADER),
     ];
     for (what, line, text, code, answer) in cases {
         let mut source = source_of(rt.alloc(), text, 8192, &[])?;
@@ -146,8 +186,10 @@ fn other_words_touch_nothing(rt: HostRuntime) -> Result<(), Fail> {
         "run 5 5",
         "walk",
         "live 5",
-        "check",
+        "check 5",
+        "check check",
         "Run 5",
+        "Check",
     ];
     for line in lines {
         let mut source = source_of(rt.alloc(), ONE_TIMEOUT, 8192, &[0])?;
@@ -185,26 +227,26 @@ fn reads_by_pieces(rt: HostRuntime) -> Result<(), Fail> {
 #[test]
 fn writes_what_fits(rt: HostRuntime) -> Result<(), Fail> {
     let cases = [
-        (ONE_TIMEOUT, 0, ONE_TIMEOUT_TRACE),
-        ("scenario 2\n", 3, REFUSAL),
+        ("run 1000", ONE_TIMEOUT, 0, ONE_TIMEOUT_TRACE),
+        ("run 1000", "scenario 2\n", 3, BAD_HEADER),
+        ("check", ONE_TIMEOUT, 0, "ok\n"),
+        ("check", "scenario 2\n", 3, BAD_HEADER),
     ];
-    for (text, code, answer) in cases {
+    for (line, text, code, answer) in cases {
         for room in 0..answer.len() {
             let mut source = source_of(rt.alloc(), text, 8192, &[])?;
-            let (status, sink) = call(&rt, rt.alloc(), "run 1000", &mut source, room as u64)?;
-            assert_eq!(rt; status.code(), 7, "room {room}");
-            assert_eq!(rt; sink.bytes(), &answer.as_bytes()[..room], "room {room}");
+            let (status, sink) = call(&rt, rt.alloc(), line, &mut source, room as u64)?;
+            assert_eq!(rt; status.code(), 7, "{line} room {room}");
+            assert_eq!(rt;
+                sink.bytes(),
+                &answer.as_bytes()[..room],
+                "{line} room {room}"
+            );
         }
         let mut source = source_of(rt.alloc(), text, 8192, &[])?;
-        let (status, sink) = call(
-            &rt,
-            rt.alloc(),
-            "run 1000",
-            &mut source,
-            answer.len() as u64,
-        )?;
-        assert_eq!(rt; status.code(), code, "at {text}");
-        assert_eq!(rt; sink.bytes(), answer.as_bytes(), "at {text}");
+        let (status, sink) = call(&rt, rt.alloc(), line, &mut source, answer.len() as u64)?;
+        assert_eq!(rt; status.code(), code, "{line} at {text}");
+        assert_eq!(rt; sink.bytes(), answer.as_bytes(), "{line} at {text}");
     }
     Ok(())
 }
@@ -214,11 +256,13 @@ fn writes_what_fits(rt: HostRuntime) -> Result<(), Fail> {
 fn reads_no_more_than_it_needs(rt: HostRuntime) -> Result<(), Fail> {
     let mut text = Vec::from_slice(rt.alloc(), b"scenario 1\nuntil empty\n")?;
     text.resize(4_194_310, b'\n')?;
-    let mut source = SteadySource::new(List::from_vec(text));
-    let (status, sink) = call(&rt, rt.alloc(), "run 1000", &mut source, ENOUGH)?;
-    assert_eq!(rt; sink.bytes(), REFUSAL.as_bytes());
-    assert_eq!(rt; status.code(), 3);
-    let rest = take_all(rt.alloc(), &mut source, ENOUGH as u32)?;
-    assert_eq!(rt; rest.len(), 5);
+    for line in ["run 1000", "check"] {
+        let mut source = SteadySource::new(List::from_vec(text.as_slice().to_vec(rt.alloc())?));
+        let (status, sink) = call(&rt, rt.alloc(), line, &mut source, ENOUGH)?;
+        assert_eq!(rt; sink.bytes(), b"fault 0 TooLong\n".as_slice(), "at {line}");
+        assert_eq!(rt; status.code(), 3, "at {line}");
+        let rest = take_all(rt.alloc(), &mut source, ENOUGH as u32)?;
+        assert_eq!(rt; rest.len(), 5, "at {line}");
+    }
     Ok(())
 }

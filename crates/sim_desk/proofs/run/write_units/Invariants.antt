@@ -9,7 +9,7 @@ abbrev pub invariant-loop-unit : goal.invariant-loop-unit
 invariant-loop-unit g l =
     record {
       units : l.kernel.units ≡ l._unit;
-      stands : StandsForRun l.sketch l._unit l.kernel.parts;
-      written : Appends (g.K.Sink.taken l.fn.out) (g.K.Sink.taken l.out) (trace_text [] (lines_after l.sketch l._unit));
+      stands : StandsForRun l.scenario l._unit l.kernel.parts;
+      written : Appends (g.K.Sink.taken l.fn.out) (g.K.Sink.taken l.out) (trace_text [] (lines_after l.scenario l._unit));
       faults : g.K.Sink.faults l.out ≡ g.K.Sink.faults l.fn.out;
     }

@@ -16,3 +16,9 @@ poll-requires-clause-told g c =
 pub poll-requires-clause-bound : goal.poll-requires-clause-bound
 poll-requires-clause-bound g c =
     running_bound g.B.Body.filled g.B.Body.owned g.B.Body.tell g.B.Body.sound _ c.args.event c.args.process c.args.told (rw (← c.self.view_is) at c.requires.stands) (rw (← c.self.view_is) at c.requires.running) (rw (← c.self.view_is) at c.requires.events)
+
+pub returns-clause-built : goal.returns-clause-built
+returns-clause-built g c =
+    let sound : g.B.Body.sound c.args.code.now c.body_mut.result.now =
+    rw (c.requires.code, ← c.self.view_is) (running_sound g.B.Body.filled g.B.Body.owned g.B.Body.tell g.B.Body.sound _ c.args.process c.body_mut.result.now (rw (← c.self.view_is) at c.requires.stands) c.body_mut.ensures.value) in
+    c.requires.built.asks _ _ _ _ _ sound c.poll.ensures

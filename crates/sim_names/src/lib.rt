@@ -1,0 +1,6 @@
+//! Tables of what has a name: looked up by the name, and kept in the order in which the names came.
+#![tactic(auto)]
+
+mod table;
+
+pub use table::Table;

@@ -1,0 +1,27 @@
+-- What a script is filled with.
+use Rattle.std.proofs.Common.{◌≡◌, ℕ, zero, suc, ◌-◌, ◌<◌, ℤ, pos, List, [], ◌∷◌, ◌++◌, length, get_or, replicate, refl, arith, None}
+use Rattle.std.specs.Prelude.{IsTrue}
+use Rattle.sim_types.specs.Scenarios.{ScenarioOf}
+use Rattle.sim_types.specs.declared.script.Kind.{Kind}
+use Rattle.sim_machine.specs.BodyLaw.{may_begin}
+use Rattle.sim_script_model.specs.Scripts.{Running, classes_at, first_place}
+use Rattle.sim_script.specs.ScriptMembers.{filled_script, script_facts}
+use Rattle.sim_script.specs.ScriptStarts.{may_begin_with}
+
+-- the kind is one of the scenario's
+pub has_kind : (x : ScenarioOf) (k : ℕ) (args : List ℤ) → IsTrue (may_begin (script_facts x) k args) → k < length x.kinds
+has_kind x k args may = (may_begin_with x k args may).1.within
+
+read_classes : (kinds : List Kind) (k : ℕ) (d : Kind) → k < length kinds → classes_at kinds k ≡ (get_or kinds k d).classes
+read_classes [] k d lt = absurd (omega arith)
+read_classes (m ∷ kinds) zero d lt = refl
+read_classes (m ∷ kinds) (suc k) d lt = read_classes kinds k d (omega arith)
+
+read_first : (kinds : List Kind) (k : ℕ) (d : Kind) → k < length kinds → first_place kinds k ≡ (get_or kinds k d).first
+read_first [] k d lt = absurd (omega arith)
+read_first (m ∷ kinds) zero d lt = refl
+read_first (m ∷ kinds) (suc k) d lt = read_first kinds k d (omega arith)
+
+-- the script of a kind
+pub filled : (x : ScenarioOf) (k : ℕ) (args : List ℤ) (kind : Kind) → k < length x.kinds → kind ≡ get_or x.kinds k kind → record { me = record { 0 = 0 }; kind = k; classes = kind.classes; place = kind.first; variables = pos 0 ∷ args ++ replicate (63 - length args) (pos 0); frames = []; mode = Running; asked = None } ≡ filled_script x k args
+filled x k args kind lt is = rw (read_classes x.kinds k kind lt, read_first x.kinds k kind lt, ← is) refl
