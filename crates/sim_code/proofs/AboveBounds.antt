@@ -12,7 +12,7 @@ use Rattle.sim_language.specs.Sayings.{Line, Saying, Blank, Wrong, Says}
 use Rattle.sim_language.specs.Declarations.{declared, declared_behind, with_declared}
 use Rattle.sim_language.specs.Blocks.{says, statements}
 use Rattle.sim_language.specs.Places.{above_of, count_above, is_entry, is_poster, worded_above}
-use Rattle.sim_code.specs.AboveOf.{IsBelow}
+use Rattle.sim_faults.specs.AboveOf.{IsBelow}
 
 one_more_below : (counts : Bool) (m n : ℕ) → m ≤ n → (if counts then m + 1 else m) ≤ n + 1
 one_more_below true m n le = omega arith

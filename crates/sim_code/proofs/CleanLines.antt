@@ -12,8 +12,8 @@ use Rattle.sim_language.specs.Forms.{declares_sort}
 use Rattle.sim_language.specs.Places.{Place}
 use Rattle.sim_language.specs.LimitFaults.{form_is_full, sort_is_full, gives_too_many, too_many}
 use Rattle.sim_language.specs.Faults.{applies, of_form, fault_at, fault_by}
-use Rattle.sim_code.specs.declared.line.What.TheVariants as what
-use Rattle.sim_code.specs.LineOf.{slots_of, what_of}
+use Rattle.sim_lines.specs.declared.line.What.TheVariants as what
+use Rattle.sim_lines.specs.LineOf.{slots_of, what_of}
 
 none_found : (test : FaultKind → Bool) (kind : FaultKind) (behind : List FaultKind) → find test (kind ∷ behind) ≡ None → (test kind ≡ false) × (find test behind ≡ None)
 none_found test kind behind none = by (test kind) refl

@@ -20,7 +20,7 @@ use Rattle.sim_language.specs.Reads.{add_said, nothing_said, outcome, reads, rea
 use Rattle.sim_language.specs.WellFormed.{is_well_formed}
 use Rattle.sim_language.proofs.BuiltTexts.{read_built}
 use Rattle.sim_language.proofs.WellFormedTexts.{read_well_formed}
-use Rattle.sim_code.specs.AboveOf.{IsBelow, above_behind}
+use Rattle.sim_faults.specs.AboveOf.{IsBelow, above_behind}
 use Rattle.sim_code.specs.declared.reading.ReadError.{ReadError}
 use Rattle.sim_code.specs.declared.reading.ReadError.TheVariants as error
 use Rattle.sim_code.specs.Readings.{Gives, GivesDraft, IsReading, end_from, with_links}

@@ -2,8 +2,8 @@
 ghost use Rattle.std.specs.Prelude.{◌≡◌, map};
 ghost use Rattle.sim_language.specs.Commands.{command, limit};
 
-use crate::number::decimal_within;
 use crate::word::Word;
+use sim_lines::decimal_within;
 use sim_types::Command;
 
 /// How many units a run may make, at most.

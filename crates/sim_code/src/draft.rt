@@ -16,14 +16,12 @@ ghost use Rattle.sim_language.specs.Variables.{given_by};
 ghost use Rattle.sim_language.specs.declared.form.Form.TheVariants as form;
 ghost use Rattle.sim_types.specs.declared.setup.ResourceKind.TheVariants as resource;
 
-use crate::heads::Heads;
-use crate::line::What;
 use crate::link::link;
-use crate::place::Place;
 use crate::scenario::Scenario;
-use crate::slot::{Slot, capacity};
-use crate::statement::{kind_number, literal, number_declared, statement};
+use crate::statement::{kind_number, literal_of, number_declared, statement};
+use sim_faults::Place;
 use sim_language::{Form, Role};
+use sim_lines::{Heads, Slot, What, capacity};
 use sim_names::Table;
 use sim_types::{
     Args, Arrival, Class, Classes, Kind, List, Name, Post, Resource, ResourceKind, Setup, Start,
@@ -143,7 +141,7 @@ impl Draft {
         ensures { (heads : shapes.Heads) (place : places.Place) → self.new ≡ (if is_of_headers form then add heads place form slots.now self.old else self.old) }
     {
         match (form, slots) {
-            (Form::UntilTime, [time]) => self.until = Until::At(literal(time.word())),
+            (Form::UntilTime, [time]) => self.until = Until::At(literal_of(time.word())),
             (Form::Seed, [seed]) => self.seed = natural(seed.word()),
             _ => {}
         }
@@ -169,7 +167,7 @@ impl Draft {
     fn push_shared(&mut self, kind: ResourceKind, users: &Slot<'_>) -> Result<(), AllocError>
         ensures { OnOk result (self.new ≡ with_resource self.old kind (literal_of users.now.word) (pos 0)) }
     {
-        self.push_resource(kind, literal(users.word()), 0)
+        self.push_resource(kind, literal_of(users.word()), 0)
     }
 
     fn push_container(&mut self, most: &Slot<'_>, opening: &Slot<'_>) -> Result<(), AllocError>
@@ -178,7 +176,7 @@ impl Draft {
         self.push_resource(
             ResourceKind::Container,
             capacity_of(MOST_LEVEL, most.word()),
-            literal(opening.word()),
+            literal_of(opening.word()),
         )
     }
 
@@ -286,13 +284,13 @@ impl Draft {
                     poster: natural(poster.word()) as u32,
                     serial: natural(serial.word()) as u32,
                     port: number_declared(place, port.word()),
-                    value: literal(value.word()),
+                    value: literal_of(value.word()),
                 })?;
             }
             (Form::Poster, _) => self.posters.push(List::new(alloc))?,
             (Form::Post, [port, value]) => self.push_post(Post {
                 port: number_declared(place, port.word()),
-                value: literal(value.word()),
+                value: literal_of(value.word()),
             })?,
             _ => {}
         }
@@ -376,7 +374,7 @@ impl Draft {
 fn natural(word: &[u8]) -> u64
     ensures { result ≡ natural_of word.now }
 {
-    literal(word).unsigned_abs()
+    literal_of(word).unsigned_abs()
 }
 
 /// The capacity that the word gives; 0 where it gives none.
@@ -413,7 +411,7 @@ fn start_argument(place: &Place<'_, '_>, slot: &Slot<'_>) -> i64
 {
     match slot.role() {
         Role::Names(_) => i64::from(number_declared(place, slot.word())) + 1,
-        _ => literal(slot.word()),
+        _ => literal_of(slot.word()),
     }
 }
 

@@ -6,16 +6,11 @@ ghost use Rattle.sim_language.specs.Reads.{reads, reads_text};
 ghost use Rattle.sim_language.specs.Variables.{variables_then};
 ghost use Rattle.sim_code.specs.Readings.{Gives, GivesDraft};
 
-use crate::above::Above;
 use crate::draft::Draft;
-use crate::fault::{fault_at, fault_past};
-use crate::heads::Heads;
-use crate::line::{Line, What};
-use crate::lines::Lines;
-use crate::place::Place;
 use crate::scenario::Scenario;
-use crate::variables::variables_of;
+use sim_faults::{Above, Place, fault_at, fault_past, variables_of};
 use sim_language::Form;
+use sim_lines::{Heads, Line, Lines, What};
 use sim_names::Table;
 use sim_types::{Class, Fault, FaultKind};
 use std::alloc::{AllocError, Global};

@@ -4,12 +4,9 @@ ghost use Rattle.sim_code.specs.StatementGroups.{is_of_blocks, is_of_events, is_
 ghost use Rattle.sim_language.specs.Shapes as shapes;
 ghost use Rattle.sim_language.specs.Statements.{argument_of, arguments, event_of, kind_number, literal_of, members, number_declared, number_of, number_or_nothing, operator_of, preempts, statement, variable};
 
-use crate::heads::Heads;
-use crate::number::literal_within;
-use crate::place::Place;
-use crate::slot::Slot;
-use crate::variables::variable;
+use sim_faults::{Place, variable};
 use sim_language::{Form, Role};
+use sim_lines::{Heads, Slot, literal};
 use sim_types::{Arith, Num, Ref, Refs, SpawnArg, SpawnArgs, Stmt};
 
 /// What stands for a number that the form has not.
@@ -44,10 +41,10 @@ pub fn statement(
 }
 
 /// A number as written; 0 where the word is none.
-pub fn literal(word: &[u8]) -> i64
+pub fn literal_of(word: &[u8]) -> i64
     ensures { result ≡ literal_of word.now }
 {
-    literal_within(i64::MIN, i64::MAX, word).unwrap_or(0)
+    literal(word).unwrap_or(0)
 }
 
 /// The number of a declared name among those of its sort.
@@ -80,7 +77,7 @@ fn number(place: &Place<'_, '_>, slot: &Slot<'_>) -> Num
 {
     let word = slot.word();
     if let Role::Within(_, _) = slot.role() {
-        Num::Lit(literal(word))
+        Num::Lit(literal_of(word))
     } else if word == b"now".as_slice() {
         Num::Now
     } else if word == b"val".as_slice() {

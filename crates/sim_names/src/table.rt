@@ -1,4 +1,5 @@
 //! A table of what has a name.
+ghost use Rattle.std.specs.Option.{IfSome};
 ghost use Rattle.std.specs.Prelude.{◌≡◌, ◌<◌, [], length, map, slice_get, Some, OnOk, OnErr};
 ghost use Rattle.sim_language.specs.Named.{Named, is_named, place_of, value_of, with_one};
 
@@ -53,7 +54,8 @@ impl<'t, V: Copy> Table<'t, V> {
 
     /// The place of the name, counted from 0.
     pub fn place(&self, name: &[u8]) -> Option<usize>
-        ensures { result ≡ place_of name.now self.now }
+        ensures place { result ≡ place_of name.now self.now }
+        ensures below { IfSome result (λ place. place < length self.now) }
     {
         self.index.get_index_of(&name)
     }

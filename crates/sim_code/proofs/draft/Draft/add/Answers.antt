@@ -1,7 +1,7 @@
 use Rattle.std.proofs.Common.{◌≡◌, ◌∙◌, ap}
 use Rattle.sim_language.specs.LimitFaults.{form_is_full}
-use Rattle.sim_code.specs.declared.line.What.TheVariants.{Says}
-use Rattle.sim_code.specs.LineOf.{slots_of, what_of}
+use Rattle.sim_lines.specs.declared.line.What.TheVariants.{Says}
+use Rattle.sim_lines.specs.LineOf.{slots_of, what_of}
 use Rattle.sim_code.proofs.CleanLines.{not_full}
 use Rattle.sim_code.proofs.draft.Draft.add.Goals as goal
 

@@ -25,6 +25,6 @@ returns-in_ok-push_arrival-in-After-len5 c heads =
     let b : c.natural-in-After-len5.result ≡ natural_of p.result.word = c.natural-in-After-len5.ensures ∙ ap natural_of c.word-in-After-len5.ensures in
     let d : c.natural-in-After-len5-2.result ≡ natural_of n.result.word = c.natural-in-After-len5-2.ensures ∙ ap natural_of c.word-in-After-len5-2.ensures in
     let e : c.number_declared.result ≡ number_declared place.above.declared port.result.word = c.number_declared.ensures ∙ ap (number_declared place.above.declared) c.word-in-After-len5-3.ensures in
-    let fits : FitsSigned w64 c.literal.result = search rules in
-    let f : to_z w64 (of_z w64 c.literal.result) ≡ literal_of v.result.word = to_z-of_z w64 c.literal.result fits ∙ (c.literal.ensures ∙ ap literal_of c.word-in-After-len5-4.ensures) in
+    let fits : FitsSigned w64 c.literal_of.result = search rules in
+    let f : to_z w64 (of_z w64 c.literal_of.result) ≡ literal_of v.result.word = to_z-of_z w64 c.literal_of.result fits ∙ (c.literal_of.ensures ∙ ap literal_of c.word-in-After-len5-4.ensures) in
     c.in_ok-push_arrival-in-After-len5.ensures ∙ arrival_added heads place c.args.form slots c.args.self.now k.result p.result n.result port.result v.result _ c.in-After-len5.is-0 five (rw (a, b, d, e, f))

@@ -1,0 +1,5 @@
+mod LongerTables
+mod OpenBlocks
+mod OperandTests
+mod SortCounts
+mod VariablesSoFar

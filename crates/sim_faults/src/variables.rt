@@ -1,0 +1,92 @@
+//! The variables of a process.
+ghost use Rattle.std.specs.Prelude.{◌≡◌, ◌≤◌, IfOk, OnOk, length};
+ghost use Rattle.sim_language.specs.Named.{with_all};
+ghost use Rattle.sim_language.specs.Statements.{variable};
+ghost use Rattle.sim_language.specs.Variables.{deep_behind, ends_process, given_by, variable_number, variables_of};
+
+use crate::given::Given;
+use sim_language::Form;
+use sim_lines::{Line, Lines, Slot, What};
+use sim_names::Table;
+use sim_types::Class;
+use std::alloc::{AllocError, Global};
+
+/// The parameters of a process and what the lines below give up to its end, each once, in order.
+pub fn variables_of<'t>(
+    alloc: Global,
+    params: &[Slot<'t>],
+    below: &Lines<'t, '_>,
+) -> Result<Table<'t, Class>, AllocError>
+    requires few { length below.now ≤ 4194304 }
+    ensures { IfOk result (λ variables. variables ≡ variables_of params.now below.now) }
+{
+    let mut variables = Table::new(alloc);
+    add_given(&mut variables, params)?;
+    let mut left = below.again();
+    let mut line = Line::new(alloc);
+    let mut deep = 0;
+    while left.next(&mut line)? {
+        if let What::Says(form) = line.what() {
+            if ends_process(deep, form) {
+                break;
+            }
+            add_given(&mut variables, line.slots())?;
+            deep = deep_behind(deep, form);
+        }
+    }
+    Ok(variables)
+}
+
+/// Adds what a line gives.
+fn add_given<'t>(variables: &mut Table<'t, Class>, slots: &[Slot<'t>]) -> Result<(), AllocError>
+    ensures { OnOk result (variables.new ≡ with_all variables.old (given_by slots.now)) }
+{
+    for slot in slots {
+        if let Some(given) = Given::by(slot) {
+            variables.add(given.name(), given.class())?;
+        }
+    }
+    Ok(())
+}
+
+/// Whether the line ends the process, where so many blocks are open.
+fn ends_process(deep: u32, form: Form) -> bool
+    ensures { result ≡ ends_process deep form }
+{
+    form.is_process() || deep == 0 && form.is_end()
+}
+
+/// How many blocks are open behind the line.
+fn deep_behind(deep: u32, form: Form) -> u32
+    requires { deep ≤ 4194304 }
+    ensures { result ≡ deep_behind deep form }
+{
+    if form.opens_block() {
+        deep + 1
+    } else if form.is_end() {
+        deep.saturating_sub(1)
+    } else {
+        deep
+    }
+}
+
+/// The number of a variable, counted from 1, since `val` has the number 0.
+pub fn variable_number(variables: &Table<'_, Class>, word: &[u8]) -> usize
+    ensures { result ≡ variable_number variables.now word.now }
+{
+    match variables.place(word) {
+        Some(place) => {
+            prove!(place < variables.len());
+            place + 1
+        }
+        None => 1,
+    }
+}
+
+/// The same, where it is one of 64.
+pub fn variable(variables: &Table<'_, Class>, word: &[u8]) -> u8
+    ensures { result ≡ variable variables.now word.now }
+{
+    let number = variable_number(variables, word);
+    if number < 64 { number as u8 } else { 0 }
+}

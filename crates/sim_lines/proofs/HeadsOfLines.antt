@@ -1,0 +1,119 @@
+-- The process lines of a text, as the code keeps them: each with the span of its classes among those of all.
+use Rattle.std.proofs.Common.{◌≡◌, refl, sym, ap, ◌∙◌, ℕ, ◌≤◌, Bool, true, false, if◌then◌else◌, List, [], ◌∷◌, ◌++◌, length, map, take, drop, ◌-◌, codes, Option, Some, None, option_map, is_some, arith}
+use Rattle.std.specs.Prelude.{All, IfSome, slice_range, unwrap_or}
+use Rattle.std.proofs.Math.Seq.{drop-append_seam, take-length}
+use Rattle.std.proofs.lemmas.List.{drop-append-le, take-append-le, length-append, length-drop, map-append}
+use Rattle.std.proofs.lemmas.List.Elements.{All-head, All-tail}
+use Rattle.sim_types.specs.declared.setup.Class.{Class}
+use Rattle.sim_language.specs.Lines.{Word, same, cut, words}
+use Rattle.sim_language.specs.Names.{is_name}
+use Rattle.sim_language.specs.Named.{Named, value_of, is_named, place_of, with_one}
+use Rattle.sim_language.specs.Parameters.{parameter_class}
+use Rattle.sim_language.specs.Shapes.{Heads, parameters}
+use Rattle.sim_language.specs.Sayings.{head_of}
+use Rattle.sim_lines.specs.declared.heads.Span.{Span}
+
+-- what a line declares
+abbrev pub head_of_line : Word → Option (Named (List Class))
+head_of_line l = head_of (words (cut l))
+
+-- ---- the values of names, one by one
+
+module _ {A B : Type 0} (f : A → B) where
+  abbrev with_value : Named A → Named B
+  with_value n = record { name = n.name; value = f n.value }
+
+  pub value_of-map : (w : Word) (ns : List (Named A)) → value_of w (map with_value ns) ≡ option_map f (value_of w ns)
+  value_of-map w [] = refl
+  value_of-map w (n ∷ ns) = by (same w n.name) (value_of-map w ns)
+    where
+      by : (b : Bool) → value_of w (map with_value ns) ≡ option_map f (value_of w ns)
+          → (if b then Some (f n.value) else value_of w (map with_value ns)) ≡ option_map f (if b then Some n.value else value_of w ns)
+      by true h = refl
+      by false h = h
+
+  pub place_of-map : (w : Word) (ns : List (Named A)) → place_of w (map with_value ns) ≡ place_of w ns
+  place_of-map w [] = refl
+  place_of-map w (n ∷ ns) = rw (place_of-map w ns) refl
+
+-- what holds of all holds of what has a name
+pub All-value_of : {A : Type 0} (P : A → Type 0) (w : Word) (ns : List (Named A)) → All (λ n. P n.value) ns → IfSome (value_of w ns) P
+All-value_of P w [] h = tt
+All-value_of P w (n ∷ ns) h = by (same w n.name) (All-value_of P w ns (All-tail (λ n. P n.value) n ns h))
+  where
+    by : (b : Bool) → IfSome (value_of w ns) P → IfSome (if b then Some n.value else value_of w ns) P
+    by true rest = All-head (λ n. P n.value) n ns h
+    by false rest = rest
+
+-- ---- spans
+
+abbrev IsWithin : List Class → Span → Type 0
+IsWithin classes span = (span.from ≤ span.to) × (span.to ≤ length classes)
+
+abbrev classes_of : List Class → Span → List Class
+classes_of classes span = slice_range classes span.from span.to
+
+abbrev seen : List Class → List (Named Span) → Heads
+seen classes spans = map (with_value (classes_of classes)) spans
+
+pub is_named_in_spans : (w : Word) (spans : List (Named Span)) (classes : List Class) (found : Bool) → found ≡ is_named w spans → found ≡ is_named w (seen classes spans)
+is_named_in_spans w spans classes found h = h ∙ sym (ap is_some (value_of-map (classes_of classes) w spans) ∙ by (value_of w spans))
+  where
+    by : (o : Option Span) → is_some (option_map (classes_of classes) o) ≡ is_some o
+    by None = refl
+    by (Some span) = refl
+
+pub place_in_spans : (w : Word) (spans : List (Named Span)) (classes : List Class) (place : Option ℕ) → place ≡ place_of w spans → place ≡ place_of w (seen classes spans)
+place_in_spans w spans classes place h = h ∙ sym (place_of-map (classes_of classes) w spans)
+
+pub span_is_within : (w : Word) (spans : List (Named Span)) (classes : List Class) (span : Span) → All (λ n. IsWithin classes n.value) spans → Some span ≡ value_of w spans → IsWithin classes span
+span_is_within w spans classes span h is = rw (sym is) at (All-value_of (IsWithin classes) w spans h)
+
+pub parameters_in_spans : (w : Word) (spans : List (Named Span)) (classes : List Class) (found : Option Span) → found ≡ value_of w spans
+    → unwrap_or (option_map (classes_of classes) found) [] ≡ parameters (seen classes spans) w
+parameters_in_spans w spans classes found h = ap (λ o. unwrap_or o []) (ap (option_map (classes_of classes)) h ∙ sym (value_of-map (classes_of classes) w spans))
+
+-- ---- one more
+
+pub head_of_process : (line : List Word) (first name : Word) (rest left : List Word) → line ≡ first ∷ rest → rest ≡ name ∷ left
+    → same first (codes "process") ≡ true → is_name name ≡ true → Some (record { name = name; value = map parameter_class left }) ≡ head_of line
+head_of_process line first name rest left is next process named = rw (is, next, process, named) refl
+
+-- a span within some classes is the same within more
+same_classes : (classes more : List Class) (span : Span) → IsWithin classes span → classes_of (classes ++ more) span ≡ classes_of classes span
+same_classes classes more span within =
+    let below : span.from ≤ length classes = omega (arith, within.0, within.1) in
+    ap (take (span.to - span.from)) (drop-append-le span.from classes more below)
+    ∙ take-append-le (span.to - span.from) (drop span.from classes) more (simp length-drop (omega (arith, within.0, within.1)))
+
+same_seen : (classes more : List Class) (spans : List (Named Span)) → All (λ n. IsWithin classes n.value) spans → seen (classes ++ more) spans ≡ seen classes spans
+same_seen classes more [] h = refl
+same_seen classes more (n ∷ spans) h =
+    let first : classes_of (classes ++ more) n.value ≡ classes_of classes n.value = same_classes classes more n.value (All-head (λ m. IsWithin classes m.value) n spans h) in
+    let rest : seen (classes ++ more) spans ≡ seen classes spans = same_seen classes more spans (All-tail (λ m. IsWithin classes m.value) n spans h) in
+    cc
+
+new_classes : (classes more : List Class) → classes_of (classes ++ more) (record { from = length classes; to = length (classes ++ more) }) ≡ more
+new_classes classes more =
+    let all : length (classes ++ more) - length classes ≡ length more = omega (arith, length-append classes more) in
+    ap (take (length (classes ++ more) - length classes)) (drop-append_seam classes more) ∙ ap (λ n. take n more) all ∙ take-length more
+
+not_named_in_spans : (w : Word) (spans : List (Named Span)) (classes : List Class) → is_named w (seen classes spans) ≡ false → is_named w spans ≡ false
+not_named_in_spans w spans classes h = is_named_in_spans w spans classes (is_named w spans) refl ∙ h
+
+seen_pushed : (w : Word) (spans : List (Named Span)) (classes more : List Class) (span : Span) → All (λ n. IsWithin classes n.value) spans
+    → classes_of (classes ++ more) span ≡ more → seen (classes ++ more) (spans ++ record { name = w; value = span } ∷ []) ≡ seen classes spans ++ record { name = w; value = more } ∷ []
+seen_pushed w spans classes more span within is =
+    map-append (with_value (classes_of (classes ++ more))) spans (record { name = w; value = span } ∷ [])
+    ∙ ap (λ ns. ns ++ record { name = w; value = classes_of (classes ++ more) span } ∷ []) (same_seen classes more spans within)
+    ∙ ap (λ cs. seen classes spans ++ record { name = w; value = cs } ∷ []) is
+
+pub seen_with_one : (w : Word) (spans after : List (Named Span)) (classes more all : List Class) (from to : ℕ)
+    → All (λ n. IsWithin classes n.value) spans → is_named w (seen classes spans) ≡ false → all ≡ classes ++ more → from ≡ length classes → to ≡ length all
+    → after ≡ with_one spans (record { name = w; value = record { from = from; to = to } }) → seen all after ≡ seen classes spans ++ record { name = w; value = more } ∷ []
+seen_with_one w spans after classes more all from to within other is starts ends added =
+    let span : Span = record { from = length classes; to = length (classes ++ more) } in
+    let new : is_named w spans ≡ false = not_named_in_spans w spans classes other in
+    let behind : after ≡ spans ++ record { name = w; value = record { from = from; to = to } } ∷ [] = rw new at added in
+    let last : to ≡ length (classes ++ more) = ends ∙ ap length is in
+    rw (is, behind, starts, last) (seen_pushed w spans classes more span within (new_classes classes more))

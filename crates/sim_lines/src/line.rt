@@ -1,0 +1,125 @@
+//! A line with what it says.
+ghost use Rattle.std.specs.Prelude.{◌≡◌, [], OnOk};
+ghost use Rattle.sim_language.specs.Built.{is_built};
+ghost use Rattle.sim_language.specs.Lines.{is_empty};
+ghost use Rattle.sim_language.specs.OrderFaults.{is_header};
+ghost use Rattle.sim_language.specs.Sayings.{Blank, begins_with, line_of};
+ghost use Rattle.sim_language.specs.Said.{IsSaid};
+ghost use Rattle.sim_lines.specs.LineOf.{slots_of, what_of};
+
+use crate::cutting::cut;
+use crate::heads::Heads;
+use crate::saying::{begins_with, say};
+use crate::slot::Slot;
+use crate::words::Words;
+use sim_language::{Form, Section};
+use sim_types::FaultKind;
+use std::alloc::{AllocError, Global};
+use std::marker::Model;
+
+/// What a line says by itself.
+#[derive(Clone, Copy)]
+pub enum What {
+    /// It has no words.
+    Blank,
+    /// What is wrong with it.
+    Wrong(FaultKind),
+    /// A form.
+    Says(Form),
+}
+
+/// A line of a text with what it says. It is used again for each line.
+#[derive(Drop)]
+pub struct Line<'t> {
+    cut: &'t [u8],
+    what: What,
+    slots: Vec<Slot<'t>>,
+}
+
+impl<'t> Model for Line<'t> {
+    ghost use Rattle.sim_language.specs.Lines.{words};
+    ghost use Rattle.sim_language.specs.Sayings.{Line};
+    ghost use Rattle.sim_language.specs.Said.{IsSaid};
+    ghost use Rattle.sim_lines.specs.LineOf.{saying_of};
+
+    ghost Value = { Line };
+
+    ghost view = { λ a. record { words = words a.cut.now; saying = saying_of a.what a.slots.items } };
+
+    ghost invariant = { λ a. IsSaid (saying_of a.what a.slots.items) };
+}
+
+impl<'t> Line<'t> {
+    /// A line without words, to be read anew.
+    pub fn new(alloc: Global) -> Line<'t>
+        ensures { result ≡ record { words = []; saying = Blank } }
+    {
+        Line {
+            cut: &[],
+            what: What::Blank,
+            slots: Vec::new(alloc),
+        }
+    }
+
+    /// Reads a line of a text where it stands in this section below so many `poster` lines.
+    pub fn read(
+        &mut self,
+        line: &'t [u8],
+        heads: &Heads<'_>,
+        section: Section,
+        posters: u32,
+    ) -> Result<(), AllocError>
+        ensures { OnOk result (self.new ≡ line_of (record { built = is_built; heads = heads.now; section = section; posters = posters }) line.now) }
+    {
+        self.cut = cut(line);
+        self.what = What::Blank;
+        self.slots.clear();
+        self.what = say(&mut self.slots, heads, section, posters, self.cut)?;
+        Ok(())
+    }
+
+    /// What it says.
+    pub fn what(&self) -> What
+        ensures { result ≡ what_of self.now.saying }
+    {
+        self.what
+    }
+
+    /// The operands, where it says a form.
+    pub fn slots(&self) -> &[Slot<'t>]
+        ensures slots { result.now ≡ slots_of self.now.saying }
+        ensures said { IsSaid self.now.saying }
+    {
+        match self.what {
+            What::Says(_) => &self.slots,
+            _ => &[],
+        }
+    }
+
+    /// Whether it has no words.
+    pub fn is_empty(&self) -> bool
+        ensures { result ≡ is_empty self.now.words }
+    {
+        Words::new(self.cut).is_empty()
+    }
+
+    /// Whether its first word is this one.
+    pub fn begins_with(&self, word: &[u8]) -> bool
+        ensures { result ≡ begins_with word.now self.now.words }
+    {
+        begins_with(&Words::new(self.cut), word)
+    }
+
+    /// Whether its words are `scenario 1`.
+    pub fn is_header(&self) -> bool
+        ensures { result ≡ is_header self.now.words }
+    {
+        let mut words = Words::new(self.cut);
+        match (words.next(), words.next()) {
+            (Some(first), Some(second)) => {
+                first == b"scenario".as_slice() && second == b"1".as_slice() && words.is_empty()
+            }
+            _ => false,
+        }
+    }
+}

@@ -1,0 +1,136 @@
+//! What the words of a line are there for.
+ghost use Rattle.std.specs.Prelude.{◌≡◌, ◌++◌, [], IfOk, OnOk, Some, None, cond, map, option_map};
+ghost use Rattle.sim_language.specs.Shapes.{fit, opening, side_by_side, slot_of, spawn_argument, start_argument};
+ghost use Rattle.sim_lines.specs.OneWord.{at_item};
+
+use crate::heads::Heads;
+use crate::slot::{Slot, capacity};
+use crate::words::Words;
+use sim_language::{Item, Role};
+use sim_types::Class;
+use std::alloc::AllocError;
+
+/// The greatest capacity of a container, 2^62.
+const GREATEST_LEVEL: i64 = 4_611_686_018_427_387_904;
+
+/// Fills the slots by the words, where they have this shape; else answers false.
+pub fn fit<'t>(
+    slots: &mut Vec<Slot<'t>>,
+    heads: &Heads<'_>,
+    posters: u32,
+    shape: &[Item],
+    words: &Words<'t>,
+) -> Result<bool, AllocError>
+    requires { slots.old.items ≡ [] }
+    ensures { IfOk result (λ fits. fit (record { heads = heads.now; posters = posters }) [] shape.now words.now ≡ cond fits (Some slots.new.items) None) }
+{
+    let mut words = words.again();
+    let mut last: &'t [u8] = &[];
+    for item in shape {
+        match *item {
+            Item::MayEnd => {
+                if words.is_empty() {
+                    return Ok(true);
+                }
+            }
+            Item::Each(role) => {
+                fill(slots, role, words)?;
+                return Ok(true);
+            }
+            Item::SpawnArguments => {
+                fill_spawn(slots, heads.parameters(last), words)?;
+                return Ok(true);
+            }
+            Item::StartArguments => {
+                fill_start(slots, heads.parameters(last), words)?;
+                return Ok(true);
+            }
+            single => {
+                let Some(word) = words.next() else {
+                    return Ok(false);
+                };
+                if !take_word(slots, posters, last, single, word)? {
+                    return Ok(false);
+                }
+                last = word;
+            }
+        }
+    }
+    Ok(words.is_empty())
+}
+
+/// Takes a word for a part of a shape that takes one, where it fits; else answers false.
+fn take_word<'t>(
+    slots: &mut Vec<Slot<'t>>,
+    posters: u32,
+    last: &[u8],
+    item: Item,
+    word: &'t [u8],
+) -> Result<bool, AllocError>
+    ensures { IfOk result (λ fits. option_map (λ more. slots.old.items ++ more) (at_item posters last.now item word.now) ≡ cond fits (Some slots.new.items) None) }
+{
+    let role = match item {
+        Item::Exactly(fixed) => return Ok(word == fixed.word()),
+        Item::OneOf(choice) if choice.has(word) => Role::Free,
+        Item::A(role) => role,
+        Item::Opening => opening(last),
+        Item::NextPoster => Role::Within(i64::from(posters), i64::from(posters)),
+        _ => return Ok(false),
+    };
+    slots.push(Slot::of(role, word))?;
+    Ok(true)
+}
+
+/// What an opening is there for, behind the word that gives the capacity.
+fn opening(capacity_word: &[u8]) -> Role
+    ensures { result ≡ opening capacity_word.now }
+{
+    Role::Within(
+        0,
+        capacity(GREATEST_LEVEL, capacity_word).unwrap_or(i64::MAX),
+    )
+}
+
+/// All further words, each there for the same.
+fn fill<'t>(slots: &mut Vec<Slot<'t>>, role: Role, mut words: Words<'t>) -> Result<(), AllocError>
+    ensures { OnOk result (slots.new.items ≡ slots.old.items ++ map (slot_of role) words.entry) }
+{
+    while let Some(word) = words.next() {
+        slots.push(Slot::of(role, word))?;
+    }
+    Ok(())
+}
+
+/// All further words, as arguments that `spawn` gives for parameters of these classes.
+fn fill_spawn<'t>(
+    slots: &mut Vec<Slot<'t>>,
+    classes: &[Class],
+    mut words: Words<'t>,
+) -> Result<(), AllocError>
+    ensures { OnOk result (slots.new.items ≡ slots.old.items ++ side_by_side (map spawn_argument classes.now) words.entry) }
+{
+    for class in classes {
+        let Some(word) = words.next() else {
+            return Ok(());
+        };
+        slots.push(Slot::of(Role::of_spawn_argument(*class), word))?;
+    }
+    fill(slots, Role::Free, words)
+}
+
+/// All further words, as arguments that `start` gives for parameters of these classes.
+fn fill_start<'t>(
+    slots: &mut Vec<Slot<'t>>,
+    classes: &[Class],
+    mut words: Words<'t>,
+) -> Result<(), AllocError>
+    ensures { OnOk result (slots.new.items ≡ slots.old.items ++ side_by_side (map start_argument classes.now) words.entry) }
+{
+    for class in classes {
+        let Some(word) = words.next() else {
+            return Ok(());
+        };
+        slots.push(Slot::of(Role::of_start_argument(*class), word))?;
+    }
+    fill(slots, Role::Free, words)
+}
