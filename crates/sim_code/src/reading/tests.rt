@@ -1,5 +1,5 @@
 use super::*;
-use sim_types::{Num, Stmt, Until};
+use sim_types::{Kind, Num, Start, Stmt, Until};
 use std::test::Fail;
 
 /// The lines that stand above those of most tables. What stands below them begins with line 3.
@@ -1010,101 +1010,156 @@ fn many_parameters(rt: HostRuntime) -> Result<(), Fail> {
     Ok(())
 }
 
+/// The scenario that the text says.
+fn scenario_of(alloc: Global, text: &str) -> Result<Scenario, Fail> {
+    match read(alloc, text.as_bytes()) {
+        Ok(scenario) => Ok(scenario),
+        Err(_) => Err("refused".into()),
+    }
+}
+
+fn is_start(start: &Start, kind: u32, args: &[i64]) -> bool {
+    start.kind == kind && start.args.as_slice() == args
+}
+
 const CLERKS: &str =
     "scenario 1\nuntil empty\nseed 7\n\nprocess clerk pause        # a clerk\ntimeout pause\nlog now\nlog pause\nend\n\nstart clerk 5\nstart clerk 8\n";
 
+fn is_clerk(kinds: &[Kind]) -> bool {
+    let [clerk] = kinds else {
+        return false;
+    };
+    clerk.params == 1 && clerk.first == 0 && matches!(clerk.classes.get(1), Class::Number)
+}
+
 /// `val` is variable 0, and the first parameter variable 1.
+fn is_code_of_clerk(code: &[Stmt]) -> bool {
+    matches!(
+        code,
+        [
+            Stmt::Sleep { delay: Num::Var(1) },
+            Stmt::Log { value: Num::Now },
+            Stmt::Log { value: Num::Var(1) },
+            Stmt::EndProcess
+        ]
+    )
+}
+
+fn are_two_clerks(starts: &[Start]) -> bool {
+    match starts {
+        [first, second] => is_start(first, 0, &[5]) && is_start(second, 0, &[8]),
+        _ => false,
+    }
+}
+
 #[test]
 fn says_two_clerks(rt: HostRuntime) -> Result<(), Fail> {
-    let Ok(scenario) = read(rt.alloc(), CLERKS.as_bytes()) else {
-        return Err("refused".into());
-    };
+    let scenario = scenario_of(rt.alloc(), CLERKS)?;
     assert_eq!(rt; scenario.seed(), 7);
-    let [clerk] = scenario.kinds() else {
-        return Err("not one kind".into());
-    };
-    assert_eq!(rt; clerk.params, 1);
-    assert_eq!(rt; clerk.first, 0);
-    assert!(rt; matches!(clerk.classes.get(1), Class::Number));
+    assert!(rt; is_clerk(scenario.kinds()), "kinds");
+    assert!(rt; is_code_of_clerk(scenario.code()), "code");
     assert!(rt;
-        matches!(
-            scenario.code(),
-            [
-                Stmt::Sleep { delay: Num::Var(1) },
-                Stmt::Log { value: Num::Now },
-                Stmt::Log { value: Num::Var(1) },
-                Stmt::EndProcess
-            ]
-        )
+        are_two_clerks(scenario.setup().starts.as_slice()),
+        "starts"
     );
-    let [first, second] = scenario.setup().starts.as_slice() else {
-        return Err("not two starts".into());
-    };
-    assert_eq!(rt; first.kind, 0);
-    assert_eq!(rt; first.args.as_slice(), [5].as_slice());
-    assert_eq!(rt; second.kind, 0);
-    assert_eq!(rt; second.args.as_slice(), [8].as_slice());
     Ok(())
 }
 
 const TWO_KINDS: &str =
     "scenario 1\nuntil empty\nprocess a x y:event z:proc\nlog -5\nend\nprocess b n m\ntimeout 9223372036854775807\nlog val\nlog m\nend\nstart b 1 -2\nstart b -9223372036854775808 007\n";
 
+fn is_kind_a(kind: &Kind) -> bool {
+    kind.params == 3
+        && kind.first == 0
+        && matches!(kind.classes.get(1), Class::Number)
+        && matches!(kind.classes.get(2), Class::Event)
+        && matches!(kind.classes.get(3), Class::Proc)
+}
+
+fn is_kind_b(kind: &Kind) -> bool {
+    kind.params == 2 && kind.first == 2 && matches!(kind.classes.get(2), Class::Number)
+}
+
+fn are_two_kinds(kinds: &[Kind]) -> bool {
+    match kinds {
+        [a, b] => is_kind_a(a) && is_kind_b(b),
+        _ => false,
+    }
+}
+
+fn is_code_of_a(code: &[Stmt]) -> bool {
+    matches!(
+        code,
+        [
+            Stmt::Log {
+                value: Num::Lit(-5),
+            },
+            Stmt::EndProcess
+        ]
+    )
+}
+
+fn is_code_of_b(code: &[Stmt]) -> bool {
+    matches!(
+        code,
+        [
+            Stmt::Sleep {
+                delay: Num::Lit(i64::MAX),
+            },
+            Stmt::Log { value: Num::Var(0) },
+            Stmt::Log { value: Num::Var(2) },
+            Stmt::EndProcess
+        ]
+    )
+}
+
+fn is_code_of_both(code: &[Stmt]) -> bool {
+    match code.split_at_checked(2) {
+        Some((a, b)) => is_code_of_a(a) && is_code_of_b(b),
+        None => false,
+    }
+}
+
+fn are_starts_of_b(starts: &[Start]) -> bool {
+    match starts {
+        [first, second] => is_start(first, 1, &[1, -2]) && is_start(second, 1, &[i64::MIN, 7]),
+        _ => false,
+    }
+}
+
 #[test]
 fn says_two_kinds(rt: HostRuntime) -> Result<(), Fail> {
-    let Ok(scenario) = read(rt.alloc(), TWO_KINDS.as_bytes()) else {
-        return Err("refused".into());
-    };
+    let scenario = scenario_of(rt.alloc(), TWO_KINDS)?;
     assert_eq!(rt; scenario.seed(), 0);
-    let [a, b] = scenario.kinds() else {
-        return Err("not two kinds".into());
-    };
-    assert_eq!(rt; (a.params, a.first), (3, 0));
-    assert_eq!(rt; (b.params, b.first), (2, 2));
-    assert!(rt; matches!(a.classes.get(1), Class::Number));
-    assert!(rt; matches!(a.classes.get(2), Class::Event));
-    assert!(rt; matches!(a.classes.get(3), Class::Proc));
-    assert!(rt; matches!(b.classes.get(2), Class::Number));
-    let [
-        Stmt::Log {
-            value: Num::Lit(-5),
-        },
-        Stmt::EndProcess,
-        Stmt::Sleep {
-            delay: Num::Lit(i64::MAX),
-        },
-        Stmt::Log { value: Num::Var(0) },
-        Stmt::Log { value: Num::Var(2) },
-        Stmt::EndProcess,
-    ] = scenario.code()
-    else {
-        return Err("other statements".into());
-    };
-    let [first, second] = scenario.setup().starts.as_slice() else {
-        return Err("not two starts".into());
-    };
-    assert_eq!(rt; first.kind, 1);
-    assert_eq!(rt; first.args.as_slice(), [1, -2].as_slice());
-    assert_eq!(rt; second.kind, 1);
-    assert_eq!(rt; second.args.as_slice(), [i64::MIN, 7].as_slice());
+    assert!(rt; are_two_kinds(scenario.kinds()), "kinds");
+    assert!(rt; is_code_of_both(scenario.code()), "code");
+    assert!(rt;
+        are_starts_of_b(scenario.setup().starts.as_slice()),
+        "starts"
+    );
     Ok(())
 }
 
 const GREATEST_SEED: &str = "# nothing runs\nscenario 1\nuntil empty\n\nseed 9223372036854775807";
 
+fn has_no_process(scenario: &Scenario) -> bool {
+    scenario.kinds().is_empty() && scenario.code().is_empty() && scenario.setup().starts.is_empty()
+}
+
+fn declares_nothing(scenario: &Scenario) -> bool {
+    let setup = scenario.setup();
+    setup.events == 0
+        && setup.resources.is_empty()
+        && setup.ports.is_empty()
+        && scenario.port_names().is_empty()
+}
+
 #[test]
 fn says_a_seed_alone(rt: HostRuntime) -> Result<(), Fail> {
-    let Ok(scenario) = read(rt.alloc(), GREATEST_SEED.as_bytes()) else {
-        return Err("refused".into());
-    };
+    let scenario = scenario_of(rt.alloc(), GREATEST_SEED)?;
     assert_eq!(rt; scenario.seed(), 9_223_372_036_854_775_807);
-    assert!(rt; scenario.kinds().is_empty());
-    assert!(rt; scenario.code().is_empty());
-    assert!(rt; scenario.port_names().is_empty());
-    let setup = scenario.setup();
-    assert!(rt; matches!(setup.until, Until::Never));
-    assert_eq!(rt; setup.events, 0);
-    assert!(rt; setup.resources.is_empty() && setup.ports.is_empty());
-    assert!(rt; setup.starts.is_empty());
+    assert!(rt; matches!(scenario.setup().until, Until::Never));
+    assert!(rt; has_no_process(&scenario));
+    assert!(rt; declares_nothing(&scenario));
     Ok(())
 }
