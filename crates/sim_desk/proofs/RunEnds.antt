@@ -18,7 +18,8 @@ use Rattle.sim_kernel.specs.declared.mode.Rest.{Rest}
 use Rattle.sim_kernel.specs.declared.mode.Rest.TheVariants as rest
 use Rattle.sim_script_model.specs.Scripts.{Script}
 use Rattle.sim_script_model.specs.Polls.{script_turn}
-use Rattle.sim_script.specs.ScriptMembers.{filled_script, owned_script, script_tells, IsSoundScript}
+use Rattle.sim_script_law.specs.ScriptMembers.{filled_script, owned_script, script_tells}
+use Rattle.sim_script_law.specs.SoundScripts.{IsSoundScript}
 use Rattle.sim_desk.specs.Headline.{plan_of_scenario, run_of_scenario, end_of_scenario}
 use Rattle.sim_desk.specs.StandsForRun.{StandsForRun, ended_at, stopped_at}
 use Rattle.sim_desk.proofs.RunUnits.{no_arrival_left}

@@ -16,7 +16,8 @@ use Rattle.sim_kernel.specs.Stepping.{MakesStep, StepsFrom}
 use Rattle.sim_kernel.specs.declared.mode.Unit.{Unit}
 use Rattle.sim_script_model.specs.Scripts.{Script}
 use Rattle.sim_script_model.specs.Polls.{script_turn}
-use Rattle.sim_script.specs.ScriptMembers.{filled_script, owned_script, IsScriptTurn, script_tells, IsSoundScript}
+use Rattle.sim_script_law.specs.ScriptMembers.{filled_script, owned_script, IsScriptTurn, script_tells}
+use Rattle.sim_script_law.specs.SoundScripts.{IsSoundScript}
 use Rattle.sim_desk.specs.Headline.{plan_of_scenario, run_of_scenario}
 use Rattle.sim_desk.specs.StandsForRun.{StandsForRun, lines_after, lines_added}
 

@@ -12,8 +12,9 @@ use Rattle.sim_machine.proofs.PlainBodies.{is_plain}
 use Rattle.sim_language.specs.Built.{is_never, is_built_statement, is_built_scenario}
 use Rattle.sim_language.specs.Lines.{is_empty}
 use Rattle.sim_kernel.specs.Built.{is_built, AsksForBuilt}
-use Rattle.sim_script.specs.ScriptMembers.{IsScriptTurn, IsSoundScript}
-use Rattle.sim_script.proofs.ScriptAsks.{asks_plain}
+use Rattle.sim_script_law.specs.ScriptMembers.{IsScriptTurn}
+use Rattle.sim_script_law.specs.SoundScripts.{IsSoundScript}
+use Rattle.sim_script_law.proofs.PlainAsking.{asks_plain}
 
 -- ---- what a scenario that is built has not
 

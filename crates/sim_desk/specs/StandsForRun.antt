@@ -10,7 +10,8 @@ use Rattle.sim_kernel.specs.StandsFor.{StandsFor, LawfulOf}
 use Rattle.sim_kernel.specs.declared.mode.Rest.{Rest}
 use Rattle.sim_kernel.specs.declared.mode.Rest.TheVariants as rest
 use Rattle.sim_script_model.specs.Scripts.{Script}
-use Rattle.sim_script.specs.ScriptMembers.{filled_script, owned_script, script_tells, IsSoundScript}
+use Rattle.sim_script_law.specs.ScriptMembers.{filled_script, owned_script, script_tells}
+use Rattle.sim_script_law.specs.SoundScripts.{IsSoundScript}
 use Rattle.sim_desk.specs.Headline.{run_of_scenario}
 
 -- the kernel was opened with the scenario, and stands for the lawful state that so many units of its run come to

@@ -178,4 +178,6 @@ fn status_of_end(end: End) -> Status
 }
 
 #[cfg(test)]
+mod scripts;
+#[cfg(test)]
 mod tests;

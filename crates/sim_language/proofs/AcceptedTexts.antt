@@ -6,6 +6,9 @@ use Rattle.sim_language.specs.Reads.{fault_of}
 arithmetic_loop_and_catch : fault_of all_forms (codes "scenario 1\nuntil empty\nprocess p n\nlet s = 0\nloop\nlet s = s + n\nlet c = s < 7\nif c\nelse\nbreak\nend\nend\nlog s\ntry\nlet s = s % 0\ncatch k v\nlog v\nend\nfinish s\nend\nstart p 3\n") ≡ None
 arithmetic_loop_and_catch = refl
 
+arithmetic_loop_and_catch-built : fault_of is_built (codes "scenario 1\nuntil empty\nprocess p n\nlet s = 0\nloop\nlet s = s + n\nlet c = s < 7\nif c\nelse\nbreak\nend\nend\nlog s\ntry\nlet s = s % 0\ncatch k v\nlog v\nend\nfinish s\nend\nstart p 3\n") ≡ None
+arithmetic_loop_and_catch-built = refl
+
 batch_meets_limit : fault_of all_forms (codes "scenario 1\nuntil empty\nprocess p\ntimeout 5\nlog now\nend\nstart p\n") ≡ None
 batch_meets_limit = refl
 
@@ -57,8 +60,14 @@ early_release = refl
 endless_log_into_small_sink : fault_of all_forms (codes "scenario 1\nuntil empty\nprocess p\nloop\nlog 1\nend\nend\nstart p\n") ≡ None
 endless_log_into_small_sink = refl
 
+endless_log_into_small_sink-built : fault_of is_built (codes "scenario 1\nuntil empty\nprocess p\nloop\nlog 1\nend\nend\nstart p\n") ≡ None
+endless_log_into_small_sink-built = refl
+
 endless_loop_meets_limit : fault_of all_forms (codes "scenario 1\nuntil empty\nprocess p\nloop\nend\nend\nstart p\n") ≡ None
 endless_loop_meets_limit = refl
+
+endless_loop_meets_limit-built : fault_of is_built (codes "scenario 1\nuntil empty\nprocess p\nloop\nend\nend\nstart p\n") ≡ None
+endless_loop_meets_limit-built = refl
 
 error_ends_process : fault_of all_forms (codes "scenario 1\nuntil empty\nprocess p\ntimeout -1\nend\nstart p\n") ≡ None
 error_ends_process = refl
@@ -132,6 +141,9 @@ live_two_posters_running = refl
 negative_delay_and_narrow_draw : fault_of all_forms (codes "scenario 1\nuntil empty\nprocess p\ntry\ntimeout -1\ncatch k v\nlog v\nend\ndraw x 5 5\nlog x\nend\nstart p\n") ≡ None
 negative_delay_and_narrow_draw = refl
 
+negative_delay_and_narrow_draw-built : fault_of is_built (codes "scenario 1\nuntil empty\nprocess p\ntry\ntimeout -1\ncatch k v\nlog v\nend\ndraw x 5 5\nlog x\nend\nstart p\n") ≡ None
+negative_delay_and_narrow_draw-built = refl
+
 no_preemption_by_equal_key : fault_of all_forms (codes "scenario 1\nuntil empty\npreemptive m 1\nprocess holder\nwith r = request m 1 preempt\nwait r\ntry\ntimeout 10\ncatch k v\nlog k\nlog v\nend\nend\nend\nprocess rush\ntimeout 4\nwith r = request m 1 preempt\nwait r\ntimeout 1\nend\nend\nstart holder\nstart rush\n") ≡ None
 no_preemption_by_equal_key = refl
 
@@ -188,6 +200,9 @@ succeed_twice = refl
 
 time_past_two_to_62 : fault_of all_forms (codes "scenario 1\nuntil empty\nprocess p\ntry\ntimeout 4611686018427387905\ncatch k v\nlog v\nend\ntimeout 4611686018427387904\nlog now\nend\nstart p\n") ≡ None
 time_past_two_to_62 = refl
+
+time_past_two_to_62-built : fault_of is_built (codes "scenario 1\nuntil empty\nprocess p\ntry\ntimeout 4611686018427387905\ncatch k v\nlog v\nend\ntimeout 4611686018427387904\nlog now\nend\nstart p\n") ≡ None
+time_past_two_to_62-built = refl
 
 triggered_condition_defuses_nothing : fault_of all_forms (codes "scenario 1\nuntil empty\nevent e\nevent f\nprocess p\na = all e f\ntry\nwait a\ncatch k v\nlog v\nend\nend\nprocess q\nfail e 3\nfail f 4\nend\nstart p\nstart q\n") ≡ None
 triggered_condition_defuses_nothing = refl

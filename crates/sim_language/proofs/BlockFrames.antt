@@ -39,7 +39,7 @@ module _ (variables : List (Named Class)) where
   frames_at blocks = frames_of (unwrap_or blocks [])
 
 -- a block by its parts, since the tests match on its form
-abbrev block : Form → Word → Bool → ℕ → Block
+abbrev pub block : Form → Word → Bool → ℕ → Block
 block f w split inside = record { form = f; variable = w; split = split; inside = inside }
 
 -- ---- `break` and `release`

@@ -1,10 +1,11 @@
 -- Statements whose blocks are closed go on where they should, once they are linked.
 --     Leaves n frames code     the statements up to place n stand well, and leave these blocks open
 --     leaves_fits              where they leave none open, and end with the end of a process, they fit
-use Rattle.std.proofs.Common.{◌≡◌, refl, ap, ◌∙◌, ℕ, suc, Bool, true, false, ◌&&◌, ◌==◌, nat_le, arith, List, [], ◌∷◌, ◌++◌, length}
+use Rattle.std.proofs.Common.{◌≡◌, refl, ap, ◌∙◌, ℕ, suc, Bool, true, false, not, ◌&&◌, ◌==◌, nat_le, arith, List, [], ◌∷◌, ◌++◌, length}
 use Rattle.std.specs.List.{list_any}
 use Rattle.std.proofs.lemmas.List.{append_assoc, append-nil}
 use Rattle.std.proofs.lemmas.Bool.{and_parts, and_from, false≢true, eq-eqb}
+use Rattle.sim_types.specs.declared.script.Num.{Num}
 use Rattle.sim_types.specs.declared.script.Stmt.{Stmt}
 use Rattle.sim_types.specs.declared.script.Stmt.TheVariants as stmt
 use Rattle.sim_language.specs.Links.{Closing, without_first, closings_then, closings, past_of, split_of, link, linked}
@@ -70,6 +71,7 @@ may_stand stmt.EndPlain frames = false
 may_stand stmt.EndProcess [] = true
 may_stand stmt.EndProcess frames = false
 may_stand stmt.Break frames = list_any is_loop_frame frames
+may_stand (stmt.With to res priority preempt) frames = not (list_any (is_with_frame to) frames)
 may_stand (stmt.Release v) frames = list_any (is_with_frame v) frames
 may_stand s frames = true
 
@@ -109,6 +111,7 @@ any_alike p q alike (frame ∷ frames) cs = rw (alike frame cs, any_alike p q al
 -- a statement that may stand within any blocks
 abbrev is_free : Stmt → Bool
 is_free (stmt.Release v) = false
+is_free (stmt.With to res priority preempt) = false
 is_free (stmt.Else past) = false
 is_free (stmt.Catch kind value past) = false
 is_free (stmt.EndLoop first) = false
@@ -121,6 +124,7 @@ is_free s = true
 
 free_within : (n : ℕ) (opens : List Open) (s : Stmt) → is_free s ≡ true → stands_within n opens s ≡ true
 free_within n opens (stmt.Release v) free = absurd (false≢true free)
+free_within n opens (stmt.With to res priority preempt) free = absurd (false≢true free)
 free_within n opens (stmt.Else past) free = absurd (false≢true free)
 free_within n opens (stmt.Catch kind value past) free = absurd (false≢true free)
 free_within n opens (stmt.EndLoop first) free = absurd (false≢true free)
@@ -138,13 +142,17 @@ free_within n (OpenElse past ∷ opens) s free = refl
 free_within n (OpenTry catch ∷ opens) s free = refl
 free_within n (OpenCatch past ∷ opens) s free = refl
 
-break_within : (n : ℕ) (opens : List Open) → stands_within n opens stmt.Break ≡ list_any is_open_loop opens
+pub break_within : (n : ℕ) (opens : List Open) → stands_within n opens stmt.Break ≡ list_any is_open_loop opens
 break_within n (OpenIf other ∷ opens) = refl
 break_within n opens = refl
 
-release_within : (n v : ℕ) (opens : List Open) → stands_within n opens (stmt.Release v) ≡ list_any (is_open_with v) opens
+pub release_within : (n v : ℕ) (opens : List Open) → stands_within n opens (stmt.Release v) ≡ list_any (is_open_with v) opens
 release_within n v (OpenIf other ∷ opens) = refl
 release_within n v opens = refl
+
+pub with_within : (n to res : ℕ) (priority : Num) (preempt : Bool) (opens : List Open) → stands_within n opens (stmt.With to res priority preempt) ≡ not (list_any (is_open_with to) opens)
+with_within n to res priority preempt (OpenIf other ∷ opens) = refl
+with_within n to res priority preempt opens = refl
 
 -- the statement at place n stands well, and behind it the blocks are open that it leaves open
 record Goes (n : ℕ) (frames : List Frame) (s : Stmt) (cs : List Closing) : Type 0 where
@@ -164,7 +172,7 @@ closed_here : (first inside n : ℕ) → (first == inside) ≡ true → ((first 
 closed_here first inside n h = and_from (first == inside) (suc n == suc n) h (same_place (suc n))
 
 goes : (n : ℕ) (frames : List Frame) (s : Stmt) (cs : List Closing) → may_stand s frames ≡ true → length cs ≡ length (frames_then n s frames) → Goes n frames s cs
-goes n frames (stmt.With to res priority preempt) cs may long = record { stands = free_within n _ (stmt.With to res priority preempt) refl; opens = refl; closes = one_less cs (length frames) long }
+goes n frames (stmt.With to res priority preempt) cs may long = record { stands = with_within n to res priority preempt (opened frames (without_first cs)) ∙ ap not (any_alike (is_open_with to) (is_with_frame to) (with_alike to) frames (without_first cs)) ∙ may; opens = refl; closes = one_less cs (length frames) long }
 goes n frames (stmt.Loop past) cs may long = record { stands = free_within n _ (stmt.Loop (past_of cs)) refl; opens = refl; closes = one_less cs (length frames) long }
 goes n frames (stmt.Repeat times past) cs may long = record { stands = free_within n _ (stmt.Repeat times (past_of cs)) refl; opens = refl; closes = one_less cs (length frames) long }
 goes n frames (stmt.If test other) cs may long = record { stands = free_within n _ (stmt.If test (split_of cs)) refl; opens = refl; closes = one_less cs (length frames) long }

@@ -31,6 +31,7 @@ use Rattle.sim_language.proofs.Walking.{place_at, Kept, Ends, walk}
 use Rattle.sim_language.proofs.Faultless.{Faultless, faultless}
 use Rattle.sim_language.proofs.ShapeLengths.{may_have, fit-length}
 use Rattle.sim_language.proofs.ClosedBlocks.{leaves_fits}
+use Rattle.sim_language.proofs.OpenWiths.{GivesNew, gives_new}
 use Rattle.sim_language.proofs.MadeStatements.{Makes, makes}
 use Rattle.sim_language.proofs.StandingCode.{firsts_of, Stands, stands_like, stands_none, stands_process, stands_statement}
 use Rattle.sim_language.proofs.ProcessFirsts.{firsts-linked}
@@ -61,11 +62,12 @@ module _ (heads : Heads) (n : ℕ) (above : List Line) (words : List Word) (belo
   one_statement f slots is free p e (Some blocks) here =
       let v : variables_at (line (Says f slots) ∷ above) below ≡ variables_at above (line (Says f slots) ∷ below) = same_variables f slots below _ (statement_begins_none f e) in
       let fit : (is_statement f && may_have (shape f) (length slots)) ≡ true = and_from (is_statement f) _ e (fit-length is.context [] (shape f) is.words slots is.shape) in
-      let m : Makes heads (place (Says f slots)) (statements above) blocks f slots = makes heads (place (Says f slots)) (statements above) blocks f slots fit free.misplaced here in
+      let q : Stands (statements above) (variables_at (line (Says f slots) ∷ above) below) (Some blocks) s.code s.kinds = stands_like (statements above) _ _ _ (open_blocks above) _ s.code _ s.kinds _ refl (sym v) here refl refl p in
+      let new : GivesNew (variables_at (line (Says f slots) ∷ above) below) blocks f slots = gives_new heads (place (Says f slots)) blocks f slots is free here q.named in
+      let m : Makes heads (place (Says f slots)) (statements above) blocks f slots = makes heads (place (Says f slots)) (statements above) blocks f slots fit free.misplaced here new in
       let full : form_is_full (above_of above) f slots ≡ false = (or_parts _ (form_is_full (above_of above) f slots) (or_parts _ (gives_too_many (variables_at (line (Says f slots) ∷ above) below) slots) free.many).0).1 in
       let room : (opens_block f && nat_le 32 (length blocks)) ≡ false = rw here at (room_for_block (above_of above) f slots full) in
-      let q : Stands (statements above) (variables_at (line (Says f slots) ∷ above) below) (Some blocks) s.code s.kinds = stands_like (statements above) _ _ _ (open_blocks above) _ s.code _ s.kinds _ refl (sym v) here refl refl p in
-      let r : Stands (suc (statements above)) (variables_at (line (Says f slots) ∷ above) below) (blocks_behind (suc (statements above)) f slots (Some blocks)) (s.code ++ m.made ∷ []) s.kinds = stands_statement heads (place (Says f slots)) (statements above) blocks f slots s.code s.kinds m room q in
+      let r : Stands (suc (statements above)) (variables_at (line (Says f slots) ∷ above) below) (blocks_behind (suc (statements above)) f slots (Some blocks)) (s.code ++ m.made ∷ []) s.kinds = stands_statement heads (place (Says f slots)) (statements above) blocks f slots s.code s.kinds m new room q in
       let t : with_statement s (Some m.made) ≡ add heads (place (Says f slots)) f slots s = rw (statement_adds heads (place (Says f slots)) f slots s e, m.is) refl in
       let counts : suc (statements above) ≡ statements (line (Says f slots) ∷ above) = rw e (sym (add-one (statements above))) in
       let behind : blocks_behind (suc (statements above)) f slots (Some blocks) ≡ open_blocks (line (Says f slots) ∷ above) = rw (counts, here) refl in

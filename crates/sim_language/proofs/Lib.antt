@@ -6,9 +6,10 @@ mod ScenariosRead
 pub mod Walking
 mod WellFormedScenarios
 pub mod Faultless
-mod ClosedBlocks
+pub mod ClosedBlocks
 pub mod ShapeLengths
 mod BlockFrames
+mod OpenWiths
 mod MadeStatements
 mod ProcessFirsts
 mod StandingCode
@@ -17,6 +18,7 @@ pub mod ClosedTexts
 pub mod SaidByLines
 pub mod BuiltLines
 pub mod BuiltTexts
+mod BuiltForms
 pub mod ByShape
 pub mod Additions
 pub mod AdditionsByForm

@@ -17,6 +17,7 @@ use Rattle.sim_language.specs.Statements.{variable, end_of, statement}
 use Rattle.sim_language.specs.FittingBlocks.{is_end_process}
 use Rattle.sim_language.proofs.ShapeLengths.{may_have}
 use Rattle.sim_language.proofs.ClosedBlocks.{InElse, InCatch, frames_then, may_stand}
+use Rattle.sim_language.proofs.OpenWiths.{GivesNew}
 use Rattle.sim_language.proofs.BlockFrames.{frames_of, frames_at, Splits, Closes, break_stands, release_stands, else_stands, catch_stands, end_stands}
 
 -- the statement, at place n, within these blocks
@@ -31,55 +32,55 @@ module _ (heads : Heads) (place : Place) (n : ℕ) (blocks : List Block) where
   by_parts : {f : Form} {slots : List Slot} → (s : Stmt) → statement heads place f slots ≡ Some s → may_stand s (frames_of place.variables blocks) ≡ true → frames_then n s (frames_of place.variables blocks) ≡ frames_at place.variables (blocks_behind (suc n) f slots (Some blocks)) → is_end_process s ≡ is_none (blocks_behind (suc n) f slots (Some blocks)) → Makes heads place n blocks f slots
   by_parts s is may behind ends = record { made = s; is = is; may = may; behind = behind; ends = ends }
 
-  pub makes : (f : Form) (slots : List Slot) → (is_statement f && may_have (shape f) (length slots)) ≡ true → misplaced place.above f slots ≡ false → place.above.blocks ≡ Some blocks → Makes heads place n blocks f slots
-  makes form.Let (x ∷ a ∷ []) fit placed here = by_parts _ refl refl refl refl
-  makes form.Let (x ∷ a ∷ op ∷ b ∷ []) fit placed here = by_parts _ refl refl refl refl
-  makes form.Count (x ∷ r ∷ []) fit placed here = by_parts _ refl refl refl refl
-  makes form.Timeout (d ∷ []) fit placed here = by_parts _ refl refl refl refl
-  makes form.NewTimeout (x ∷ d ∷ v ∷ []) fit placed here = by_parts _ refl refl refl refl
-  makes form.NewEvent (x ∷ []) fit placed here = by_parts _ refl refl refl refl
-  makes form.Wait (e ∷ []) fit placed here = by_parts _ refl refl refl refl
-  makes form.Succeed (e ∷ v ∷ []) fit placed here = by_parts _ refl refl refl refl
-  makes form.Fail (e ∷ c ∷ []) fit placed here = by_parts _ refl refl refl refl
-  makes form.NewAll (x ∷ es) fit placed here = by_parts _ refl refl refl refl
-  makes form.NewAny (x ∷ es) fit placed here = by_parts _ refl refl refl refl
-  makes form.Has (y ∷ c ∷ e ∷ []) fit placed here = by_parts _ refl refl refl refl
-  makes form.Spawn (p ∷ args) fit placed here = by_parts _ refl refl refl refl
-  makes form.NewSpawn (x ∷ p ∷ args) fit placed here = by_parts _ refl refl refl refl
-  makes form.Interrupt (p ∷ c ∷ []) fit placed here = by_parts _ refl refl refl refl
-  makes form.Drop (p ∷ v ∷ []) fit placed here = by_parts _ refl refl refl refl
-  makes form.Raise (c ∷ []) fit placed here = by_parts _ refl refl refl refl
-  makes form.Finish (v ∷ []) fit placed here = by_parts _ refl refl refl refl
-  makes form.Put (r ∷ a ∷ more) fit placed here = by_parts _ refl refl refl refl
-  makes form.NewPut (x ∷ r ∷ a ∷ more) fit placed here = by_parts _ refl refl refl refl
-  makes form.Get (r ∷ []) fit placed here = by_parts _ refl refl refl refl
-  makes form.Get (r ∷ a ∷ more) fit placed here = by_parts _ refl refl refl refl
-  makes form.NewGet (x ∷ r ∷ []) fit placed here = by_parts _ refl refl refl refl
-  makes form.NewGet (x ∷ r ∷ a ∷ more) fit placed here = by_parts _ refl refl refl refl
-  makes form.Cancel (x ∷ []) fit placed here = by_parts _ refl refl refl refl
-  makes form.Log (a ∷ []) fit placed here = by_parts _ refl refl refl refl
-  makes form.Draw (x ∷ lo ∷ hi ∷ []) fit placed here = by_parts _ refl refl refl refl
-  makes form.With (x ∷ r ∷ more) fit placed here = by_parts _ refl refl refl refl
-  makes form.Loop [] fit placed here = by_parts _ refl refl refl refl
-  makes form.Repeat (a ∷ []) fit placed here = by_parts _ refl refl refl refl
-  makes form.If (a ∷ []) fit placed here = by_parts _ refl refl refl refl
-  makes form.Try [] fit placed here = by_parts _ refl refl refl refl
-  makes form.Release (x ∷ []) fit placed here =
+  pub makes : (f : Form) (slots : List Slot) → (is_statement f && may_have (shape f) (length slots)) ≡ true → misplaced place.above f slots ≡ false → place.above.blocks ≡ Some blocks → GivesNew place.variables blocks f slots → Makes heads place n blocks f slots
+  makes form.Let (x ∷ a ∷ []) fit placed here new = by_parts _ refl refl refl refl
+  makes form.Let (x ∷ a ∷ op ∷ b ∷ []) fit placed here new = by_parts _ refl refl refl refl
+  makes form.Count (x ∷ r ∷ []) fit placed here new = by_parts _ refl refl refl refl
+  makes form.Timeout (d ∷ []) fit placed here new = by_parts _ refl refl refl refl
+  makes form.NewTimeout (x ∷ d ∷ v ∷ []) fit placed here new = by_parts _ refl refl refl refl
+  makes form.NewEvent (x ∷ []) fit placed here new = by_parts _ refl refl refl refl
+  makes form.Wait (e ∷ []) fit placed here new = by_parts _ refl refl refl refl
+  makes form.Succeed (e ∷ v ∷ []) fit placed here new = by_parts _ refl refl refl refl
+  makes form.Fail (e ∷ c ∷ []) fit placed here new = by_parts _ refl refl refl refl
+  makes form.NewAll (x ∷ es) fit placed here new = by_parts _ refl refl refl refl
+  makes form.NewAny (x ∷ es) fit placed here new = by_parts _ refl refl refl refl
+  makes form.Has (y ∷ c ∷ e ∷ []) fit placed here new = by_parts _ refl refl refl refl
+  makes form.Spawn (p ∷ args) fit placed here new = by_parts _ refl refl refl refl
+  makes form.NewSpawn (x ∷ p ∷ args) fit placed here new = by_parts _ refl refl refl refl
+  makes form.Interrupt (p ∷ c ∷ []) fit placed here new = by_parts _ refl refl refl refl
+  makes form.Drop (p ∷ v ∷ []) fit placed here new = by_parts _ refl refl refl refl
+  makes form.Raise (c ∷ []) fit placed here new = by_parts _ refl refl refl refl
+  makes form.Finish (v ∷ []) fit placed here new = by_parts _ refl refl refl refl
+  makes form.Put (r ∷ a ∷ more) fit placed here new = by_parts _ refl refl refl refl
+  makes form.NewPut (x ∷ r ∷ a ∷ more) fit placed here new = by_parts _ refl refl refl refl
+  makes form.Get (r ∷ []) fit placed here new = by_parts _ refl refl refl refl
+  makes form.Get (r ∷ a ∷ more) fit placed here new = by_parts _ refl refl refl refl
+  makes form.NewGet (x ∷ r ∷ []) fit placed here new = by_parts _ refl refl refl refl
+  makes form.NewGet (x ∷ r ∷ a ∷ more) fit placed here new = by_parts _ refl refl refl refl
+  makes form.Cancel (x ∷ []) fit placed here new = by_parts _ refl refl refl refl
+  makes form.Log (a ∷ []) fit placed here new = by_parts _ refl refl refl refl
+  makes form.Draw (x ∷ lo ∷ hi ∷ []) fit placed here new = by_parts _ refl refl refl refl
+  makes form.With (x ∷ r ∷ more) fit placed here new = by_parts _ refl (ap not new.1) refl refl
+  makes form.Loop [] fit placed here new = by_parts _ refl refl refl refl
+  makes form.Repeat (a ∷ []) fit placed here new = by_parts _ refl refl refl refl
+  makes form.If (a ∷ []) fit placed here new = by_parts _ refl refl refl refl
+  makes form.Try [] fit placed here new = by_parts _ refl refl refl refl
+  makes form.Release (x ∷ []) fit placed here new =
       let stands : not (list_any (λ b. is_with b && same x.word b.variable) blocks) ≡ false = rw here at placed in
       by_parts (stmt.Release (variable place.variables x.word)) refl (release_stands place.variables x.word blocks (not-false _ stands)) refl refl
-  makes form.Else [] fit placed here =
+  makes form.Else [] fit placed here new =
       let stands : not (awaits_else blocks) ≡ false = rw here at placed in
       let g : Splits place.variables (stmt.Else 0) InElse blocks = else_stands place.variables blocks (not-false _ stands) in
       by_parts (stmt.Else 0) refl g.may g.behind refl
-  makes form.Catch (k ∷ v ∷ []) fit placed here =
+  makes form.Catch (k ∷ v ∷ []) fit placed here new =
       let stands : not (awaits_catch blocks) ≡ false = rw here at placed in
       let g : Splits place.variables (stmt.Catch (variable place.variables k.word) (variable place.variables v.word) 0) InCatch blocks = catch_stands place.variables _ _ blocks (not-false _ stands) in
       by_parts (stmt.Catch (variable place.variables k.word) (variable place.variables v.word) 0) refl g.may g.behind refl
-  makes form.End [] fit placed here =
+  makes form.End [] fit placed here new =
       let stands : awaits_catch blocks ≡ false = rw here at (or_parts (not (in_process place.above)) _ placed).1 in
       let c : Closes place.variables n blocks = end_stands place.variables n blocks stands in
       by_parts (end_of blocks) (ap (λ open_here. Some (end_of (unwrap_or open_here []))) here) c.may c.behind c.ends
-  makes form.Break [] fit placed here =
+  makes form.Break [] fit placed here new =
       let stands : not (list_any is_loop blocks) ≡ false = rw here at placed in
       by_parts stmt.Break refl (break_stands place.variables blocks ∙ not-false _ stands) refl refl
-  makes f slots fit placed here = absurd (false≢true fit)
+  makes f slots fit placed here new = absurd (false≢true fit)

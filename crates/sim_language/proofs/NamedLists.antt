@@ -1,6 +1,6 @@
 -- Lists of things with names, as they grow.
-use Rattle.std.specs.Prelude.{◌≡◌, refl, ℕ, suc, Bool, true, false, if◌then◌else◌, List, [], ◌∷◌, ◌++◌, Option, Some, None, is_some, option_map, map, slice_get}
-use Rattle.std.proofs.Common.{sym, ap, ◌∙◌, ◌⊎◌, inl, inr}
+use Rattle.std.specs.Prelude.{◌≡◌, refl, ℕ, zero, suc, Bool, true, false, if◌then◌else◌, List, [], ◌∷◌, ◌++◌, Option, Some, None, is_some, option_map, map, slice_get}
+use Rattle.std.proofs.Common.{arith, sym, ap, ◌∙◌, ◌⊎◌, inl, inr}
 use Rattle.std.proofs.lemmas.Bool.{true≢false, false≢true}
 use Rattle.std.proofs.lemmas.Option.{none-some, same_Some}
 use Rattle.std.proofs.lemmas.Slice.Eq.{bytes_eq-Decides}
@@ -81,6 +81,27 @@ named_push w ns n h = by (value_of_push w ns n (named_value w (ns ++ n ∷ []) h
     by (inr new) = inr new.0
 
 -- ---- places
+
+later_is : (o : Option ℕ) (i : ℕ) → option_map suc o ≡ Some (suc i) → o ≡ Some i
+later_is None i h = absurd (none-some (suc i) h)
+later_is (Some j) i h = let e = same_Some (suc j) (suc i) h in let same : j ≡ i = omega (arith, e) in ap Some same
+
+never_first : (o : Option ℕ) → option_map suc o ≡ Some 0 → false ≡ true
+never_first None h = absurd (none-some 0 h)
+never_first (Some j) h = let e = same_Some (suc j) 0 h in absurd (omega (arith, e))
+
+-- only one name has a place
+pub place_same : {A : Type 0} (v w : Word) (ns : List (Named A)) (i : ℕ) → place_of v ns ≡ Some i → place_of w ns ≡ Some i → v ≡ w
+place_same v w [] i h g = absurd (none-some i h)
+place_same v w (n ∷ ns) i h g = by i (same v n.name) refl (same w n.name) refl h g (place_same v w ns)
+  where
+    by : (j : ℕ) (b : Bool) → same v n.name ≡ b → (c : Bool) → same w n.name ≡ c → (if b then Some 0 else option_map suc (place_of v ns)) ≡ Some j → (if c then Some 0 else option_map suc (place_of w ns)) ≡ Some j → ((k : ℕ) → place_of v ns ≡ Some k → place_of w ns ≡ Some k → v ≡ w) → v ≡ w
+    by j true e true f h g rest = same_is v n.name e ∙ sym (same_is w n.name f)
+    by zero true e false f h g rest = absurd (false≢true (never_first (place_of w ns) g))
+    by (suc k) true e false f h g rest = let none = same_Some 0 (suc k) h in absurd (omega (arith, none))
+    by zero false e c f h g rest = absurd (false≢true (never_first (place_of v ns) h))
+    by (suc k) false e true f h g rest = let none = same_Some 0 (suc k) g in absurd (omega (arith, none))
+    by (suc k) false e false f h g rest = rest k (later_is (place_of v ns) k h) (later_is (place_of w ns) k g)
 
 -- what has a name stands at its place
 pub place_value : {A : Type 0} (w : Word) (ns : List (Named A)) (v : A) → value_of w ns ≡ Some v → (i : ℕ) × (place_of w ns ≡ Some i) × (slice_get (map (λ n. n.value) ns) i ≡ Some v)

@@ -46,6 +46,9 @@ name_in_capitals-built = refl
 nesting_of_33 : fault_of all_forms (codes "scenario 1\nuntil empty\nprocess p\nloop\nloop\nloop\nloop\nloop\nloop\nloop\nloop\nloop\nloop\nloop\nloop\nloop\nloop\nloop\nloop\nloop\nloop\nloop\nloop\nloop\nloop\nloop\nloop\nloop\nloop\nloop\nloop\nloop\nloop\nloop\nloop\nloop\n") ≡ Some (record { line = 36; kind = fault.TooMany })
 nesting_of_33 = refl
 
+nesting_of_33-built : fault_of is_built (codes "scenario 1\nuntil empty\nprocess p\nloop\nloop\nloop\nloop\nloop\nloop\nloop\nloop\nloop\nloop\nloop\nloop\nloop\nloop\nloop\nloop\nloop\nloop\nloop\nloop\nloop\nloop\nloop\nloop\nloop\nloop\nloop\nloop\nloop\nloop\nloop\nloop\nloop\n") ≡ Some (record { line = 36; kind = fault.TooMany })
+nesting_of_33-built = refl
+
 nine_parameters : fault_of all_forms (codes "scenario 1\nuntil empty\nprocess p a b c d e f g h i\nend\n") ≡ Some (record { line = 3; kind = fault.TooMany })
 nine_parameters = refl
 

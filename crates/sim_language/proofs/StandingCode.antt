@@ -15,6 +15,7 @@ use Rattle.sim_language.specs.Places.{Place}
 use Rattle.sim_language.specs.FittingBlocks.{is_end_process, firsts}
 use Rattle.sim_language.proofs.ClosedBlocks.{Leaves, leaves_none, leaves_more, frames_then, last_ends, last_ends-push}
 use Rattle.sim_language.proofs.BlockFrames.{frame_of, frames_of, frames_at}
+use Rattle.sim_language.proofs.OpenWiths.{AllNamed, GivesNew, named_behind}
 use Rattle.sim_language.proofs.MadeStatements.{Makes}
 use Rattle.sim_language.proofs.ProcessFirsts.{next_first, firsts-push}
 
@@ -26,6 +27,7 @@ pub record Stands (n : ℕ) (variables : List (Named Class)) (blocks : Option (L
   pub counted : length code ≡ n
   pub leaves : Leaves n (frames_at variables blocks) code
   pub few : nat_le (length (unwrap_or blocks [])) 32 ≡ true
+  pub named : AllNamed variables (unwrap_or blocks [])
   pub ended : is_none blocks ≡ true → last_ends code ≡ true
   -- outside a process the next one begins here
   pub begun : firsts code ≡ firsts_of kinds ++ next_first (is_none blocks) n
@@ -36,7 +38,7 @@ stands_like m n v w b c code more kinds others counts variables blocks codes hea
 
 -- before the first line
 pub stands_none : (variables : List (Named Class)) → Stands 0 variables None [] []
-stands_none variables = record { counted = refl; leaves = leaves_none; few = refl; ended = λ h. refl; begun = refl }
+stands_none variables = record { counted = refl; leaves = leaves_none; few = refl; named = tt; ended = λ h. refl; begun = refl }
 
 -- a process begins
 pub stands_process : (n : ℕ) (before variables : List (Named Class)) (code : List Stmt) (kinds : List Kind) (k : Kind) → k.first ≡ n → Stands n before None code kinds → Stands n variables (Some []) code (kinds ++ k ∷ [])
@@ -44,6 +46,7 @@ stands_process n before variables code kinds k first p = record {
   counted = p.counted;
   leaves = p.leaves;
   few = refl;
+  named = tt;
   ended = λ h. absurd (false≢true h);
   begun = p.begun ∙ ap (λ m. firsts_of kinds ++ m ∷ []) (sym first) ∙ sym (map-append (λ x. x.first) kinds (k ∷ [])) ∙ sym (append-nil (firsts_of (kinds ++ k ∷ [])));
 }
@@ -74,11 +77,12 @@ few_behind inside form.Try slots blocks few room = one_more (length blocks) room
 few_behind inside f slots blocks few room = few
 
 -- the line makes one statement more
-pub stands_statement : (heads : Heads) (place : Place) (n : ℕ) (blocks : List Block) (f : Form) (slots : List Slot) (code : List Stmt) (kinds : List Kind) → (m : Makes heads place n blocks f slots) → (opens_block f && nat_le 32 (length blocks)) ≡ false → Stands n place.variables (Some blocks) code kinds → Stands (suc n) place.variables (blocks_behind (suc n) f slots (Some blocks)) (code ++ m.made ∷ []) kinds
-stands_statement heads place n blocks f slots code kinds m room p = record {
+pub stands_statement : (heads : Heads) (place : Place) (n : ℕ) (blocks : List Block) (f : Form) (slots : List Slot) (code : List Stmt) (kinds : List Kind) → (m : Makes heads place n blocks f slots) → GivesNew place.variables blocks f slots → (opens_block f && nat_le 32 (length blocks)) ≡ false → Stands n place.variables (Some blocks) code kinds → Stands (suc n) place.variables (blocks_behind (suc n) f slots (Some blocks)) (code ++ m.made ∷ []) kinds
+stands_statement heads place n blocks f slots code kinds m new room p = record {
   counted = counted;
   leaves = subst (λ frames. Leaves (suc n) frames (code ++ m.made ∷ [])) m.behind (leaves_more n (frames_of place.variables blocks) code m.made p.leaves m.may framed);
   few = few;
+  named = named_behind place.variables (suc n) f slots blocks new p.named;
   ended = λ h. last_ends-push code m.made ∙ m.ends ∙ h;
   begun = firsts-push code m.made ∙ ap (λ ns. ns ++ next_first (is_end_process m.made) (suc (length code))) (p.begun ∙ append-nil (firsts_of kinds)) ∙ rw (p.counted, m.ends) refl;
 }

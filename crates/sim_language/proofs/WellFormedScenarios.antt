@@ -1,6 +1,10 @@
 -- The scenarios that are read are well-formed, computed.
-use Rattle.std.specs.Prelude.{◌≡◌, refl, Bool, true, false, codes, List, ℕ, Ok, Err}
+use Rattle.std.specs.Prelude.{◌≡◌, refl, Bool, true, false, codes, List, [], ◌∷◌, pos, ℕ, Ok, Err}
+use Rattle.sim_types.specs.declared.script.Num.TheVariants as num
+use Rattle.sim_types.specs.declared.script.Stmt.{Stmt}
+use Rattle.sim_types.specs.declared.script.Stmt.TheVariants as stmt
 use Rattle.sim_language.specs.Built.{all_forms}
+use Rattle.sim_language.specs.FittingBlocks.{code_fits}
 use Rattle.sim_language.specs.Reads.{reads}
 use Rattle.sim_language.specs.WellFormed.{is_well_formed}
 
@@ -147,3 +151,22 @@ wait_for_processed_event = refl
 
 wash_with_one_arrival : reads_well (codes "scenario 1\nuntil 60\nseed 3\nresource wash 2\nport gate car\nprocess car id\nwith r = request wash\nwait r\ntimeout 5\nlog id\nend\nend\nprocess source\nlet i = 0\nloop\nspawn car i\nlet i = i + 1\ndraw g 1 5\ntimeout g\nend\nend\nstart source\njournal\nafter 0 0 0 gate 9\n") ≡ true
 wash_with_one_arrival = refl
+
+-- a `with` of this variable
+abbrev within : ℕ → Stmt
+within to = stmt.With to 0 (num.Lit (pos 0)) true
+
+-- what no text says: a `with` gives the variable of the one around it
+with_of_its_own_variable : code_fits (within 1 ∷ within 1 ∷ stmt.EndWith ∷ stmt.EndWith ∷ stmt.EndProcess ∷ []) ≡ false
+with_of_its_own_variable = refl
+
+with_of_the_variable_of_the_outer_but_one : code_fits (within 1 ∷ stmt.Loop 7 ∷ within 2 ∷ within 1 ∷ stmt.EndWith ∷ stmt.EndWith ∷ stmt.EndLoop 2 ∷ stmt.EndWith ∷ stmt.EndProcess ∷ []) ≡ false
+with_of_the_variable_of_the_outer_but_one = refl
+
+-- the same with a third variable
+with_within_loop_within_with : code_fits (within 1 ∷ stmt.Loop 7 ∷ within 2 ∷ within 3 ∷ stmt.EndWith ∷ stmt.EndWith ∷ stmt.EndLoop 2 ∷ stmt.EndWith ∷ stmt.EndProcess ∷ []) ≡ true
+with_within_loop_within_with = refl
+
+-- what texts say: one behind the other, or within one of another variable
+with_behind_with : code_fits (within 1 ∷ within 2 ∷ stmt.EndWith ∷ stmt.EndWith ∷ within 1 ∷ stmt.EndWith ∷ stmt.EndProcess ∷ []) ≡ true
+with_behind_with = refl

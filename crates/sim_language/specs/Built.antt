@@ -10,7 +10,7 @@ use Rattle.sim_language.specs.Lines.{is_empty}
 use Rattle.sim_language.specs.declared.form.Form.{Form}
 use Rattle.sim_language.specs.declared.form.Form.TheVariants as form
 
--- processes that sleep and log
+-- processes that sleep, log, calculate, draw numbers, go round, choose, catch what is thrown, raise and finish
 abbrev pub is_built : Form → Bool
 is_built form.Scenario = true
 is_built form.UntilEmpty = true
@@ -20,6 +20,17 @@ is_built form.Start = true
 is_built form.End = true
 is_built form.Timeout = true
 is_built form.Log = true
+is_built form.Let = true
+is_built form.Raise = true
+is_built form.Finish = true
+is_built form.Loop = true
+is_built form.Repeat = true
+is_built form.If = true
+is_built form.Else = true
+is_built form.Try = true
+is_built form.Catch = true
+is_built form.Break = true
+is_built form.Draw = true
 is_built f = false
 
 -- all forms of the language
@@ -31,6 +42,20 @@ abbrev pub is_built_statement : Stmt → Bool
 is_built_statement (stmt.Sleep delay) = true
 is_built_statement (stmt.Log value) = true
 is_built_statement stmt.EndProcess = true
+is_built_statement (stmt.Let to op a b) = true
+is_built_statement (stmt.Raise code) = true
+is_built_statement (stmt.Finish value) = true
+is_built_statement (stmt.Loop past) = true
+is_built_statement (stmt.Repeat times past) = true
+is_built_statement (stmt.If test other) = true
+is_built_statement (stmt.Else past) = true
+is_built_statement (stmt.Try catch) = true
+is_built_statement (stmt.Catch kind value past) = true
+is_built_statement (stmt.EndLoop first) = true
+is_built_statement (stmt.EndRepeat first) = true
+is_built_statement stmt.EndPlain = true
+is_built_statement stmt.Break = true
+is_built_statement (stmt.Draw to lo hi) = true
 is_built_statement s = false
 
 abbrev pub is_never : Until → Bool

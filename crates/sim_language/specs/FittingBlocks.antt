@@ -1,6 +1,6 @@
 -- Blocks that are closed, with statements that go on where they should.
 --     code_fits code
-use Rattle.std.specs.Prelude.{ℕ, suc, Bool, true, false, ◌&&◌, ◌==◌, if◌then◌else◌, nat_le, List, [], ◌∷◌, length}
+use Rattle.std.specs.Prelude.{ℕ, suc, Bool, true, false, not, ◌&&◌, ◌==◌, if◌then◌else◌, nat_le, List, [], ◌∷◌, length}
 use Rattle.std.specs.List.{list_any}
 use Rattle.sim_types.specs.declared.script.Stmt.{Stmt}
 use Rattle.sim_types.specs.declared.script.Stmt.TheVariants as stmt
@@ -59,6 +59,8 @@ stands_within n opens stmt.EndPlain = false
 stands_within n [] stmt.EndProcess = true
 stands_within n opens stmt.EndProcess = false
 stands_within n opens stmt.Break = list_any is_open_loop opens
+-- no `with` in which it stands has its variable
+stands_within n opens (stmt.With to res priority preempt) = not (list_any (is_open_with to) opens)
 stands_within n opens (stmt.Release v) = list_any (is_open_with v) opens
 stands_within n opens s = true
 

@@ -173,6 +173,17 @@ impl Form {
                 | Form::End
                 | Form::Timeout
                 | Form::Log
+                | Form::Let
+                | Form::Raise
+                | Form::Finish
+                | Form::Loop
+                | Form::Repeat
+                | Form::If
+                | Form::Else
+                | Form::Try
+                | Form::Catch
+                | Form::Break
+                | Form::Draw
         )
     }
 

@@ -77,18 +77,19 @@ four_from a b c d p q r s = rw (p, q, r, s) refl
 
 -- ---- one body
 
--- the body of a process is sound, its places fit, and it is told what fits
+-- the body of a process is sound and knows its number, its places fit, and it is told what fits
 pub record IsBodyWell {B : Type 0} (tell : Telling B) (sound : B → Type 0) (c : Calendar) (k : Control) (z : ProcessOf B) : Type 0 where
   pub body : sound z.body
+  pub own : tell.own z.body ≡ z.id
   pub places : list_all (place_fits c) (tell.places z.body) ≡ true
   pub told : is_told_well tell c z.id z.body k ≡ true
 
 pub bodies_well : {B : Type 0} (tell : Telling B) (sound : B → Type 0) (s : State B) → LawfulBodies tell sound s → All (IsBodyWell tell sound s.facilities.calendar s.control) s.processes
-bodies_well tell sound s h = λ k d below. record { body = h.bodies k d below; places = h.places k d below; told = h.told k d below }
+bodies_well tell sound s h = λ k d below. record { body = h.bodies k d below; own = h.own k d below; places = h.places k d below; told = h.told k d below }
 
 pub bodies_lawful : {B : Type 0} (tell : Telling B) (sound : B → Type 0) (s : State B) → All (IsBodyWell tell sound s.facilities.calendar s.control) s.processes → LawfulBodies tell sound s
 bodies_lawful tell sound s h =
-    record { bodies = λ k d below. (h k d below).body; places = λ k d below. (h k d below).places; told = λ k d below. (h k d below).told }
+    record { bodies = λ k d below. (h k d below).body; own = λ k d below. (h k d below).own; places = λ k d below. (h k d below).places; told = λ k d below. (h k d below).told }
 
 -- ---- places
 

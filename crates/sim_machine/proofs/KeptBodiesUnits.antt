@@ -71,7 +71,7 @@ bodies-settled g tell sound s e calling h =
 
 -- a lawful poll, as far as bodies go
 pub body_poll : {B : Type 0} (g : Plan B) (tell : Telling B) (sound : B → Type 0) (s : State B) (f : CodeFacts) (e : EventId) (left : List Callback) (p : ProcId) (x : Signal) (y : ProcessOf B) (b : B) (o : Op) → s.control ≡ Active e left p x → process_at p s ≡ Some y → sound b → Lawful g tell sound s → IsLawfulPoll f tell y.body x o b → IsBodyPoll tell sound s e left p x y b
-body_poll g tell sound s f e left p x y b o active found sb h poll = record { active = active; found = found; is_sound = sb; places = poll.places; lawful = h.bodies }
+body_poll g tell sound s f e left p x y b o active found sb h poll = record { active = active; found = found; is_sound = sb; own = poll.own; places = poll.places; lawful = h.bodies }
 
 pub bodies-polled_nop : {B : Type 0} (g : Plan B) (tell : Telling B) (sound : B → Type 0) (s : State B) (f : CodeFacts) (e : EventId) (left : List Callback) (p : ProcId) (x : Signal) (y : ProcessOf B) (b : B) → s.control ≡ Active e left p x → process_at p s ≡ Some y → sound b → Lawful g tell sound s → IsLawfulPoll f tell y.body x op.Nop b → LawfulBodies tell sound (polled g p op.Nop b s)
 bodies-polled_nop g tell sound s f e left p x y b active found sb h poll =
@@ -167,10 +167,11 @@ bodies-made_process_placed {B} g tell sound s f k args may start placed sb h =
     let P : ProcessOf B → Type 0 = IsBodyWell tell sound c s.control in
     let Q : ProcessOf B → Type 0 = IsBodyWell tell sound d s.control in
     let old : OldStay c d = old_process c in
-    let stays : (x : ProcessOf B) → P x → Q x = λ x w. record { body = w.body; places = places_grown c d (grown_old c d old) (tell.places x.body) w.places; told = told_stays tell c d x.id x.body s.control old w.told } in
+    let stays : (x : ProcessOf B) → P x → Q x = λ x w. record { body = w.body; own = w.own; places = places_grown c d (grown_old c d old) (tell.places x.body) w.places; told = told_stays tell c d x.id x.body s.control old w.told } in
     let waits : waits_or_new tell z.body ≡ true = ap (λ (o : Option Op). elim o [ None ↦ true | Some a ↦ may_wait a ]) start.last in
     bodies_lawful tell sound t (All-push Q s.processes z (All-weaker P Q stays s.processes (bodies_well tell sound s h.bodies)) (record {
       body = sb;
+      own = start.own;
       places = places_grown c d (grown_old c d old) (tell.places z.body) placed;
       told = new_waits tell d p z.body s.control (λ q active. new_not_active g.setup.events s q p h.processes refl active) waits;
     }))

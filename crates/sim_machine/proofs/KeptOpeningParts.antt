@@ -70,7 +70,7 @@ lawful-written g tell sound s l h =
       };
       capacities = h.capacities;
       conditions = h.conditions;
-      bodies = record { bodies = h.bodies.bodies; places = h.bodies.places; told = h.bodies.told };
+      bodies = record { bodies = h.bodies.bodies; own = h.bodies.own; places = h.bodies.places; told = h.bodies.told };
       chains = h.chains;
     }
 

@@ -37,7 +37,7 @@ made_other : (v : Bool) (r : EventId) → v ≡ false → (if v then r ∷ [] el
 made_other v r h = rw h refl
 
 -- another process is told of none
-entered_other : (e : EventId) (left : List Callback) (p : ProcId) (x : Signal) (q : ProcId) (v : Bool) → is_process p q ≡ false → entered_by (Active e left p x) q v ≡ []
+pub entered_other : (e : EventId) (left : List Callback) (p : ProcId) (x : Signal) (q : ProcId) (v : Bool) → is_process p q ≡ false → entered_by (Active e left p x) q v ≡ []
 entered_other e left p (signal.Made r) q true h = made_other (is_process p q) r h
 entered_other e left p (signal.Made r) q false h = refl
 entered_other e left p _ q v h = refl
@@ -130,14 +130,15 @@ knows_nothing_new tell s t z scopes entered own few =
     (same ∙ (own ∙ sym none), subst (λ (es : List EventId). length es ≤ most_scopes) (sym same) few)
 
 -- a process that is not the active one knows its scopes, and is told of none
-knows_other : {B : Type 0} (tell : Telling B) (s t : State B) (e : EventId) (left : List Callback) (p : ProcId) (x : Signal) (z : ProcessOf B) → s.control ≡ Active e left p x → t.scopes ≡ s.scopes → ((q : ProcId) (v : Bool) → entered_by t.control q v ≡ []) → is_process z.id p ≡ false → KnowsItsScopes tell s z → KnowsItsScopes tell t z
+pub knows_other : {B : Type 0} (tell : Telling B) (s t : State B) (e : EventId) (left : List Callback) (p : ProcId) (x : Signal) (z : ProcessOf B) → s.control ≡ Active e left p x → t.scopes ≡ s.scopes → ((q : ProcId) (v : Bool) → entered_by t.control q v ≡ []) → is_process z.id p ≡ false → KnowsItsScopes tell s z → KnowsItsScopes tell t z
 knows_other tell s t e left p x z active scopes entered is h =
     let v : Bool = is_enter (tell.last z.body) in
     let none : entered_by s.control z.id v ≡ [] = ap (λ (k : Control). entered_by k z.id v) active ∙ entered_other e left p x z.id v (is_process-sym p z.id ∙ is) in
     let old : tell.scopes z.body ++ entered_by s.control z.id v ≡ tell.scopes z.body = ap (λ (es : List EventId). tell.scopes z.body ++ es) none ∙ append-nil (tell.scopes z.body) in
     knows_nothing_new tell s t z scopes entered (h.0 ∙ old) h.1
 
-knows_polled : {B : Type 0} (g : Plan B) (tell : Telling B) (s t : State B) (e : EventId) (left : List Callback) (p : ProcId) (x : Signal) (y : ProcessOf B) (b : B) (z : ProcessOf B) → IsWaitingPoll g tell s e left p x y b → t.scopes ≡ s.scopes → ((q : ProcId) (v : Bool) → entered_by t.control q v ≡ []) → KnowsItsScopes tell s z → (v : Bool) → is_process z.id p ≡ v → KnowsItsScopes tell t (if v then record z { body = b } else z)
+-- once p was polled, and nobody is told of a request, each process knows its scopes, p by its new body
+pub knows_polled : {B : Type 0} (g : Plan B) (tell : Telling B) (s t : State B) (e : EventId) (left : List Callback) (p : ProcId) (x : Signal) (y : ProcessOf B) (b : B) (z : ProcessOf B) → IsWaitingPoll g tell s e left p x y b → t.scopes ≡ s.scopes → ((q : ProcId) (v : Bool) → entered_by t.control q v ≡ []) → KnowsItsScopes tell s z → (v : Bool) → is_process z.id p ≡ v → KnowsItsScopes tell t (if v then record z { body = b } else z)
 knows_polled g tell s t e left p x y b z h scopes entered w true is =
     let own : (requests_of z.id s ≡ scopes_told (tell.scopes y.body) (tell.last y.body) x) × (length (requests_of z.id s) ≤ most_scopes) = own_scopes g tell s e left p x y h.active h.found h.lawful z.id is in
     knows_nothing_new tell s t (record z { body = b }) scopes entered (own.0 ∙ sym h.scopes) own.1

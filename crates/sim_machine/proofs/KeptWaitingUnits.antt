@@ -109,7 +109,7 @@ waiting-polled_draw {B} g tell sound s f e left p x y b lo hi active found sb h 
     (waiting_polled g tell s e left p x y b c (told_more n s.control) s.processed (s.drawn + 1) s.lines all (grown_itself c) (waits_pending c) (λ q v. ap (λ (k : Control). entered_by (told_more n k) q v) active))
 
 -- what waits is pending still, where old events stay as they were
-old_pending : (c d : Calendar) → OldStay c d → (w : Waiter) → waits_well c w ≡ true → is_pending d w.event ≡ true
+pub old_pending : (c d : Calendar) → OldStay c d → (w : Waiter) → waits_well c w ≡ true → is_pending d w.event ≡ true
 old_pending c d old w h =
     let made : was_made c w.event ≡ true = (four_parts (was_made c w.event) (is_pending c w.event) (not (event_at c w.event).cancelled) (may_wait_kind (kind_at c w.event)) h).0 in
     ap (λ (x : EventOf). is_none x.outcome) (old.same w.event (ltb-true w.event.0 (length c.events) made)) ∙ waits_pending c w h

@@ -1,5 +1,5 @@
--- Lawful bodies: they are sound, hold events of their classes, and are told what fits.
-use Rattle.std.specs.Prelude.{Bool, ◌==◌, ◌||◌, ◌&&◌, not, true, Some, None, if◌then◌else◌, All}
+-- Lawful bodies: they are sound, know their numbers, hold events of their classes, and are told what fits.
+use Rattle.std.specs.Prelude.{Bool, ◌≡◌, ◌==◌, ◌||◌, ◌&&◌, not, true, Some, None, if◌then◌else◌, All}
 use Rattle.std.specs.List.{list_all, AllPass}
 use Rattle.sim_types.specs.declared.event.ProcId.{ProcId}
 use Rattle.sim_types.specs.declared.event.Signal.{Signal}
@@ -31,8 +31,10 @@ abbrev pub is_told_well : {B : Type 0} → Telling B → Calendar → ProcId →
 is_told_well tell c p b (Active e left q x) = if is_process q p then told_fits tell c b x else waits_or_new tell b
 is_told_well tell c p b _ = waits_or_new tell b
 
--- the bodies of live processes are sound, their places hold events of their classes, and they wait unless they are active
+-- live processes: their bodies are sound, their bodies know their numbers, their places hold events of their classes,
+-- and they wait unless they are active
 pub record LawfulBodies {B : Type 0} (tell : Telling B) (sound : B → Type 0) (s : State B) : Type 0 where
   pub bodies : All (λ x. sound x.body) s.processes
+  pub own : All (λ x. tell.own x.body ≡ x.id) s.processes
   pub places : AllPass (λ x. list_all (place_fits s.facilities.calendar) (tell.places x.body)) s.processes
   pub told : AllPass (λ x. is_told_well tell s.facilities.calendar x.id x.body s.control) s.processes

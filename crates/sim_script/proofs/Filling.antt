@@ -1,16 +1,9 @@
 -- What a script is filled with.
 use Rattle.std.proofs.Common.{◌≡◌, ℕ, zero, suc, ◌-◌, ◌<◌, ℤ, pos, List, [], ◌∷◌, ◌++◌, length, get_or, replicate, refl, arith, None}
-use Rattle.std.specs.Prelude.{IsTrue}
 use Rattle.sim_types.specs.Scenarios.{ScenarioOf}
 use Rattle.sim_types.specs.declared.script.Kind.{Kind}
-use Rattle.sim_machine.specs.BodyLaw.{may_begin}
 use Rattle.sim_script_model.specs.Scripts.{Running, classes_at, first_place}
-use Rattle.sim_script.specs.ScriptMembers.{filled_script, script_facts}
-use Rattle.sim_script.specs.ScriptStarts.{may_begin_with}
-
--- the kind is one of the scenario's
-pub has_kind : (x : ScenarioOf) (k : ℕ) (args : List ℤ) → IsTrue (may_begin (script_facts x) k args) → k < length x.kinds
-has_kind x k args may = (may_begin_with x k args may).1.within
+use Rattle.sim_script_law.specs.ScriptMembers.{filled_script}
 
 read_classes : (kinds : List Kind) (k : ℕ) (d : Kind) → k < length kinds → classes_at kinds k ≡ (get_or kinds k d).classes
 read_classes [] k d lt = absurd (omega arith)

@@ -1,37 +1,23 @@
-//! Scripts, which do the statements of a scenario.
-ghost use Rattle.std.specs.Prelude.{◌≡◌, ◌+◌, ◌-◌, ◌≤◌, pos, [], ◌∷◌, ◌++◌, IsTrue, drop, length, replicate};
-ghost use Rattle.sim_types.specs.declared.op.Op.TheVariants as op;
-ghost use Rattle.sim_script_model.specs.Scripts.{set_place, stmt_at, value_of_num};
-ghost use Rattle.sim_script_model.specs.Polls.{do_stmt, remember, take_in};
-ghost use Rattle.sim_script.specs.ScriptMembers.{has_variable, lead_to_end};
+//! The state of a script.
+ghost use Rattle.std.specs.Prelude.{◌≡◌, ◌+◌, ◌-◌, ◌^◌, ◌<◌, ◌≤◌, pos, None, [], ◌∷◌, ◌++◌, length, replicate, slice_index_or, IsTrue, MatchOption};
+ghost use Rattle.sim_script_model.specs.Scripts.{Running, Throwing, set_variable, set_place, set_mode, tail_of, push_frame, pop_frame, stmt_at, value_of_num, value_of_arg, event_in, event_of_ref, process_of_ref};
+ghost use Rattle.sim_script_model.specs.Polls.{store, given_by, last_stmt, open_with, catch_by, leave_try, leave_loop, end_by_mode, do_stmt, take_in, unwind, ask_in_mode, script_turn};
+ghost use Rattle.sim_script_law.specs.Ready.{is_variable, has_variable, refers_within, argument_within, event_is_small, variables_within, has_room, scope_finds_room, can_take, can_do, can_leave, can_ask};
+ghost use Rattle.sim_script_law.specs.ScriptMembers.{script_holds};
+ghost use Rattle.sim_script.specs.Kept.{frame_of, mode_of};
 
-use sim_code::Scenario;
-use sim_procs::Body;
-use sim_types::{Args, Class, Classes, EventId, Num, Op, ProcId, Signal, Stmt, Throw};
-use std::alloc::{AllocError, Global};
+use crate::frames::{Frame, Frames};
+use crate::mode::Mode;
+use sim_memo::Memo;
+use sim_types::{
+    Class, Classes, EventId, Kind, Num, Op, ProcId, Ref, Signal, SpawnArg, Stmt, Throw,
+};
 use std::marker::Model;
 
 /// What is thrown for an error that a process made itself has this kind.
 const ERROR: u8 = 4;
 
-/// Whether a script goes on as written.
-#[derive(Clone, Copy)]
-enum Mode {
-    Running,
-    Throwing(Throw),
-}
-
-/// The operations that a script asks for.
-#[derive(Clone, Copy)]
-enum Asked {
-    Nothing,
-    Pause(i64),
-    Log(i64),
-    Finish,
-    Die(Throw),
-}
-
-/// A process that does the statements of its kind one after the other.
+/// A process that does the statements of its kind.
 #[derive(Drop)]
 pub struct Script {
     me: ProcId,
@@ -42,138 +28,77 @@ pub struct Script {
     place: usize,
     /// `val`, then the parameters, then the others. An event is held by its number.
     variables: [i64; 64],
+    frames: Frames,
     mode: Mode,
-    asked: Asked,
+    /// What it asked for last, which contracts alone see.
+    asked: Option<Memo<Op>>,
 }
 
 impl Model for Script {
-    ghost use Rattle.std.specs.Prelude.{[]};
+    ghost use Rattle.std.specs.Prelude.{◌<◌, ◌^◌};
     ghost use Rattle.sim_script_model.specs.Scripts.{Script};
-    ghost use Rattle.sim_script.specs.Asking.{mode_of, op_of};
+    ghost use Rattle.sim_script.specs.Kept.{mode_of, asked_of};
 
     ghost Value = { Script };
 
-    ghost view = { λ a. record { me = a.me; kind = a.kind; classes = a.classes; place = a.place; variables = a.variables; frames = []; mode = mode_of a.mode; asked = op_of a.asked } };
+    ghost view = { λ a. record { me = a.me; kind = a.kind; classes = a.classes; place = a.place; variables = a.variables; frames = a.frames; mode = mode_of a.mode; asked = asked_of a.asked } };
+
+    ghost invariant = { λ a. a.me.0 < 2 ^ 63 };
 }
 
-impl Body for Script {
-    ghost use Rattle.sim_script.specs.ScriptMembers.{filled_script, owned_script, IsScriptTurn, script_tells, script_facts, script_holds, IsSoundScript};
-    ghost use Rattle.sim_script.specs.ScriptLaw.{script_lawful, script_has_places, script_has_few_places};
-
-    type Code = Scenario;
-
-    ghost filled = { filled_script };
-
-    ghost owned = { owned_script };
-
-    ghost turn = { IsScriptTurn };
-
-    ghost tell = { script_tells };
-
-    ghost facts = { script_facts };
-
-    ghost sound = { IsSoundScript };
-
-    ghost held = { script_holds };
-
-    ghost lawful = { script_lawful };
-
-    ghost places = { script_has_places };
-
-    ghost few_places = { script_has_few_places };
-
-    fn blank(_alloc: Global, _code: &Scenario) -> Result<Script, AllocError> {
-        Ok(Script {
+impl Script {
+    /// A script of no process kind.
+    pub(crate) fn new() -> Script {
+        Script {
             me: ProcId(0),
             kind: 0,
             classes: Classes::new(),
             place: 0,
             variables: [0; 64],
+            frames: Frames::new(),
             mode: Mode::Running,
-            asked: Asked::Nothing,
-        })
+            asked: None,
+        }
     }
 
-    fn fill(&mut self, code: &Scenario, kind: u32, args: Args) {
-        let declared = &code.kinds()[kind as usize];
+    /// Stands at the begin of a process of a kind, which has not been told its number.
+    pub(crate) fn begin(&mut self, kind: u32, declared: &Kind, args: &[i64])
+        requires { length args.now ≤ 63 }
+        ensures { self.new ≡ record { me = record { 0 = 0 }; kind = kind; classes = declared.now.classes; place = declared.now.first; variables = pos 0 ∷ args.now ++ replicate (63 - length args.now) (pos 0); frames = []; mode = Running; asked = None } }
+    {
         self.me = ProcId(0);
         self.kind = kind;
         self.classes = declared.classes.copied();
         self.place = declared.first as usize;
-        self.variables = variables_of(args.as_slice());
+        self.variables = variables_of(args);
+        self.frames = Frames::new();
         self.mode = Mode::Running;
-        self.asked = Asked::Nothing;
+        self.asked = None;
     }
 
-    fn own(&mut self, id: ProcId) {
+    /// Its process has this number.
+    pub(crate) fn set_number(&mut self, id: ProcId)
+        requires { id.0 < 2 ^ 63 }
+        ensures { self.new ≡ record (self.old) { me = id } }
+    {
         self.me = id;
     }
 
-    fn poll(&mut self, code: &Scenario, now: i64, signal: Signal) -> Op {
-        self.take_in(signal);
-        match self.mode {
-            Mode::Running => self.do_statement(code.code(), now),
-            Mode::Throwing(thrown) => self.die(thrown),
-        }
-    }
-
-    fn place(&self, at: u8) -> EventId {
-        let at = usize::from(at);
-        match self.classes.get(at) {
+    /// The event in the place of a variable, or event 0 where the variable is a number.
+    pub(crate) fn held(&self, at: u8) -> EventId
+        requires { at < 64 }
+        ensures { result ≡ slice_index_or (script_holds self.now) at (record { 0 = 0 }) }
+    {
+        match self.classes.get(usize::from(at)) {
             Class::Number => EventId(0),
             Class::Event | Class::Cond | Class::Proc | Class::Request | Class::Move => {
-                EventId(self.variables[at].unsigned_abs())
+                self.event_in(at)
             }
-        }
-    }
-}
-
-impl Script {
-    /// Takes in what it is told. No statement that is built makes, counts or draws, so nothing depends on the code.
-    fn take_in(&mut self, signal: Signal)
-        ensures { self.new ≡ take_in [] signal self.old }
-    {
-        match signal {
-            Signal::Value(value) => self.variables[0] = value,
-            Signal::Thrown(thrown) => self.mode = Mode::Throwing(thrown),
-            Signal::Raised(error) => {
-                self.mode = Mode::Throwing(Throw {
-                    kind: ERROR,
-                    value: i64::from(error),
-                });
-            }
-            Signal::Begin | Signal::Made(_) | Signal::Number(_) | Signal::Done => {}
-        }
-    }
-
-    /// Does the statement at its place.
-    fn do_statement(&mut self, statements: &[Stmt], time: i64) -> Op
-        requires { IsTrue (lead_to_end (drop self.old.place statements.now)) }
-        ensures { (result, self.new) ≡ remember (do_stmt time (set_place (self.old.place + 1) self.old) (stmt_at statements.now self.old.place)) }
-    {
-        let statement = &statements[self.place];
-        self.place += 1;
-        match statement {
-            Stmt::Sleep { delay } => {
-                let delay = self.number(*delay, time);
-                self.asked = Asked::Pause(delay);
-                Op::Pause(delay, 0)
-            }
-            Stmt::Log { value } => {
-                let value = self.number(*value, time);
-                self.asked = Asked::Log(value);
-                Op::Log(value)
-            }
-            Stmt::EndProcess => {
-                self.asked = Asked::Finish;
-                Op::Finish(0)
-            }
-            _ => unreachable!(),
         }
     }
 
     /// What a number of a statement stands for.
-    fn number(&self, number: Num, time: i64) -> i64
+    pub(crate) fn number(&self, number: Num, time: i64) -> i64
         requires { IsTrue (has_variable number) }
         ensures { result ≡ value_of_num time self.now number }
     {
@@ -184,12 +109,260 @@ impl Script {
         }
     }
 
-    /// Ends by what is thrown.
-    fn die(&mut self, thrown: Throw) -> Op
-        ensures { (result, self.new) ≡ remember (op.Die thrown, self.old) }
+    /// The event that a variable holds.
+    pub(crate) fn event_in(&self, at: u8) -> EventId
+        requires { IsTrue (is_variable at) }
+        ensures { result ≡ event_in self.now at }
     {
-        self.asked = Asked::Die(thrown);
-        Op::Die(thrown)
+        EventId(self.variables[usize::from(at)].unsigned_abs())
+    }
+
+    /// The event that a statement names.
+    pub(crate) fn event(&self, named: Ref) -> EventId
+        requires { IsTrue (refers_within named) }
+        ensures { result ≡ event_of_ref self.now named }
+    {
+        match named {
+            Ref::Var(at) => self.event_in(at),
+            Ref::Named(number) => EventId(number),
+            Ref::Me => EventId(self.me.0),
+        }
+    }
+
+    /// The process that a statement names.
+    pub(crate) fn process(&self, named: Ref) -> ProcId
+        requires { IsTrue (refers_within named) }
+        ensures { result ≡ process_of_ref self.now named }
+    {
+        ProcId(self.event(named).0)
+    }
+
+    /// What a process is given.
+    pub(crate) fn argument(&self, given: SpawnArg, time: i64) -> i64
+        requires within { IsTrue (argument_within given) }
+        requires small { IsTrue (event_is_small self.now given) }
+        ensures { result ≡ value_of_arg time self.now given }
+    {
+        match given {
+            SpawnArg::Num(number) => self.number(number, time),
+            SpawnArg::Ref(Ref::Var(at)) => self.variables[usize::from(at)],
+            SpawnArg::Ref(Ref::Named(number)) => number as i64,
+            SpawnArg::Ref(Ref::Me) => self.me.0 as i64,
+        }
+    }
+
+    /// The innermost block that it stands in.
+    pub(crate) fn innermost(&self) -> Option<Frame>
+        ensures { MatchOption result (self.now.frames ≡ []) (λ frame. self.now.frames ≡ frame_of frame ∷ tail_of self.now.frames) }
+    {
+        self.frames.innermost()
+    }
+
+    /// Gives a variable a value.
+    pub(crate) fn set_variable(&mut self, at: u8, value: i64)
+        requires { IsTrue (is_variable at) }
+        ensures { self.new ≡ set_variable at value self.old }
+    {
+        self.variables[usize::from(at)] = value;
+    }
+
+    /// Goes on at a statement.
+    pub(crate) fn go_to(&mut self, place: u32)
+        ensures { self.new ≡ set_place place self.old }
+    {
+        self.place = place as usize;
+    }
+
+    /// Goes on in another way.
+    pub(crate) fn set_mode(&mut self, mode: Mode)
+        ensures { self.new ≡ set_mode (mode_of mode) self.old }
+    {
+        self.mode = mode;
+    }
+
+    /// Throws an error of its own.
+    pub(crate) fn throw_error(&mut self, number: u8)
+        ensures { self.new ≡ set_mode (Throwing (record { kind = 4; value = pos number })) self.old }
+    {
+        self.mode = Mode::Throwing(Throw {
+            kind: ERROR,
+            value: i64::from(number),
+        });
+    }
+
+    /// Enters a block.
+    pub(crate) fn enter(&mut self, frame: Frame)
+        requires { IsTrue (has_room self.old.frames) }
+        ensures { self.new ≡ push_frame (frame_of frame) self.old }
+    {
+        self.frames.push(frame);
+    }
+
+    /// Leaves its innermost block.
+    pub(crate) fn leave(&mut self)
+        ensures rest { self.new ≡ pop_frame self.old }
+        ensures room { IsTrue (has_room self.new.frames) }
+    {
+        self.frames.pop();
+    }
+
+    /// Is polled: takes in what it is told, and asks for an operation.
+    pub(crate) fn turn(&mut self, code: &[Stmt], time: i64, signal: Signal) -> Op
+        requires take { IsTrue (can_take code.now signal self.old) }
+        requires ask { IsTrue (can_ask code.now (take_in code.now signal self.old)) }
+        ensures { (result, self.new) ≡ script_turn code.now self.old time signal }
+    {
+        self.take_in(code, signal);
+        let op = self.ask(code, time);
+        self.asked = Some(Memo::of(&op));
+        op
+    }
+
+    // Takes in what it is told.
+    fn take_in(&mut self, code: &[Stmt], signal: Signal)
+        requires { IsTrue (can_take code.now signal self.old) }
+        ensures { self.new ≡ take_in code.now signal self.old }
+    {
+        match signal {
+            Signal::Begin | Signal::Done => {}
+            Signal::Value(value) => self.set_variable(0, value),
+            Signal::Thrown(thrown) => self.set_mode(Mode::Throwing(thrown)),
+            Signal::Raised(number) => self.throw_error(number),
+            Signal::Number(number) => self.store(code, number),
+            Signal::Made(event) => {
+                self.store(code, event.0 as i64);
+                self.open_scope(code, event);
+            }
+        }
+    }
+
+    // The number goes into the variable that the last statement gives it, where there is one.
+    fn store(&mut self, code: &[Stmt], value: i64)
+        requires { IsTrue (variables_within (last_stmt code.now self.old)) }
+        ensures { self.new ≡ store (given_by (last_stmt code.now self.old)) value self.old }
+    {
+        if let Some(last) = code.get(self.place.saturating_sub(1)) {
+            if let Some(to) = given_by(last) {
+                self.set_variable(to, value);
+            }
+        }
+    }
+
+    // Where the last statement was a `with`, its scope is open now.
+    fn open_scope(&mut self, code: &[Stmt], request: EventId)
+        requires { IsTrue (scope_finds_room self.old.frames (last_stmt code.now self.old)) }
+        ensures { self.new ≡ open_with (last_stmt code.now self.old) request self.old }
+    {
+        if let Some(Stmt::With { .. }) = code.get(self.place.saturating_sub(1)) {
+            self.enter(Frame::InScope(request));
+        }
+    }
+
+    // Does the statement at its place, or leaves a block.
+    fn ask(&mut self, code: &[Stmt], time: i64) -> Op
+        requires { IsTrue (can_ask code.now self.old) }
+        ensures { (result, self.new) ≡ ask_in_mode code.now time self.old }
+    {
+        match self.mode {
+            Mode::Running => self.go_on(code, time),
+            Mode::Throwing(_) | Mode::Breaking | Mode::Finishing(_) => self.unwind(code),
+        }
+    }
+
+    // Does the statement at its place.
+    fn go_on(&mut self, code: &[Stmt], time: i64) -> Op
+        requires { IsTrue (can_do code.now self.old) }
+        ensures { (result, self.new) ≡ do_stmt time (set_place (self.old.place + 1) self.old) (stmt_at code.now self.old.place) }
+    {
+        let statement = &code[self.place];
+        self.place += 1;
+        self.do_statement(statement, time)
+    }
+
+    // Leaves the innermost block, for the reason that the mode tells, or ends.
+    fn unwind(&mut self, code: &[Stmt]) -> Op
+        requires { IsTrue (can_leave code.now self.old.frames) }
+        ensures { (result, self.new) ≡ unwind code.now self.old self.old.frames }
+    {
+        match self.innermost() {
+            None => self.end(),
+            Some(Frame::InScope(_)) => {
+                self.leave();
+                Op::Leave
+            }
+            Some(Frame::InTry(catch)) => {
+                self.leave();
+                self.leave_try(code, catch);
+                Op::Nop
+            }
+            Some(Frame::InLoop(past) | Frame::InRepeat(_, past)) => {
+                self.leave();
+                self.leave_loop(past);
+                Op::Nop
+            }
+        }
+    }
+
+    // What is thrown is caught by the line of this try, and it goes on behind.
+    fn leave_try(&mut self, code: &[Stmt], catch: u32)
+        requires { IsTrue (variables_within (stmt_at code.now catch)) }
+        ensures { self.new ≡ leave_try code.now catch self.old.mode self.old }
+    {
+        if let Mode::Throwing(thrown) = self.mode {
+            self.catch(code, catch, thrown);
+            self.place = catch as usize + 1;
+            self.mode = Mode::Running;
+        }
+    }
+
+    // The variables of the catch line get what was thrown.
+    fn catch(&mut self, code: &[Stmt], at: u32, thrown: Throw)
+        requires { IsTrue (variables_within (stmt_at code.now at)) }
+        ensures { self.new ≡ catch_by (stmt_at code.now at) thrown self.old }
+    {
+        if let Some(Stmt::Catch { kind, value, .. }) = code.get(at as usize) {
+            self.set_variable(*kind, i64::from(thrown.kind));
+            self.set_variable(*value, thrown.value);
+        }
+    }
+
+    // A break goes no further than this loop.
+    fn leave_loop(&mut self, past: u32)
+        ensures { self.new ≡ leave_loop past self.old.mode self.old }
+    {
+        if let Mode::Breaking = self.mode {
+            self.go_to(past);
+            self.set_mode(Mode::Running);
+        }
+    }
+
+    // No block is left: it ends.
+    fn end(&self) -> Op
+        ensures { result ≡ end_by_mode self.now.mode }
+    {
+        match self.mode {
+            Mode::Throwing(thrown) => Op::Die(thrown),
+            Mode::Finishing(value) => Op::Finish(value),
+            Mode::Running | Mode::Breaking => Op::Nop,
+        }
+    }
+}
+
+/// The variable that a statement gives to what it makes, counts or draws.
+fn given_by(statement: &Stmt) -> Option<u8>
+    ensures { result ≡ given_by statement.now }
+{
+    match statement {
+        Stmt::Count { to, .. }
+        | Stmt::Timer { to, .. }
+        | Stmt::Fresh { to }
+        | Stmt::All { to, .. }
+        | Stmt::Any { to, .. }
+        | Stmt::Has { to, .. }
+        | Stmt::With { to, .. }
+        | Stmt::Draw { to, .. } => Some(*to),
+        Stmt::Spawn { to, .. } | Stmt::Put { to, .. } | Stmt::Get { to, .. } => *to,
+        _ => None,
     }
 }
 

@@ -76,6 +76,7 @@ pub data Fact : Type 0 where
   BuildsRegisteredFirst : Fact
   BuildsCalledFirst : Fact
   BodiesSound : Fact
+  BodiesKnowNumbers : Fact
   PlacesFit : Fact
   ToldWell : Fact
   ChainsRegisteredWell : Fact
@@ -185,6 +186,7 @@ condition_breaches c control =
 abbrev pub body_breaches : ScenarioOf → Telling Script → State Script → List Fact
 body_breaches x tell s =
     breach BodiesSound (list_all (λ y. is_sound x.kinds x.code y.body) s.processes)
+    ++ breach BodiesKnowNumbers (list_all (λ x. is_process (tell.own x.body) x.id) s.processes)
     ++ breach PlacesFit (list_all (λ x. list_all (place_fits s.facilities.calendar) (tell.places x.body)) s.processes)
     ++ breach ToldWell (list_all (λ x. is_told_well tell s.facilities.calendar x.id x.body s.control) s.processes)
 

@@ -1,5 +1,5 @@
 //! Scripts: the statements of the processes of a scenario.
-ghost use Rattle.std.specs.Prelude.{◌≡◌, ◌<◌, ◌↔◌, IsTrue, [], ◌∷◌, ◌++◌, length, cond, nat_lt};
+ghost use Rattle.std.specs.Prelude.{◌≡◌, ◌<◌, ◌≤◌, ◌↔◌, IsTrue, [], ◌∷◌, ◌++◌, length, cond, nat_lt};
 
 use crate::setup::Classes;
 use std::marker::Model;
@@ -73,7 +73,8 @@ impl Refs {
 
     /// The events, in order.
     pub fn as_slice(&self) -> &[Ref]
-        ensures { result.now ≡ self.now }
+        ensures events { result.now ≡ self.now }
+        ensures few { length self.now ≤ 16 }
     {
         &self.values[..self.len]
     }
@@ -123,7 +124,8 @@ impl SpawnArgs {
 
     /// The arguments, in order.
     pub fn as_slice(&self) -> &[SpawnArg]
-        ensures { result.now ≡ self.now }
+        ensures arguments { result.now ≡ self.now }
+        ensures few { length self.now ≤ 8 }
     {
         &self.values[..self.len]
     }

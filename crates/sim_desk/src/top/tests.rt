@@ -16,7 +16,12 @@ const ONE_TIMEOUT_TRACE: &str =
 const BAD_HEADER: &str = "fault 1 BadHeader\n";
 
 /// A source of the text that gives at most `piece` bytes a read, and whose reads with these numbers fail.
-fn source_of(alloc: Global, text: &str, piece: u32, fails: &[u64]) -> Result<MemSource, Fail>
+pub(super) fn source_of(
+    alloc: Global,
+    text: &str,
+    piece: u32,
+    fails: &[u64],
+) -> Result<MemSource, Fail>
     requires { 0 < piece }
 {
     let bytes = List::from_vec(text.as_bytes().to_vec(alloc)?);
@@ -25,7 +30,7 @@ fn source_of(alloc: Global, text: &str, piece: u32, fails: &[u64]) -> Result<Mem
 }
 
 /// Calls the program with the words of a line and a sink with so much room.
-fn call<S: Source, R: Threads + Sync>(
+pub(super) fn call<S: Source, R: Threads + Sync>(
     rt: &R,
     alloc: Global,
     line: &str,

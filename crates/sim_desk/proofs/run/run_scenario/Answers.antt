@@ -4,8 +4,8 @@ use Rattle.std.specs.Io.KnownBytes.{Appends}
 use Rattle.sim_language.specs.Texts.{trace_text}
 use Rattle.sim_machine.specs.Setups.{FitsCode}
 use Rattle.sim_outside.specs.Writes.{AppendsPrefix}
-use Rattle.sim_script.specs.ScriptMembers.{script_facts}
-use Rattle.sim_script.proofs.SetupFits.{fits_code}
+use Rattle.sim_script_law.specs.ScriptMembers.{script_facts}
+use Rattle.sim_script_law.proofs.SetupFits.{fits_code}
 use Rattle.sim_desk.specs.Headline.{trace_of_scenario}
 use Rattle.sim_desk.proofs.RunUnits.{stands_for_opening}
 use Rattle.sim_desk.proofs.RunTexts.{prefix_none}

@@ -1,0 +1,31 @@
+-- What a script keeps, as it is seen.
+use Rattle.std.specs.Prelude.{ℕ, ℤ, Option, Some, None, Result, Ok, Err}
+use Rattle.sim_types.specs.declared.op.Op.{Op}
+use Rattle.sim_memo.specs.declared.Memo.{Memo}
+use Rattle.sim_script_model.specs.Scripts as scripts
+use Rattle.sim_script_model.specs.Arithmetic as arithmetic
+use Rattle.sim_script.specs.declared.frames.Frame.{Frame}
+use Rattle.sim_script.specs.declared.frames.Frame.TheVariants as frame
+use Rattle.sim_script.specs.declared.mode.Mode.{Mode}
+use Rattle.sim_script.specs.declared.mode.Mode.TheVariants as mode
+
+abbrev pub frame_of : Frame → scripts.Frame
+frame_of (frame.InScope request) = scripts.InScope request
+frame_of (frame.InTry catch) = scripts.InTry catch
+frame_of (frame.InLoop past) = scripts.InLoop past
+frame_of (frame.InRepeat count past) = scripts.InRepeat count past
+
+abbrev pub mode_of : Mode → scripts.Mode
+mode_of mode.Running = scripts.Running
+mode_of (mode.Throwing thrown) = scripts.Throwing thrown
+mode_of mode.Breaking = scripts.Breaking
+mode_of (mode.Finishing value) = scripts.Finishing value
+
+-- a number, or an error by its number
+abbrev pub answer_of : Result ℤ ℕ → arithmetic.Answer
+answer_of (Ok value) = arithmetic.Number value
+answer_of (Err number) = arithmetic.Error number
+
+abbrev pub asked_of : Option (Memo Op) → Option Op
+asked_of None = None
+asked_of (Some asked) = Some asked.value

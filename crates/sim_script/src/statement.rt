@@ -1,0 +1,271 @@
+//! How a script does a statement.
+ghost use Rattle.std.specs.Prelude.{◌≡◌, ◌||◌, IsTrue, map};
+ghost use Rattle.std.specs.List.{list_all};
+ghost use Rattle.sim_types.specs.declared.op.Op.TheVariants as op;
+ghost use Rattle.sim_script_model.specs.Scripts.{event_of_ref, value_of_arg};
+ghost use Rattle.sim_script_model.specs.Polls.{answer_to, do_stmt, end_repeat};
+ghost use Rattle.sim_script_law.specs.Ready.{is_variable, refers_within, argument_within, event_is_small, events_are_small, enters_room, variables_within};
+ghost use Rattle.sim_script.specs.Kept.{answer_of};
+ghost use Rattle.sim_script.specs.StatementGroups.{is_of_changes, is_of_blocks, is_of_events, is_of_processes, is_of_resources};
+
+use crate::arithmetic::compute;
+use crate::frames::Frame;
+use crate::mode::Mode;
+use crate::script::Script;
+use sim_types::{Args, Members, Op, Refs, SpawnArgs, Stmt, Throw};
+
+/// What `raise` throws has this kind.
+const FAILURE: u8 = 3;
+
+impl Script {
+    /// Does a statement. The script stands behind it already.
+    pub(crate) fn do_statement(&mut self, statement: &Stmt, time: i64) -> Op
+        requires variables { IsTrue (variables_within statement.now) }
+        requires small { IsTrue (events_are_small self.old statement.now) }
+        requires room { IsTrue (enters_room self.old.frames statement.now) }
+        ensures { (result, self.new) ≡ do_stmt time self.old statement.now }
+    {
+        match statement {
+            Stmt::Let { .. }
+            | Stmt::Raise { .. }
+            | Stmt::Finish { .. }
+            | Stmt::If { .. }
+            | Stmt::Else { .. }
+            | Stmt::Break => {
+                self.change(statement, time);
+                Op::Nop
+            }
+            Stmt::Loop { .. }
+            | Stmt::Repeat { .. }
+            | Stmt::Try { .. }
+            | Stmt::Catch { .. }
+            | Stmt::EndLoop { .. }
+            | Stmt::EndRepeat { .. } => {
+                self.change_blocks(statement, time);
+                Op::Nop
+            }
+            Stmt::EndWith => {
+                self.leave();
+                Op::Leave
+            }
+            Stmt::EndPlain => Op::Nop,
+            _ => self.operation(statement, time),
+        }
+    }
+
+    // The statements that ask for an operation and change nothing themselves.
+    fn operation(&self, statement: &Stmt, time: i64) -> Op
+        requires group { IsTrue (is_of_processes statement.now || is_of_resources statement.now || is_of_events statement.now) }
+        requires variables { IsTrue (variables_within statement.now) }
+        requires small { IsTrue (events_are_small self.now statement.now) }
+        ensures { (result, self.now) ≡ do_stmt time self.now statement.now }
+    {
+        match statement {
+            Stmt::Sleep { .. }
+            | Stmt::Spawn { .. }
+            | Stmt::Interrupt { .. }
+            | Stmt::Drop { .. }
+            | Stmt::EndProcess
+            | Stmt::Log { .. }
+            | Stmt::Draw { .. } => self.of_processes(statement, time),
+            Stmt::Count { .. }
+            | Stmt::With { .. }
+            | Stmt::Release { .. }
+            | Stmt::Put { .. }
+            | Stmt::Get { .. }
+            | Stmt::Cancel { .. } => self.of_resources(statement, time),
+            _ => self.of_events(statement, time),
+        }
+    }
+
+    // The statements that change a variable, the mode or the place.
+    fn change(&mut self, statement: &Stmt, time: i64)
+        requires group { IsTrue (is_of_changes statement.now) }
+        requires variables { IsTrue (variables_within statement.now) }
+        ensures { (op.Nop, self.new) ≡ do_stmt time self.old statement.now }
+    {
+        match statement {
+            Stmt::Let { to, op, a, b } => {
+                let answer = compute(*op, self.number(*a, time), self.number(*b, time));
+                self.answer(*to, answer);
+            }
+            Stmt::Raise { code } => {
+                let value = self.number(*code, time);
+                self.set_mode(Mode::Throwing(Throw {
+                    kind: FAILURE,
+                    value,
+                }));
+            }
+            Stmt::Finish { value } => {
+                let value = self.number(*value, time);
+                self.set_mode(Mode::Finishing(value));
+            }
+            Stmt::If { test, other } => {
+                if self.number(*test, time) == 0 {
+                    self.go_to(*other);
+                }
+            }
+            Stmt::Else { past } => self.go_to(*past),
+            Stmt::Break => self.set_mode(Mode::Breaking),
+            _ => unreachable!(),
+        }
+    }
+
+    // A variable gets the number, or the error is thrown.
+    fn answer(&mut self, to: u8, answer: Result<i64, u8>)
+        requires { IsTrue (is_variable to) }
+        ensures { self.new ≡ answer_to to (answer_of answer) self.old }
+    {
+        match answer {
+            Ok(value) => self.set_variable(to, value),
+            Err(number) => self.throw_error(number),
+        }
+    }
+
+    // The statements that enter a block, or come to its end.
+    fn change_blocks(&mut self, statement: &Stmt, time: i64)
+        requires group { IsTrue (is_of_blocks statement.now) }
+        requires variables { IsTrue (variables_within statement.now) }
+        requires room { IsTrue (enters_room self.old.frames statement.now) }
+        ensures { (op.Nop, self.new) ≡ do_stmt time self.old statement.now }
+    {
+        match statement {
+            Stmt::Loop { past } => self.enter(Frame::InLoop(*past)),
+            Stmt::Repeat { times, past } => {
+                let times = self.number(*times, time);
+                if times < 1 {
+                    self.go_to(*past);
+                } else {
+                    self.enter(Frame::InRepeat(times, *past));
+                }
+            }
+            Stmt::Try { catch } => self.enter(Frame::InTry(*catch)),
+            Stmt::Catch { past, .. } => {
+                self.leave();
+                self.go_to(*past);
+            }
+            Stmt::EndLoop { first } => self.go_to(*first),
+            Stmt::EndRepeat { first } => self.end_repeat(*first),
+            _ => unreachable!(),
+        }
+    }
+
+    // The end of a repeat: once more while turns are left.
+    fn end_repeat(&mut self, first: u32)
+        ensures { self.new ≡ end_repeat first self.old.frames self.old }
+    {
+        if let Some(Frame::InRepeat(count, past)) = self.innermost() {
+            self.leave();
+            if 1 < count {
+                self.enter(Frame::InRepeat(count - 1, past));
+                self.go_to(first);
+            }
+        }
+    }
+
+    // The statements that ask something of an event or a condition.
+    fn of_events(&self, statement: &Stmt, time: i64) -> Op
+        requires group { IsTrue (is_of_events statement.now) }
+        requires variables { IsTrue (variables_within statement.now) }
+        ensures { (result, self.now) ≡ do_stmt time self.now statement.now }
+    {
+        match statement {
+            Stmt::Timer { delay, value, .. } => {
+                Op::Timeout(self.number(*delay, time), self.number(*value, time))
+            }
+            Stmt::Fresh { .. } => Op::NewEvent,
+            Stmt::Wait { on } => Op::Wait(self.event(*on)),
+            Stmt::Succeed { on, value } => {
+                Op::Succeed(self.event(*on), self.number(*value, time))
+            }
+            Stmt::Fail { on, value } => Op::Fail(self.event(*on), self.number(*value, time)),
+            Stmt::All { of, .. } => Op::AllOf(self.members(of)),
+            Stmt::Any { of, .. } => Op::AnyOf(self.members(of)),
+            Stmt::Has { cond, on, .. } => Op::Has(self.event_in(*cond), self.event(*on)),
+            Stmt::Chain { on, to } => Op::Chain(self.event(*on), self.event(*to)),
+            _ => unreachable!(),
+        }
+    }
+
+    // The members of a condition.
+    fn members(&self, of: &Refs) -> Members
+        requires { IsTrue (list_all refers_within of.now) }
+        ensures { result ≡ map (event_of_ref self.now) of.now }
+    {
+        let mut members = Members::new();
+        for named in of.as_slice() {
+            let _ = members.push(self.event(*named));
+        }
+        members
+    }
+
+    // The statements that ask something of the process itself or of another.
+    fn of_processes(&self, statement: &Stmt, time: i64) -> Op
+        requires group { IsTrue (is_of_processes statement.now) }
+        requires variables { IsTrue (variables_within statement.now) }
+        requires small { IsTrue (events_are_small self.now statement.now) }
+        ensures { (result, self.now) ≡ do_stmt time self.now statement.now }
+    {
+        match statement {
+            Stmt::Sleep { delay } => Op::Pause(self.number(*delay, time), 0),
+            Stmt::Spawn { kind, args, .. } => Op::Spawn(*kind, self.arguments(args, time)),
+            Stmt::Interrupt { who, value } => {
+                Op::Interrupt(self.process(*who), self.number(*value, time))
+            }
+            Stmt::Drop { who, value } => { Op::Drop(self.process(*who), self.number(*value, time)) }
+            Stmt::EndProcess => Op::Finish(0),
+            Stmt::Log { value } => Op::Log(self.number(*value, time)),
+            Stmt::Draw { lo, hi, .. } => {
+                Op::Draw(self.number(*lo, time), self.number(*hi, time))
+            }
+            _ => unreachable!(),
+        }
+    }
+
+    // What a process that is spawned is given.
+    fn arguments(&self, given: &SpawnArgs, time: i64) -> Args
+        requires within { IsTrue (list_all argument_within given.now) }
+        requires small { IsTrue (list_all (event_is_small self.now) given.now) }
+        ensures { result ≡ map (value_of_arg time self.now) given.now }
+    {
+        let mut args = Args::new();
+        for argument in given.as_slice() {
+            let _ = args.push(self.argument(*argument, time));
+        }
+        args
+    }
+
+    // The statements that ask something of a resource.
+    fn of_resources(&self, statement: &Stmt, time: i64) -> Op
+        requires group { IsTrue (is_of_resources statement.now) }
+        requires variables { IsTrue (variables_within statement.now) }
+        ensures { (result, self.now) ≡ do_stmt time self.now statement.now }
+    {
+        match statement {
+            Stmt::Count { res, .. } => Op::Count(*res),
+            Stmt::With {
+                res,
+                priority,
+                preempt,
+                ..
+            } => Op::Enter(*res, self.number(*priority, time), *preempt),
+            Stmt::Release { on } => Op::Release(self.event_in(*on)),
+            Stmt::Put { to, res, a, p } => {
+                let (a, p) = (self.number(*a, time), self.number(*p, time));
+                match to {
+                    None => Op::PutWait(*res, a, p),
+                    Some(_) => Op::Put(*res, a, p),
+                }
+            }
+            Stmt::Get { to, res, lo, hi } => {
+                let (lo, hi) = (self.number(*lo, time), self.number(*hi, time));
+                match to {
+                    None => Op::GetWait(*res, lo, hi),
+                    Some(_) => Op::Get(*res, lo, hi),
+                }
+            }
+            Stmt::Cancel { on } => Op::Cancel(self.event_in(*on)),
+            _ => unreachable!(),
+        }
+    }
+}

@@ -1,0 +1,16 @@
+pub mod Walking
+pub mod KindsOfScenarios
+pub mod Starts
+pub mod Variables
+pub mod Answered
+pub mod Asking
+pub mod WithinVariables
+pub mod Frames
+pub mod Standing
+pub mod Leaving
+pub mod Doing
+pub mod Taking
+pub mod ScriptLaw
+pub mod PlainAsking
+pub mod SetupFits
+pub mod Readiness

@@ -1,0 +1,5 @@
+pub mod ScriptMembers
+pub mod Walks
+pub mod Framing
+pub mod SoundScripts
+pub mod Ready
