@@ -1,0 +1,87 @@
+-- A scope is left: its request waits and uses no longer, and who else waits or uses stays.
+use Rattle.std.proofs.Common.{◌≡◌, ℕ, Bool, true, false, ◌||◌, ◌&&◌, not, List, [], ◌∷◌, ◌++◌, filter, refl, sym, subst, ap, ◌∙◌, if◌then◌else◌, All}
+use Rattle.std.specs.Prelude.{◌==◌}
+use Rattle.std.specs.List.{list_any}
+use Rattle.std.proofs.lemmas.Bool.{or_parts}
+use Rattle.std.proofs.lemmas.List.Elements.{All-nil, All-cons, All-head, All-tail, All-append}
+use Rattle.std.proofs.lemmas.List.Folds.{list_any-append}
+use Rattle.sim_types.specs.declared.event.EventId.{EventId}
+use Rattle.sim_types.specs.declared.event.EventKind.TheVariants as kind
+use Rattle.sim_types.specs.declared.event.Callback.TheVariants as callback
+use Rattle.sim_machine.specs.State.{Waiter, User, Deed, Granted, Released, Preempted, Deposited, Taken, Filled, Drained, Facilities}
+use Rattle.sim_machine.specs.Events.{is_same, cancel_event, next_event, register}
+use Rattle.sim_machine.specs.Triggering.{make}
+use Rattle.sim_machine.specs.Users.{ends_use, user_by, users}
+use Rattle.sim_machine.specs.Trying.{on_calendar, write_deed, unqueue}
+use Rattle.sim_machine.specs.Requests.{cancel, waits, is_user, end_use, leave}
+use Rattle.sim_machine.proofs.KeptTimesCases.{if_cases}
+
+-- ---- waiters
+
+none_taken : {X : Type 0} (t : X → Bool) (xs : List X) → list_any t xs ≡ false → filter (λ x. not (t x)) xs ≡ xs
+none_taken t [] h = refl
+none_taken t (x ∷ xs) h = let parts = or_parts (t x) (list_any t xs) h in rw parts.0 (ap (λ ys. x ∷ ys) (none_taken t xs parts.1))
+
+waiters_cancelled : (request : EventId) (f : Facilities) → (cancel request f).waiters ≡ filter (λ (w : Waiter). not (is_same w.event request)) f.waiters
+waiters_cancelled request f =
+    if_cases (λ u. u.waiters ≡ filter (λ (w : Waiter). not (is_same w.event request)) f.waiters) (waits request f) (on_calendar (cancel_event request) (unqueue request f)) f
+    (λ a. refl) (λ a. sym (none_taken (λ (w : Waiter). is_same w.event request) f.waiters a))
+
+waiters_used : (res : ℕ) (request : EventId) (f : Facilities) → (end_use res request f).waiters ≡ f.waiters
+waiters_used res request f = if_cases (λ u. u.waiters ≡ f.waiters) (is_user res request f) (write_deed (Released res request) f) f (λ a. refl) (λ a. refl)
+
+-- the release that a request's event is followed by, before it succeeds
+abbrev pub release_made : ℕ → EventId → Facilities → Facilities
+release_made res request f = let gone = cancel request f in on_calendar (λ c. register (next_event gone.calendar) (callback.TryPut res) (make kind.Release c)) gone
+
+pub waiters_left : (res : ℕ) (request : EventId) (f : Facilities) → (leave res request f).waiters ≡ filter (λ (w : Waiter). not (is_same w.event request)) f.waiters
+waiters_left res request f = waiters_used res request (release_made res request f) ∙ waiters_cancelled request f
+
+-- ---- users
+
+All-first : {X : Type 0} (P : X → Type 0) (xs ys : List X) → All P (xs ++ ys) → All P xs
+All-first P [] ys h = All-nil P
+All-first P (x ∷ xs) ys h = All-cons P x xs (All-head P x (xs ++ ys) h) (All-first P xs ys (All-tail P x (xs ++ ys) h))
+
+All-second : {X : Type 0} (P : X → Type 0) (xs ys : List X) → All P (xs ++ ys) → All P ys
+All-second P [] ys h = h
+All-second P (x ∷ xs) ys h = All-second P xs ys (All-tail P x (xs ++ ys) h)
+
+-- a user whose request is not the one that is left
+abbrev pub UsesOther : (User → Type 0) → EventId → User → Type 0
+UsesOther P request u = P u × (is_same u.request request ≡ false)
+
+if_other : (P : User → Type 0) (request : EventId) (u : User) (m a b : Bool) → is_same u.request request ≡ b → All P (if m && not a then u ∷ [] else []) → All (UsesOther P request) (if m && not (a || (b || false)) then u ∷ [] else [])
+if_other P request u false a b is h = All-nil (UsesOther P request)
+if_other P request u true true b is h = All-nil (UsesOther P request)
+if_other P request u true false true is h = All-nil (UsesOther P request)
+if_other P request u true false false is h = All-cons (UsesOther P request) u [] (All-head P u [] h, is) (All-nil (UsesOther P request))
+
+user_by_released : (P : User → Type 0) (at res : ℕ) (request : EventId) (d : Deed) (later : List Deed) → All P (user_by at d later) → All (UsesOther P request) (user_by at d (later ++ Released res request ∷ []))
+user_by_released P at res request (Granted n u) later h =
+    subst (λ (b : Bool). All (UsesOther P request) (if (n == at) && not b then u ∷ [] else [])) (sym (list_any-append (ends_use u.request) later (Released res request ∷ [])))
+    (if_other P request u (n == at) (list_any (ends_use u.request) later) (is_same u.request request) refl h)
+user_by_released P at res request (Released n r) later h = All-nil (UsesOther P request)
+user_by_released P at res request (Preempted n r) later h = All-nil (UsesOther P request)
+user_by_released P at res request (Deposited n x) later h = All-nil (UsesOther P request)
+user_by_released P at res request (Taken n p) later h = All-nil (UsesOther P request)
+user_by_released P at res request (Filled n m) later h = All-nil (UsesOther P request)
+user_by_released P at res request (Drained n m) later h = All-nil (UsesOther P request)
+
+pub released_users : (P : User → Type 0) (at res : ℕ) (request : EventId) (ledger : List Deed) → All P (users at ledger) → All (UsesOther P request) (users at (ledger ++ Released res request ∷ []))
+released_users P at res request [] h = All-nil (UsesOther P request)
+released_users P at res request (d ∷ later) h =
+    All-append (UsesOther P request) (user_by at d (later ++ Released res request ∷ [])) (users at (later ++ Released res request ∷ []))
+    (user_by_released P at res request d later (All-first P (user_by at d later) (users at later) h)) (released_users P at res request later (All-second P (user_by at d later) (users at later) h))
+
+pub ledger_cancelled : (request : EventId) (f : Facilities) → (cancel request f).ledger ≡ f.ledger
+ledger_cancelled request f = if_cases (λ u. u.ledger ≡ f.ledger) (waits request f) (on_calendar (cancel_event request) (unqueue request f)) f (λ a. refl) (λ a. refl)
+
+-- where a request that does not use its resource uses no other
+pub users_left : (P : User → Type 0) (at res : ℕ) (request : EventId) (f : Facilities) → All P (users at f.ledger) → (list_any (λ u. is_same u.request request) (users res f.ledger) ≡ false → All (UsesOther P request) (users at f.ledger)) → All (UsesOther P request) (users at (leave res request f).ledger)
+users_left P at res request f h other =
+    let g : Facilities = release_made res request f in
+    let same : g.ledger ≡ f.ledger = ledger_cancelled request f in
+    if_cases (λ u. All (UsesOther P request) (users at u.ledger)) (is_user res request g) (write_deed (Released res request) g) g
+    (λ uses. released_users P at res request g.ledger (subst (λ (ds : List Deed). All P (users at ds)) (sym same) h))
+    (λ no. subst (λ (ds : List Deed). All (UsesOther P request) (users at ds)) (sym same) (other (ap (λ (ds : List Deed). list_any (λ (u : User). is_same u.request request) (users res ds)) (sym same) ∙ no)))

@@ -1,0 +1,2 @@
+pub mod WholeStates
+pub mod IdleBodies

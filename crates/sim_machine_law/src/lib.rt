@@ -1,0 +1,9 @@
+//! The law of the machine: the opening state is lawful, and each unit leads from a lawful state to a lawful state, for every
+//! body that keeps the law of bodies. Nothing of it runs.
+#![tactic(auto)]
+
+mod laws;
+#[cfg(test)]
+mod tests;
+
+pub use laws::{LawfulBody, lawful_arrival, lawful_opening, lawful_step};
