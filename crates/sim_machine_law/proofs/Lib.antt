@@ -59,3 +59,5 @@ pub mod LeftScopes
 pub mod PolledLeave
 pub mod WholeFacts
 pub mod WholeSteps
+pub mod TraceLaws
+pub mod WholeRuns

@@ -128,7 +128,7 @@ whole_polled {B} g tell sound turn f s t e left p x fits law h active i =
 
 -- ---- the step that comes next
 
-whole_at : {B : Type 0} (g : Plan B) (tell : Telling B) (sound : B → Type 0) (turn : Turn B) (f : CodeFacts) (s t : State B) (k : Control) → FitsCode f g.setup → IsLawfulBody f tell sound g.start turn → LawfulWhole g tell sound s → s.control ≡ k → IsStepAt g turn s t k → LawfulWhole g tell sound t
+pub whole_at : {B : Type 0} (g : Plan B) (tell : Telling B) (sound : B → Type 0) (turn : Turn B) (f : CodeFacts) (s t : State B) (k : Control) → FitsCode f g.setup → IsLawfulBody f tell sound g.start turn → LawfulWhole g tell sound s → s.control ≡ k → IsStepAt g turn s t k → LawfulWhole g tell sound t
 whole_at g tell sound turn f s t Idle fits law h is i =
     subst (LawfulWhole g tell sound) (sym i.then_is) (whole_from g tell sound (pop_entry i.entry s) (lawful-popped g tell sound s i.entry is i.is_due h.lawful) (both_popped i.entry s (both_of g tell sound s h)))
 whole_at g tell sound turn f s t (Calling e []) fits law h is i =

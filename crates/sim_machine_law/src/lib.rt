@@ -3,7 +3,9 @@
 #![tactic(auto)]
 
 mod laws;
+mod runs;
 #[cfg(test)]
 mod tests;
 
 pub use laws::{LawfulBody, lawful_arrival, lawful_opening, lawful_step};
+pub use runs::{lawful_run, trace_grows, within_capacity};

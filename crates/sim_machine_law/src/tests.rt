@@ -1,4 +1,7 @@
-use crate::{LawfulBody, lawful_arrival, lawful_opening, lawful_step};
+use crate::{
+    LawfulBody, lawful_arrival, lawful_opening, lawful_run, lawful_step, trace_grows,
+    within_capacity,
+};
 use sim_types::{Op, ProcId};
 
 // A body that asks for nothing, for ever: its number, and what it asked for last.
@@ -26,4 +29,7 @@ fn laws_hold_of_a_body() {
     lawful_opening::<(ProcId, Option<Op>)>();
     lawful_step::<(ProcId, Option<Op>)>();
     lawful_arrival::<(ProcId, Option<Op>)>();
+    lawful_run::<(ProcId, Option<Op>)>();
+    within_capacity::<(ProcId, Option<Op>)>();
+    trace_grows::<(ProcId, Option<Op>)>();
 }
