@@ -51,7 +51,8 @@ place_later c d l x h =
         let below : x.event.0 < length c.events = made_below c x.event parts.0 in
         and_from (was_made d x.event) (kind_fits x.class (kind_at d x.event)) (below_made d x.event (omega (arith, below, l.longer))) (ap (λ k. kind_fits x.class k) (l.kinds x.event below) ∙ parts.1)
 
-places_later : (c d : Calendar) → Later c d → (xs : List Place) → list_all (place_fits c) xs ≡ true → list_all (place_fits d) xs ≡ true
+-- places fit on
+pub places_later : (c d : Calendar) → Later c d → (xs : List Place) → list_all (place_fits c) xs ≡ true → list_all (place_fits d) xs ≡ true
 places_later c d l [] h = refl
 places_later c d l (x ∷ xs) h =
     let parts : (place_fits c x ≡ true) × (list_all (place_fits c) xs ≡ true) = and_parts (place_fits c x) (list_all (place_fits c) xs) h in
@@ -71,7 +72,8 @@ if_stays : (b p q r : Bool) → (p ≡ true → q ≡ true) → (if b then p els
 if_stays true p q r f h = f h
 if_stays false p q r f h = h
 
-told_calm : {B : Type 0} (tell : Telling B) (c d : Calendar) (q : ProcId) (b : B) (k : Control) → Calm c d → is_told_well tell c q b k ≡ true → is_told_well tell d q b k ≡ true
+-- what is told fits on
+pub told_calm : {B : Type 0} (tell : Telling B) (c d : Calendar) (q : ProcId) (b : B) (k : Control) → Calm c d → is_told_well tell c q b k ≡ true → is_told_well tell d q b k ≡ true
 told_calm tell c d q b Idle calm h = h
 told_calm tell c d q b (Calling e left) calm h = h
 told_calm tell c d q b (Active e left p x) calm h = if_stays (is_process p q) (told_fits tell c b x) (told_fits tell d b x) _ (fits_calm tell c d b x calm) h
@@ -90,17 +92,17 @@ bodies_calm tell sound s f calm h =
 
 -- ---- scopes
 
-scope_later : {B : Type 0} (rs : List Resource) (s : State B) (f : Facilities) (x : OpenScope) → Later s.facilities.calendar f.calendar → is_scope_well rs s x ≡ true → is_scope_well rs (record s { facilities = f }) x ≡ true
-scope_later rs s f x l h =
-    let c : Calendar = s.facilities.calendar in
-    let d : Calendar = f.calendar in
+-- an open scope stays well where its process stays alive
+pub scope_later : {B : Type 0} (rs : List Resource) (s t : State B) (x : OpenScope) → Later (calendar s) (calendar t) → (is_alive x.process s ≡ true → is_alive x.process t ≡ true) → is_scope_well rs s x ≡ true → is_scope_well rs t x ≡ true
+scope_later rs s t x k alive h =
+    let c : Calendar = calendar s in
+    let d : Calendar = calendar t in
     let r : EventId = x.request in
     let outer = and_parts (is_alive x.process s && was_made c r && is_request_kind (kind_at c r) && nat_lt x.res (length rs)) (takes_requests (resource_at rs x.res).kind) h in
     let parts = four_parts (is_alive x.process s) (was_made c r) (is_request_kind (kind_at c r)) (nat_lt x.res (length rs)) outer.0 in
-    let below : r.0 < length c.events = made_below c r parts.1 in
-    and_from (is_alive x.process s && was_made d r && is_request_kind (kind_at d r) && nat_lt x.res (length rs)) (takes_requests (resource_at rs x.res).kind)
-    (four_from (is_alive x.process s) (was_made d r) (is_request_kind (kind_at d r)) (nat_lt x.res (length rs)) parts.0 (below_made d r (omega (arith, below, l.longer))) (ap is_request_kind (l.kinds r below) ∙ parts.2) parts.3)
-    outer.1
+    let made : r.0 < length c.events = made_below c r parts.1 in
+    and_from (is_alive x.process t && was_made d r && is_request_kind (kind_at d r) && nat_lt x.res (length rs)) (takes_requests (resource_at rs x.res).kind)
+    (four_from (is_alive x.process t) (was_made d r) (is_request_kind (kind_at d r)) (nat_lt x.res (length rs)) (alive parts.0) (below_made d r (omega (arith, made, k.longer))) (ap is_request_kind (k.kinds r made) ∙ parts.2) parts.3) outer.1
 
 -- ---- waiters
 
@@ -145,7 +147,7 @@ lawful_becomes {B} g tell sound s f l k =
         cancelled = k.cancelled;
         requests = k.requests;
         using = k.using;
-        scopes = All-weaker (λ x. is_scope_well g.setup.resources s x ≡ true) (λ x. is_scope_well g.setup.resources t x ≡ true) (λ x w. scope_later g.setup.resources s f x k.calm.later w) s.scopes l.waiting.scopes;
+        scopes = All-weaker (λ x. is_scope_well g.setup.resources s x ≡ true) (λ x. is_scope_well g.setup.resources t x ≡ true) (λ x w. scope_later g.setup.resources s t x k.calm.later (λ y. y) w) s.scopes l.waiting.scopes;
         bodies = l.waiting.bodies;
       };
       capacities = k.capacities;

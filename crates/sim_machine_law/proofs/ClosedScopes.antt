@@ -1,9 +1,9 @@
 -- The scopes of a process are closed one after another: what waits, and who uses, stays lawful but for what the process itself
 -- knows of its scopes. No two open scopes may be of one request.
 use Rattle.std.proofs.Common.{◌≡◌, ◌≢◌, ℕ, ◌<◌, ◌≤◌, pos, Bool, true, false, ◌&&◌, not, List, [], ◌∷◌, map, filter, length, get_or, Some, refl, sym, subst, ap, ◌∙◌, arith, ⊎_elim, All, AllPairs}
-use Rattle.std.specs.Prelude.{◌==◌, count_by, fold, is_none, nat_lt}
+use Rattle.std.specs.Prelude.{◌==◌, count_by, fold, is_none}
 use Rattle.std.specs.List.{list_any, AllPass}
-use Rattle.std.proofs.lemmas.Bool.{and_from, and_parts, both_ways, cases_Bool, cond_both, eqb-false, eqb-true, false≢true, false_from_ne_true, not-true, not_from_false, or_parts, or_cases}
+use Rattle.std.proofs.lemmas.Bool.{and_parts, both_ways, cases_Bool, cond_both, eqb-false, eqb-true, false≢true, false_from_ne_true, not-true, not_from_false, or_parts, or_cases}
 use Rattle.std.proofs.lemmas.List.Elements.{All-cons, All-filter, All-head, All-nil, All-push, All-same, All-tail, All-weaker, filter_passes}
 use Rattle.std.proofs.lemmas.List.Folds.{Any-from_list_any}
 use Rattle.std.proofs.lemmas.List.Kept.{AllPairs-filter}
@@ -14,18 +14,16 @@ use Rattle.sim_types.specs.declared.event.EventKind.{EventKind}
 use Rattle.sim_types.specs.declared.event.EventKind.TheVariants as kind
 use Rattle.sim_types.specs.declared.event.Outcome.TheVariants as outcome
 use Rattle.sim_types.specs.declared.event.Callback.TheVariants as callback
-use Rattle.sim_types.specs.declared.setup.Resource.{Resource}
 use Rattle.sim_machine.specs.State.{EventOf, Calendar, Facilities, OpenScope, State, Plan, User, Waiter, Want, Slot}
 use Rattle.sim_machine.specs.Events.{is_same, is_process, event_at, is_pending, pending_event, next_event, cancel_event, register}
 use Rattle.sim_machine.specs.Triggering.{make, succeed}
-use Rattle.sim_machine.specs.Users.{resource_at, users}
+use Rattle.sim_machine.specs.Users.{users}
 use Rattle.sim_machine.specs.Trying.{on_calendar, unqueue}
 use Rattle.sim_machine.specs.Requests.{cancel, waits, leave}
 use Rattle.sim_machine.specs.Scopes.{close_scope}
-use Rattle.sim_machine.specs.Processes.{is_alive}
 use Rattle.sim_machine.specs.Effect.{calendar}
 use Rattle.sim_machine.specs.Tellings.{Telling}
-use Rattle.sim_machine.specs.MayAsk.{most_scopes, takes_requests}
+use Rattle.sim_machine.specs.MayAsk.{most_scopes}
 use Rattle.sim_machine.specs.Standing.{was_made, kind_at}
 use Rattle.sim_machine.specs.LawfulWaiting.{KnowsItsScopes, has_scope, is_cancelled_well, is_request_kind, is_scope_well, may_wait_kind, request_has_scope, requests_of, waits_well}
 use Rattle.sim_machine.proofs.EventLaws.{change_event-AllPass, change_event-length, change_event-other, make-length, make-old, same_event}
@@ -34,6 +32,7 @@ use Rattle.sim_machine.proofs.KeptBodies.{four_from, four_parts}
 use Rattle.sim_machine.proofs.KeptInterruptionsParts.{passes_at}
 use Rattle.sim_machine.proofs.KeptRegistrationsCalendar.{Later, below_made, made_below}
 use Rattle.sim_machine.proofs.KeptTimesCases.{if_cases}
+use Rattle.sim_machine_law.proofs.ChangedFacilities.{scope_later}
 use Rattle.sim_machine_law.proofs.LeavingCalendars.{end_use-calendar, proceeds-left}
 use Rattle.sim_machine_law.proofs.ReleasedUsers.{UsesOther, users_left, waiters_left}
 
@@ -135,17 +134,6 @@ has_scope_still scopes request r p res apart =
 request_scope_still : (scopes : List OpenScope) (request : EventId) (w : Waiter) (want : Want) → is_same w.event request ≡ false → request_has_scope scopes w want ≡ true → request_has_scope (filter (is_not_of request) scopes) w want ≡ true
 request_scope_still scopes request w (Slot p key) apart h = has_scope_still scopes request w.event p w.res apart ∙ h
 request_scope_still scopes request w _ apart h = h
-
-pub scope_later : {B : Type 0} (rs : List Resource) (s t : State B) (x : OpenScope) → Later (calendar s) (calendar t) → (is_alive x.process s ≡ true → is_alive x.process t ≡ true) → is_scope_well rs s x ≡ true → is_scope_well rs t x ≡ true
-scope_later rs s t x k alive h =
-    let c : Calendar = calendar s in
-    let d : Calendar = calendar t in
-    let r : EventId = x.request in
-    let outer = and_parts (is_alive x.process s && was_made c r && is_request_kind (kind_at c r) && nat_lt x.res (length rs)) (takes_requests (resource_at rs x.res).kind) h in
-    let parts = four_parts (is_alive x.process s) (was_made c r) (is_request_kind (kind_at c r)) (nat_lt x.res (length rs)) outer.0 in
-    let made : r.0 < length c.events = made_below c r parts.1 in
-    and_from (is_alive x.process t && was_made d r && is_request_kind (kind_at d r) && nat_lt x.res (length rs)) (takes_requests (resource_at rs x.res).kind)
-    (four_from (is_alive x.process t) (was_made d r) (is_request_kind (kind_at d r)) (nat_lt x.res (length rs)) (alive parts.0) (below_made d r (omega (arith, made, k.longer))) (ap is_request_kind (k.kinds r made) ∙ parts.2) parts.3) outer.1
 
 -- ---- a scope is closed
 

@@ -34,7 +34,8 @@ use Rattle.sim_machine.proofs.KeptInterruptionsParts.{passes_at}
 use Rattle.sim_machine.proofs.KeptProcessesParts.{is_process-swap}
 use Rattle.sim_machine.proofs.KeptRegistrationsCalendar.{below_made, calm_scheduled, made_below}
 use Rattle.sim_machine_law.specs.WholeStates.{AreScopesApart}
-use Rattle.sim_machine_law.proofs.ClosedScopes.{AllClosed, Covered, IsOwnScope, WaitsBut, closed_scopes, scope_later}
+use Rattle.sim_machine_law.proofs.ChangedFacilities.{scope_later}
+use Rattle.sim_machine_law.proofs.ClosedScopes.{AllClosed, Covered, IsOwnScope, WaitsBut, closed_scopes}
 use Rattle.sim_machine_law.proofs.DroppedProcess.{MayDrop, IsScopeless, scopeless, scopeless_state, stopped_state}
 use Rattle.sim_machine_law.proofs.EndedProcesses.{alive-other, is_other, lives-unresumed}
 use Rattle.sim_machine_law.proofs.StrippedControls.{without_resume}
