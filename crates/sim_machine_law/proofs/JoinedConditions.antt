@@ -1,6 +1,6 @@
 -- The members of a new condition join it one by one: those that are processed are checked at once, and the others get a
 -- check. Meanwhile conditions are lawful but for the build of the new one, which is registered last.
-use Rattle.std.proofs.Common.{◌≡◌, ◌≢◌, ◌+◌, ◌<◌, ◌≤◌, Bool, true, false, ◌&&◌, ◌||◌, not, List, [], ◌∷◌, ◌++◌, length, Option, Some, None, refl, sym, ap, subst, ◌∙◌, arith, if◌then◌else◌, inl, inr}
+use Rattle.std.proofs.Common.{◌≡◌, ◌≢◌, ◌+◌, ◌<◌, ◌≤◌, Bool, true, false, ◌&&◌, not, List, [], ◌∷◌, ◌++◌, length, Option, Some, None, refl, sym, ap, subst, ◌∙◌, arith, if◌then◌else◌, inl, inr}
 use Rattle.std.specs.Prelude.{fold, count_by, nat_lt, pos}
 use Rattle.std.specs.List.{list_all}
 use Rattle.std.proofs.lemmas.Bool.{false≢true, and_parts, ltb-true, lt-ltb, cases_Bool, or_left, not_from_false, ne_eqb}
@@ -29,6 +29,7 @@ use Rattle.sim_machine_law.proofs.TakenCalendars.{MayTake, hears}
 use Rattle.sim_machine_law.proofs.TakenChanges.{take_registered}
 use Rattle.sim_machine_law.proofs.CheckedConditions.{SameConditions, same_checked, check_cases, conditions_checked, take_checked}
 use Rattle.sim_machine_law.proofs.CalledCheck.{has_some}
+use Rattle.sim_machine_law.proofs.TakenOut.{weaker_or}
 
 -- ---- a check leaves registrations as they are, whichever these are
 
@@ -95,10 +96,6 @@ joins_checked s cond m left d h =
 first_more : (p : Callback → Bool) (xs ys : List Callback) → first_passes p xs ≡ true → first_passes p (xs ++ ys) ≡ true
 first_more p [] ys h = absurd (false≢true h)
 first_more p (x ∷ xs) ys h = h
-
-weaker_or : (a p q : Bool) → (p ≡ true → q ≡ true) → (a || p) ≡ true → (a || q) ≡ true
-weaker_or true p q h w = refl
-weaker_or false p q h w = h w
 
 same_swapped : (e f : EventId) → is_same e f ≡ is_same f e
 same_swapped e f = grind (arith, nat_tests)

@@ -3,7 +3,7 @@ use Rattle.std.proofs.Common.{◌≡◌, ℕ, Bool, true, false, ◌||◌, ◌&&
 use Rattle.std.specs.Prelude.{◌==◌}
 use Rattle.std.specs.List.{list_any}
 use Rattle.std.proofs.lemmas.Bool.{or_parts}
-use Rattle.std.proofs.lemmas.List.Elements.{All-nil, All-cons, All-head, All-tail, All-append}
+use Rattle.std.proofs.lemmas.List.Elements.{All-nil, All-cons, All-head, All-append}
 use Rattle.std.proofs.lemmas.List.Folds.{list_any-append}
 use Rattle.sim_types.specs.declared.event.EventId.{EventId}
 use Rattle.sim_types.specs.declared.event.EventKind.TheVariants as kind
@@ -15,6 +15,7 @@ use Rattle.sim_machine.specs.Users.{ends_use, user_by, users}
 use Rattle.sim_machine.specs.Trying.{on_calendar, write_deed, unqueue}
 use Rattle.sim_machine.specs.Requests.{cancel, waits, is_user, end_use, leave}
 use Rattle.sim_machine.proofs.KeptTimesCases.{if_cases}
+use Rattle.sim_machine_law.proofs.LedgerLaws.{All-first, All-second}
 
 -- ---- waiters
 
@@ -38,14 +39,6 @@ pub waiters_left : (res : ℕ) (request : EventId) (f : Facilities) → (leave r
 waiters_left res request f = waiters_used res request (release_made res request f) ∙ waiters_cancelled request f
 
 -- ---- users
-
-All-first : {X : Type 0} (P : X → Type 0) (xs ys : List X) → All P (xs ++ ys) → All P xs
-All-first P [] ys h = All-nil P
-All-first P (x ∷ xs) ys h = All-cons P x xs (All-head P x (xs ++ ys) h) (All-first P xs ys (All-tail P x (xs ++ ys) h))
-
-All-second : {X : Type 0} (P : X → Type 0) (xs ys : List X) → All P (xs ++ ys) → All P ys
-All-second P [] ys h = h
-All-second P (x ∷ xs) ys h = All-second P xs ys (All-tail P x (xs ++ ys) h)
 
 -- a user whose request is not the one that is left
 abbrev pub UsesOther : (User → Type 0) → EventId → User → Type 0

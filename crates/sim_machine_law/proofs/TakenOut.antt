@@ -53,10 +53,11 @@ count-less t u (x ∷ xs) =
 abbrev pub bears : EventId → (Callback → Bool) → Registration → Bool
 bears f test r = is_same r.event f && test r.callback
 
-abbrev calls_at : EventId → List Registration → List Callback
+-- what is called at an event, of these registrations
+abbrev pub calls_at : EventId → List Registration → List Callback
 calls_at f rs = map (λ (r : Registration). r.callback) (filter (λ (r : Registration). is_same r.event f) rs)
 
-count_at : (test : Callback → Bool) (f : EventId) (rs : List Registration) → count_by test (calls_at f rs) ≡ count_by (bears f test) rs
+pub count_at : (test : Callback → Bool) (f : EventId) (rs : List Registration) → count_by test (calls_at f rs) ≡ count_by (bears f test) rs
 count_at test f [] = refl
 count_at test f (r ∷ rs) =
     let others : List Registration = filter (λ (q : Registration). is_same q.event f) rs in
@@ -130,7 +131,8 @@ strikes_taken e p c k h =
           alone_from d k f before.0 (omega (arith, counted, before.1, count_by-le-length is_strike calls, length_counts calls, length_counts (all_callbacks_of c k f), at-unregister_less every (is_resume_of p) e f c k));
     }
 
-weaker_or : (a p q : Bool) → (p ≡ true → q ≡ true) → (a || p) ≡ true → (a || q) ≡ true
+-- the second part of a choice may be weaker
+pub weaker_or : (a p q : Bool) → (p ≡ true → q ≡ true) → (a || p) ≡ true → (a || q) ≡ true
 weaker_or true p q h w = refl
 weaker_or false p q h w = h w
 

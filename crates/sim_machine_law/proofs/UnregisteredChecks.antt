@@ -1,5 +1,5 @@
 -- A check is taken out of the registrations: conditions stay lawful, and the calendar may take the place of the state's.
-use Rattle.std.proofs.Common.{◌≡◌, ℕ, ◌+◌, ◌≤◌, Bool, true, false, ◌&&◌, ◌||◌, not, List, [], ◌∷◌, map, filter, refl, ap, ◌∙◌, arith, if◌then◌else◌, All, inl, inr}
+use Rattle.std.proofs.Common.{◌≡◌, ℕ, ◌+◌, ◌≤◌, Bool, true, false, ◌&&◌, ◌||◌, not, List, [], ◌∷◌, map, filter, refl, ◌∙◌, arith, if◌then◌else◌, All, inl, inr}
 use Rattle.std.specs.Prelude.{count_by}
 use Rattle.std.proofs.lemmas.Bool.{false≢true, both_ways, ltb-true, lt-ltb, cases_Bool}
 use Rattle.std.proofs.lemmas.List.Elements.{All-nil, All-cons, All-head, All-tail}
@@ -10,7 +10,7 @@ use Rattle.sim_types.specs.declared.event.Callback.{Callback}
 use Rattle.sim_types.specs.declared.event.Callback.TheVariants as callback
 use Rattle.sim_machine.specs.State.{Registration, Calendar, Control, State}
 use Rattle.sim_machine.specs.Events.{is_same, without_first, callbacks_of, unregister, is_resume_of, is_check_of}
-use Rattle.sim_machine.specs.Standing.{one_if, left_of, is_event_of, all_callbacks_of}
+use Rattle.sim_machine.specs.Standing.{left_of, is_event_of, all_callbacks_of}
 use Rattle.sim_machine.specs.LawfulRegistrations.{awaits_processing}
 use Rattle.sim_machine.specs.LawfulInterruptions.{is_strike}
 use Rattle.sim_machine.specs.LawfulConditions.{LawfulConditions, is_build_of, checks_at, needs_build, first_passes}
@@ -23,6 +23,7 @@ use Rattle.sim_machine.proofs.KeptProcessesParts.{living-events}
 use Rattle.sim_machine.proofs.KeptInterruptionsParts.{alone_parts, alone_from}
 use Rattle.sim_machine.proofs.KeptConditions.{older_same, older_everywhere}
 use Rattle.sim_machine_law.proofs.TakenCalendars.{MayTake}
+use Rattle.sim_machine_law.proofs.TakenOut.{calls_at, count_at}
 
 -- ---- a list without its first element that passes a test
 
@@ -53,19 +54,7 @@ all_fewer P t (x ∷ xs) h =
     if_cases (All P) (t x) xs (x ∷ without_first t xs) (λ yes. All-tail P x xs h)
     (λ no. All-cons P x (without_first t xs) (All-head P x xs h) (all_fewer P t xs (All-tail P x xs h)))
 
--- ---- the callbacks of an event, counted among all registrations
-
-abbrev calls_at : EventId → List Registration → List Callback
-calls_at f rs = map (λ r. r.callback) (filter (λ r. is_same r.event f) rs)
-
-at_event : (q : Callback → Bool) (f : EventId) (rs : List Registration) → count_by q (calls_at f rs) ≡ count_by (λ r. is_same r.event f && q r.callback) rs
-at_event q f [] = refl
-at_event q f (r ∷ rs) =
-    let here : Registration → Bool = λ r. is_same r.event f && q r.callback in
-    let others : List Registration = filter (λ r. is_same r.event f) rs in
-    if_cases (λ (xs : List Registration). count_by q (map (λ r. r.callback) xs) ≡ count_by here (r ∷ rs)) (is_same r.event f) (r ∷ others) others
-    (λ same. omega (arith, count_by-cons q r.callback (calls_at f rs), count_by-cons here r rs, at_event q f rs, ap (λ (b : Bool). one_if (b && q r.callback)) same))
-    (λ differ. omega (arith, count_by-cons here r rs, at_event q f rs, ap (λ (b : Bool). one_if (b && q r.callback)) differ))
+-- ---- a check is taken out of the registrations
 
 -- the registrations of which the first is taken out
 abbrev taken : EventId → EventId → Registration → Bool
@@ -82,7 +71,7 @@ and_second false b h = absurd (false≢true h)
 -- no event bears more
 pub unregistered-fewer : (q : Callback → Bool) (e cond f : EventId) (c : Calendar) → count_by q (callbacks_of f (unregister e (is_check_of cond) c)) ≤ count_by q (callbacks_of f c)
 unregistered-fewer q e cond f c =
-    omega (arith, at_event q f (unregister e (is_check_of cond) c).registered, at_event q f c.registered, fewer (λ r. is_same r.event f && q r.callback) (taken e cond) c.registered)
+    omega (arith, count_at q f (unregister e (is_check_of cond) c).registered, count_at q f c.registered, fewer (λ r. is_same r.event f && q r.callback) (taken e cond) c.registered)
 
 -- and each as many that are no checks
 unregistered-same : (q : Callback → Bool) (e cond f : EventId) (c : Calendar) → ((x : Callback) → is_check_of cond x ≡ true → q x ≡ false) → count_by q (callbacks_of f (unregister e (is_check_of cond) c)) ≡ count_by q (callbacks_of f c)
@@ -90,15 +79,15 @@ unregistered-same q e cond f c apart =
     let here : Registration → Bool = λ r. is_same r.event f && q r.callback in
     omega (
       arith,
-      at_event q f (unregister e (is_check_of cond) c).registered,
-      at_event q f c.registered,
+      count_at q f (unregister e (is_check_of cond) c).registered,
+      count_at q f c.registered,
       not_fewer here (taken e cond) c.registered (λ r yes. and_false (is_same r.event f) (q r.callback) (apart r.callback (and_second (is_same r.event e) (is_check_of cond r.callback) yes))),
     )
 
 -- the event itself bears one check less
 pub unregistered-one : (e cond : EventId) (c : Calendar) (n : ℕ) → count_by (is_check_of cond) (callbacks_of e c) ≤ n + 1 → count_by (is_check_of cond) (callbacks_of e (unregister e (is_check_of cond) c)) ≤ n
 unregistered-one e cond c n h =
-    omega (arith, at_event (is_check_of cond) e (unregister e (is_check_of cond) c).registered, one_fewer (taken e cond) c.registered n (omega (arith, h, at_event (is_check_of cond) e c.registered)))
+    omega (arith, count_at (is_check_of cond) e (unregister e (is_check_of cond) c).registered, one_fewer (taken e cond) c.registered n (omega (arith, h, count_at (is_check_of cond) e c.registered)))
 
 first_left : (q : Callback → Bool) (e cond f : EventId) (rs : List Registration) → ((x : Callback) → is_check_of cond x ≡ true → q x ≡ false) → first_passes q (calls_at f rs) ≡ true → first_passes q (calls_at f (without_first (taken e cond) rs)) ≡ true
 first_left q e cond f [] apart h = h
