@@ -19,7 +19,7 @@ use Rattle.sim_machine.proofs.CapacityLaws.{users_more}
 
 -- ---- users
 
--- what is of each of two lists is of each part
+-- what holds of all of two lists holds of all of each
 pub All-first : {X : Type 0} (P : X → Type 0) (xs ys : List X) → All P (xs ++ ys) → All P xs
 All-first P [] ys h = All-nil P
 All-first P (x ∷ xs) ys h = All-cons P x xs (All-head P x (xs ++ ys) h) (All-first P xs ys (All-tail P x (xs ++ ys) h))
