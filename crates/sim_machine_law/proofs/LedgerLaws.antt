@@ -74,6 +74,20 @@ users_without n res r [] = All-nil (λ (u : User). u.request ≢ r)
 users_without n res r (x ∷ later) =
     All-append (λ (u : User). u.request ≢ r) (user_by n x (later ++ Released res r ∷ [])) (users n (later ++ Released res r ∷ [])) (user_without n res r x later) (users_without n res r later)
 
+-- a preemption leaves no user of its request, at any resource
+user_preempted : (n res : ℕ) (r : EventId) (x : Deed) (later : List Deed) → All (λ (u : User). u.request ≢ r) (user_by n x (later ++ Preempted res r ∷ []))
+user_preempted n res r (Granted at u) later =
+    let d : Deed = Preempted res r in
+    let ended : Bool = list_any (ends_use u.request) (later ++ d ∷ []) in
+    if_one (λ (v : User). v.request ≢ r) u ((at == n) && not ended) (λ b same. both_ways ended (not-true ended (and_parts (at == n) (not ended) b).1)
+    (list_any-append (ends_use u.request) later (d ∷ []) ∙ or_right (list_any (ends_use u.request) later) (list_any (ends_use u.request) (d ∷ [])) (or_left (ends_use u.request d) false (ap (λ (e : EventId). is_same e r) same ∙ is_same-self r))))
+user_preempted n res r _ later = All-nil (λ (u : User). u.request ≢ r)
+
+pub users_preempted : (n res : ℕ) (r : EventId) (ledger : List Deed) → All (λ (u : User). u.request ≢ r) (users n (ledger ++ Preempted res r ∷ []))
+users_preempted n res r [] = All-nil (λ (u : User). u.request ≢ r)
+users_preempted n res r (x ∷ later) =
+    All-append (λ (u : User). u.request ≢ r) (user_by n x (later ++ Preempted res r ∷ [])) (users n (later ++ Preempted res r ∷ [])) (user_preempted n res r x later) (users_preempted n res r later)
+
 -- ---- items
 
 item_of_one : (res at : ℕ) (x : Item) (a b : Bool) → length (if (at == res) && not (a || (b || false)) then x ∷ [] else []) ≤ length (if (at == res) && not a then x ∷ [] else [])

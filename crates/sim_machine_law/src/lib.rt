@@ -8,4 +8,4 @@ mod runs;
 mod tests;
 
 pub use laws::{LawfulBody, lawful_arrival, lawful_opening, lawful_step};
-pub use runs::{lawful_run, trace_grows, within_capacity};
+pub use runs::{lawful_run, preemption_ends_use, trace_grows, within_capacity};

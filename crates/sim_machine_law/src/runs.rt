@@ -1,11 +1,11 @@
-ghost use Rattle.std.specs.Prelude.{◌≡◌, ◌<◌, ◌≤◌, ◌≤ℤ◌, ◌+◌, ◌++◌, ℕ, ℤ, pos, List, [], ◌∷◌, length, All, Some};
+ghost use Rattle.std.specs.Prelude.{◌≡◌, ◌≢◌, ◌<◌, ◌≤◌, ◌≤ℤ◌, ◌+◌, ◌++◌, ℕ, ℤ, pos, List, [], ◌∷◌, length, All, Some};
 ghost use Rattle.sim_types.specs.declared.event.Signal.{Signal};
 ghost use Rattle.sim_types.specs.declared.line.End.{End};
 ghost use Rattle.sim_types.specs.declared.line.Line.{Line};
 ghost use Rattle.sim_types.specs.declared.setup.Arrival.{Arrival};
-ghost use Rattle.sim_machine.specs.State.{Plan};
+ghost use Rattle.sim_machine.specs.State.{Plan, User, Facilities};
 ghost use Rattle.sim_machine.specs.Users.{resource_at, users, items};
-ghost use Rattle.sim_machine.specs.Trying.{level};
+ghost use Rattle.sim_machine.specs.Trying.{level, preempt};
 ghost use Rattle.sim_machine.specs.Steps.{TurnFunction};
 ghost use Rattle.sim_machine.specs.Runs.{run, trace_of, end_of};
 ghost use Rattle.sim_machine.specs.Setups.{FitsCode};
@@ -38,4 +38,10 @@ pub fn within_capacity<B: LawfulBody>()
     ensures level_from_0 { (code : B.Code) (g : Plan B) (turn : TurnFunction B) (journal : List Arrival) → g.start ≡ B.start code → FitsCode (B.facts code) g.setup → ((b : B) (time : ℤ) (told : Signal) → B.turn code b time told (turn b time told).0 (turn b time told).1) → All (λ a. a.port < length g.setup.ports) journal → (n res : ℕ) → res < length g.setup.resources → pos 0 ≤ℤ level g.setup.resources res (run g turn journal n).state.facilities }
     ensures level_to_capacity { (code : B.Code) (g : Plan B) (turn : TurnFunction B) (journal : List Arrival) → g.start ≡ B.start code → FitsCode (B.facts code) g.setup → ((b : B) (time : ℤ) (told : Signal) → B.turn code b time told (turn b time told).0 (turn b time told).1) → All (λ a. a.port < length g.setup.ports) journal → (n res : ℕ) → res < length g.setup.resources → level g.setup.resources res (run g turn journal n).state.facilities ≤ℤ (resource_at g.setup.resources res).capacity }
     ensures items { (code : B.Code) (g : Plan B) (turn : TurnFunction B) (journal : List Arrival) → g.start ≡ B.start code → FitsCode (B.facts code) g.setup → ((b : B) (time : ℤ) (told : Signal) → B.turn code b time told (turn b time told).0 (turn b time told).1) → All (λ a. a.port < length g.setup.ports) journal → (n res : ℕ) → res < length g.setup.resources → pos (length (items res (run g turn journal n).state.facilities.ledger)) ≤ℤ (resource_at g.setup.resources res).capacity }
+{}
+
+/// A preemption ends the use of its victim: after it no user of the resource has the victim's request (SimPy's "Shared
+/// resources", PreemptiveResource, where the preempted process loses its slot).
+pub fn preemption_ends_use()
+    ensures ended { (res : ℕ) (u : User) (f : Facilities) → All (λ v. v.request ≢ u.request) (users res (preempt res (Some u) f).ledger) }
 {}

@@ -1,6 +1,6 @@
 use crate::{
-    LawfulBody, lawful_arrival, lawful_opening, lawful_run, lawful_step, trace_grows,
-    within_capacity,
+    LawfulBody, lawful_arrival, lawful_opening, lawful_run, lawful_step, preemption_ends_use,
+    trace_grows, within_capacity,
 };
 use sim_types::{Op, ProcId};
 
@@ -32,4 +32,5 @@ fn laws_hold_of_a_body() {
     lawful_run::<(ProcId, Option<Op>)>();
     within_capacity::<(ProcId, Option<Op>)>();
     trace_grows::<(ProcId, Option<Op>)>();
+    preemption_ends_use();
 }
