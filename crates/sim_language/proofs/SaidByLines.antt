@@ -5,11 +5,11 @@ use Rattle.sim_types.specs.declared.fault.FaultKind.TheVariants as fault
 use Rattle.sim_language.specs.declared.form.Form.{Form}
 use Rattle.sim_language.specs.Lines.{Word, is_text}
 use Rattle.sim_language.specs.Forms.{operands}
-use Rattle.sim_language.specs.Shapes.{Slot, Context, fit, shape}
+use Rattle.sim_language.specs.Shapes.{Operand, Context, fit, shape}
 use Rattle.sim_language.specs.Sayings.{Setting, Wrong, Says, context_of, form_in, if_built, is_bad_name, is_bad_number, said_by_form, said_by_slots, saying}
 use Rattle.sim_language.specs.Said.{IsSaid}
 
-slots_are_said : (f : Form) (context : Context) (words : List Word) (slots : List Slot) → fit context [] (shape f) words ≡ Some slots → IsSaid (said_by_slots f (Some slots))
+slots_are_said : (f : Form) (context : Context) (words : List Word) (slots : List Operand) → fit context [] (shape f) words ≡ Some slots → IsSaid (said_by_slots f (Some slots))
 slots_are_said f context words slots fits = by (list_any is_bad_number slots) (list_any is_bad_name slots) refl refl
   where
     by : (number name : Bool) → list_any is_bad_number slots ≡ number → list_any is_bad_name slots ≡ name
@@ -22,7 +22,7 @@ form_is_said : (context : Context) (form : Option Form) (ws : List Word) → IsS
 form_is_said context None ws = tt
 form_is_said context (Some f) ws = by (fit context [] (shape f) (operands f ws)) refl
   where
-    by : (slots : Option (List Slot)) → fit context [] (shape f) (operands f ws) ≡ slots → IsSaid (said_by_slots f slots)
+    by : (slots : Option (List Operand)) → fit context [] (shape f) (operands f ws) ≡ slots → IsSaid (said_by_slots f slots)
     by None fits = tt
     by (Some slots) fits = slots_are_said f context (operands f ws) slots fits
 

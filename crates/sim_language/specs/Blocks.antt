@@ -5,8 +5,8 @@ use Rattle.sim_language.specs.declared.form.Form.{Form}
 use Rattle.sim_language.specs.declared.form.Form.TheVariants as form
 use Rattle.sim_language.specs.Lines.{Word}
 use Rattle.sim_language.specs.Forms.{opens_block, is_statement}
-use Rattle.sim_language.specs.Shapes.{Slot}
-use Rattle.sim_language.specs.Sayings.{Line, Saying, Blank, Wrong, Says}
+use Rattle.sim_language.specs.Shapes.{Operand}
+use Rattle.sim_language.specs.Sayings.{TextLine, Saying, Blank, Wrong, Says}
 
 -- a `with`, `loop`, `repeat`, `if` or `try` that is open
 pub record Block : Type 0 where
@@ -25,11 +25,11 @@ says test (Wrong kind) = false
 says test (Says f slots) = test f
 
 -- how many statements the lines above are: the place of the next
-abbrev pub statements : List Line → ℕ
+abbrev pub statements : List TextLine → ℕ
 statements [] = 0
 statements (l ∷ above) = if says is_statement l.saying then statements above + 1 else statements above
 
-abbrev pub first_word : List Slot → Word
+abbrev pub first_word : List Operand → Word
 first_word [] = []
 first_word (slot ∷ slots) = slot.word
 
@@ -43,7 +43,7 @@ split_first [] = []
 split_first (b ∷ blocks) = record b { split = true } ∷ blocks
 
 -- the open blocks behind a line of this form, where `inside` is the place behind it
-abbrev pub blocks_behind : ℕ → Form → List Slot → Option (List Block) → Option (List Block)
+abbrev pub blocks_behind : ℕ → Form → List Operand → Option (List Block) → Option (List Block)
 blocks_behind inside form.Process slots blocks = Some []
 blocks_behind inside form.End slots blocks = closed blocks
 blocks_behind inside form.Else slots blocks = option_map split_first blocks
@@ -56,6 +56,6 @@ blocks_then inside (Wrong kind) blocks = blocks
 blocks_then inside (Says f slots) blocks = blocks_behind inside f slots blocks
 
 -- by the lines above, the nearest first
-abbrev pub open_blocks : List Line → Option (List Block)
+abbrev pub open_blocks : List TextLine → Option (List Block)
 open_blocks [] = None
 open_blocks (l ∷ above) = blocks_then (statements (l ∷ above)) l.saying (open_blocks above)

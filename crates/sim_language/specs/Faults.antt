@@ -7,9 +7,9 @@ use Rattle.sim_types.specs.declared.fault.FaultKind.{FaultKind}
 use Rattle.sim_types.specs.declared.fault.FaultKind.TheVariants as fault
 use Rattle.sim_types.specs.declared.fault.Fault.{Fault}
 use Rattle.sim_language.specs.declared.form.Form.{Form}
-use Rattle.sim_language.specs.Shapes.{Slot, Heads}
-use Rattle.sim_language.specs.Sayings.{Line, Saying, Blank, Wrong, Says}
-use Rattle.sim_language.specs.Places.{Above, above_of, Place, in_process}
+use Rattle.sim_language.specs.Shapes.{Operand, ProcessLines}
+use Rattle.sim_language.specs.Sayings.{TextLine, Saying, Blank, Wrong, Says}
+use Rattle.sim_language.specs.Places.{Above, above_of, LineInText, in_process}
 use Rattle.sim_language.specs.NameFaults.{duplicate, unknown_name, wrong_kind}
 use Rattle.sim_language.specs.OrderFaults.{bad_header, misplaced, bad_order}
 use Rattle.sim_language.specs.LimitFaults.{too_many}
@@ -28,11 +28,11 @@ is_wrong fault.BadName (Wrong fault.BadName) = true
 is_wrong kind saying = false
 
 -- a fault of a line's form and operands
-abbrev pub of_form : (Form → List Slot → Bool) → Saying → Bool
+abbrev pub of_form : (Form → List Operand → Bool) → Saying → Bool
 of_form test (Says f slots) = test f slots
 of_form test other = false
 
-abbrev pub applies : FaultKind → Heads → Place → Bool
+abbrev pub applies : FaultKind → ProcessLines → LineInText → Bool
 applies fault.BadHeader heads place = bad_header place.above place.line.words
 applies fault.Duplicate heads place = of_form (duplicate place.above) place.line.saying
 applies fault.UnknownName heads place = of_form (λ f slots. unknown_name heads place.above slots) place.line.saying
@@ -49,11 +49,11 @@ abbrev pub kinds_in_order : List FaultKind
 kinds_in_order = fault.NotText ∷ fault.LineTooLong ∷ fault.BadHeader ∷ fault.UnknownWord ∷ fault.BadShape ∷ fault.BadNumber ∷ fault.BadName ∷ fault.Duplicate ∷ fault.UnknownName ∷ fault.WrongKind ∷ fault.Misplaced ∷ fault.TooMany ∷ fault.ClassClash ∷ fault.Unset ∷ fault.BadOrder ∷ []
 
 -- a line without words is never faulty
-abbrev pub fault_by : Saying → Heads → Place → Option FaultKind
+abbrev pub fault_by : Saying → ProcessLines → LineInText → Option FaultKind
 fault_by Blank heads place = None
 fault_by other heads place = find (λ kind. applies kind heads place) kinds_in_order
 
-abbrev pub fault_at : Heads → Place → Option FaultKind
+abbrev pub fault_at : ProcessLines → LineInText → Option FaultKind
 fault_at heads place = fault_by place.line.saying heads place
 
 -- ---- a text
@@ -67,10 +67,10 @@ at_line n None = None
 at_line n (Some kind) = Some (record { line = n; kind = kind })
 
 -- the fault of the first line that is faulty, or else that of the end of the text
-abbrev pub first_fault : Heads → List Place → Option Fault → Option Fault
+abbrev pub first_fault : ProcessLines → List LineInText → Option Fault → Option Fault
 first_fault heads [] end = end
 first_fault heads (place ∷ rest) end = option_or (at_line place.number (fault_at heads place)) (first_fault heads rest end)
 
 -- one line past the last
-abbrev pub end_fault : List Line → Option Fault
+abbrev pub end_fault : List TextLine → Option Fault
 end_fault ls = at_line (length ls + 1) (fault_past (above_of (reverse ls)))

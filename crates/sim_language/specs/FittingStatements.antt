@@ -3,7 +3,8 @@
 use Rattle.std.specs.Prelude.{ℕ, zero, Bool, true, false, ◌&&◌, nat_lt, nat_le, List, [], ◌∷◌, length, take, drop, pos, Option, Some, None, option_map, unwrap_or, slice_get}
 use Rattle.std.specs.List.{list_all}
 use Rattle.std.specs.Cmp.Lexicographic.{pointwise}
-use Rattle.sim_types.specs.Scenarios.{ScenarioOf}
+use Rattle.sim_types.specs.Setups.{is_class}
+use Rattle.sim_types.specs.Scenarios.{ScenarioOf, parameter_classes}
 use Rattle.sim_types.specs.declared.setup.Class.{Class}
 use Rattle.sim_types.specs.declared.setup.Class.TheVariants as class
 use Rattle.sim_types.specs.declared.setup.Resource.{Resource}
@@ -21,11 +22,7 @@ use Rattle.sim_types.specs.declared.script.Stmt.TheVariants as stmt
 use Rattle.sim_language.specs.declared.shape.Reference.{Reference}
 use Rattle.sim_language.specs.declared.shape.Reference.TheVariants.{AnyEvent, PlainEvent, AProcess}
 use Rattle.sim_language.specs.Sayings.{takes_me}
-use Rattle.sim_language.specs.VariableFaults.{same_class, takes_class, takes_named}
-
--- the classes of the parameters of a kind; `val` stands in front of them
-abbrev pub parameter_classes : Kind → List Class
-parameter_classes k = take k.params (drop 1 k.classes)
+use Rattle.sim_language.specs.VariableFaults.{takes_class, takes_named}
 
 abbrev pub classes_at : ScenarioOf → ℕ → Option (List Class)
 classes_at s kind = option_map parameter_classes (slice_get s.kinds kind)
@@ -37,7 +34,7 @@ class_of k v = unwrap_or (slice_get k.classes v) class.Number
 
 -- a variable that is given; `val` never is
 abbrev pub gives : Kind → ℕ → Class → Bool
-gives k v c = nat_le 1 v && nat_lt v 64 && same_class c (class_of k v)
+gives k v c = nat_le 1 v && nat_lt v 64 && is_class c (class_of k v)
 
 abbrev pub gives_maybe : Kind → Option ℕ → Class → Bool
 gives_maybe k None c = true
@@ -45,7 +42,7 @@ gives_maybe k (Some v) c = gives k v c
 
 -- a variable that is used
 abbrev pub uses : Kind → ℕ → Class → Bool
-uses k v c = nat_lt v 64 && same_class c (class_of k v)
+uses k v c = nat_lt v 64 && is_class c (class_of k v)
 
 abbrev pub number_fits : Kind → Num → Bool
 number_fits k (num.Var v) = uses k v class.Number

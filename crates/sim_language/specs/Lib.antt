@@ -20,8 +20,6 @@ pub mod Statements
 pub mod Links
 pub mod Reads
 pub mod Built
-pub mod Commands
-pub mod Texts
 pub mod FittingStatements
 pub mod FittingBlocks
 pub mod WellFormed

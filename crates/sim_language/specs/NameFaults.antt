@@ -2,6 +2,7 @@
 use Rattle.std.specs.Prelude.{ℕ, Bool, true, false, not, ◌||◌, ◌&&◌, ◌==◌, List, [], ◌∷◌, map, length, Option, Some, None, is_none}
 use Rattle.std.specs.Option.{option_and_then}
 use Rattle.std.specs.List.{list_any}
+use Rattle.sim_types.specs.Setups.{takes_one_number}
 use Rattle.sim_types.specs.declared.setup.Class.{Class}
 use Rattle.sim_types.specs.declared.setup.Class.TheVariants as class
 use Rattle.sim_language.specs.declared.form.Form.{Form}
@@ -12,7 +13,7 @@ use Rattle.sim_language.specs.declared.shape.Role.TheVariants.{Declares, Names}
 use Rattle.sim_language.specs.Lines.{Word, is_among}
 use Rattle.sim_language.specs.Named.{is_named, value_of}
 use Rattle.sim_language.specs.Forms.{is_process, same_sort}
-use Rattle.sim_language.specs.Shapes.{Slot, Heads, parameters}
+use Rattle.sim_language.specs.Shapes.{Operand, ProcessLines, parameters}
 use Rattle.sim_language.specs.Declarations.{sort_of, is_event}
 use Rattle.sim_language.specs.Blocks.{first_word}
 use Rattle.sim_language.specs.Variables.{given_by}
@@ -21,7 +22,7 @@ use Rattle.sim_language.specs.Places.{Above, stands_in}
 -- ---- Duplicate
 
 -- a declared name is declared again
-abbrev pub declares_again : Above → Slot → Bool
+abbrev pub declares_again : Above → Operand → Bool
 declares_again above slot = by slot.role
   where
     by : Role → Bool
@@ -33,31 +34,31 @@ repeats [] = false
 repeats (w ∷ ws) = is_among w ws || repeats ws
 
 -- a parameter stands twice
-abbrev pub repeats_parameter : Form → List Slot → Bool
+abbrev pub repeats_parameter : Form → List Operand → Bool
 repeats_parameter f slots = is_process f && repeats (map (λ v. v.name) (given_by slots))
 
 -- a parameter or a variable given has the name of a declared event
-abbrev pub hides_event : Above → List Slot → Bool
+abbrev pub hides_event : Above → List Operand → Bool
 hides_event above slots = list_any (λ v. is_event above.declared v.name) (given_by slots)
 
 -- a `with` gives the variable of a `with` in which it stands
-abbrev pub gives_again : Above → Form → List Slot → Bool
+abbrev pub gives_again : Above → Form → List Operand → Bool
 gives_again above form.With slots = stands_in above (first_word slots)
 gives_again above f slots = false
 
-abbrev pub duplicate : Above → Form → List Slot → Bool
+abbrev pub duplicate : Above → Form → List Operand → Bool
 duplicate above f slots = list_any (declares_again above) slots || repeats_parameter f slots || hides_event above slots || gives_again above f slots
 
 -- ---- UnknownName
 
-abbrev pub names_unknown : Heads → Above → Slot → Bool
+abbrev pub names_unknown : ProcessLines → Above → Operand → Bool
 names_unknown heads above slot = by slot.role
   where
     by : Role → Bool
     by (Names wanted) = is_none (sort_of heads above.declared slot.word)
     by role = false
 
-abbrev pub unknown_name : Heads → Above → List Slot → Bool
+abbrev pub unknown_name : ProcessLines → Above → List Operand → Bool
 unknown_name heads above slots = list_any (names_unknown heads above) slots
 
 -- ---- WrongKind
@@ -67,7 +68,7 @@ is_other s None = false
 is_other s (Some t) = not (same_sort s t)
 
 -- a declared name of another sort
-abbrev pub names_other : Heads → Above → Slot → Bool
+abbrev pub names_other : ProcessLines → Above → Operand → Bool
 names_other heads above slot = by slot.role
   where
     by : Role → Bool
@@ -99,17 +100,17 @@ abbrev pub is_not : ℕ → Option ℕ → Bool
 is_not n None = true
 is_not n (Some m) = not (n == m)
 
-abbrev pub takes_not : (Form → Option ℕ) → Above → List Slot → Bool
+abbrev pub takes_not : (Form → Option ℕ) → Above → List Operand → Bool
 takes_not takes above [] = false
 takes_not takes above (r ∷ rest) = is_not (length rest) (option_and_then (λ d. takes d.form) (value_of r.word above.declared))
 
 -- the operands behind the variable that a line gives
-abbrev pub behind_first : List Slot → List Slot
+abbrev pub behind_first : List Operand → List Operand
 behind_first [] = []
 behind_first (s ∷ slots) = slots
 
 -- a form that the resource's kind does not take
-abbrev pub not_taken : Above → Form → List Slot → Bool
+abbrev pub not_taken : Above → Form → List Operand → Bool
 not_taken above form.With slots = takes_not takes_request above (behind_first slots)
 not_taken above form.Put slots = takes_not takes_put above slots
 not_taken above form.NewPut slots = takes_not takes_put above (behind_first slots)
@@ -118,7 +119,7 @@ not_taken above form.NewGet slots = takes_not takes_get above (behind_first slot
 not_taken above f slots = false
 
 -- another number of arguments than of parameters
-abbrev pub miscounts : Heads → List Slot → Bool
+abbrev pub miscounts : ProcessLines → List Operand → Bool
 miscounts heads [] = false
 miscounts heads (p ∷ args) = not (length args == length (parameters heads p.word))
 
@@ -127,25 +128,21 @@ abbrev pub is_process_class : Class → Bool
 is_process_class class.Proc = true
 is_process_class c = false
 
-abbrev pub starts_wrong : Heads → List Slot → Bool
+abbrev pub starts_wrong : ProcessLines → List Operand → Bool
 starts_wrong heads [] = false
 starts_wrong heads (p ∷ args) = list_any is_process_class (parameters heads p.word)
 
 -- a port's process has exactly one parameter, a number
-abbrev pub is_one_number : List Class → Bool
-is_one_number (class.Number ∷ []) = true
-is_one_number classes = false
-
-abbrev pub port_wrong : Heads → List Slot → Bool
-port_wrong heads (n ∷ p ∷ slots) = not (is_one_number (parameters heads p.word))
+abbrev pub port_wrong : ProcessLines → List Operand → Bool
+port_wrong heads (n ∷ p ∷ slots) = not (takes_one_number (parameters heads p.word))
 port_wrong heads slots = false
 
-abbrev pub arguments_wrong : Heads → Form → List Slot → Bool
+abbrev pub arguments_wrong : ProcessLines → Form → List Operand → Bool
 arguments_wrong heads form.Spawn slots = miscounts heads slots
 arguments_wrong heads form.NewSpawn slots = miscounts heads (behind_first slots)
 arguments_wrong heads form.Start slots = miscounts heads slots || starts_wrong heads slots
 arguments_wrong heads form.Port slots = port_wrong heads slots
 arguments_wrong heads f slots = false
 
-abbrev pub wrong_kind : Heads → Above → Form → List Slot → Bool
+abbrev pub wrong_kind : ProcessLines → Above → Form → List Operand → Bool
 wrong_kind heads above f slots = list_any (names_other heads above) slots || not_taken above f slots || arguments_wrong heads f slots

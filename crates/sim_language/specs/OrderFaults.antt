@@ -6,7 +6,7 @@ use Rattle.sim_language.specs.declared.form.Form.{Form}
 use Rattle.sim_language.specs.declared.form.Form.TheVariants as form
 use Rattle.sim_language.specs.Lines.{Word, same}
 use Rattle.sim_language.specs.Numbers.{literal}
-use Rattle.sim_language.specs.Shapes.{Slot}
+use Rattle.sim_language.specs.Shapes.{Operand}
 use Rattle.sim_language.specs.Sayings.{begins_with}
 use Rattle.sim_language.specs.Blocks.{Block, first_word}
 use Rattle.sim_language.specs.Places.{Above, in_process, blocks_of, stands_in}
@@ -58,7 +58,7 @@ abbrev pub declaration_misplaced : Above → Bool
 declaration_misplaced above = in_process above || above.process_or_start
 
 -- out of the order of a text, or of a process and its blocks
-abbrev pub misplaced : Above → Form → List Slot → Bool
+abbrev pub misplaced : Above → Form → List Operand → Bool
 misplaced above form.Scenario slots = not (above.worded == 0)
 misplaced above form.UntilEmpty slots = not (above.worded == 1)
 misplaced above form.UntilTime slots = not (above.worded == 1)
@@ -91,6 +91,6 @@ abbrev pub falls : Option ℤ → Option ℤ → Bool
 falls (Some last) (Some next) = lt_z next last
 falls last next = false
 
-abbrev pub bad_order : Above → Form → List Slot → Bool
+abbrev pub bad_order : Above → Form → List Operand → Bool
 bad_order above form.After slots = falls above.after (literal (first_word slots))
 bad_order above f slots = false

@@ -10,7 +10,7 @@ use Rattle.sim_language.specs.Lines.{Word, same, is_empty}
 use Rattle.sim_language.specs.Numbers.{literal}
 use Rattle.sim_language.specs.Named.{Named}
 use Rattle.sim_language.specs.Forms.{is_process}
-use Rattle.sim_language.specs.Sayings.{Line, Saying, Says, begins_with}
+use Rattle.sim_language.specs.Sayings.{TextLine, Saying, Says, begins_with}
 use Rattle.sim_language.specs.Declarations.{declared}
 use Rattle.sim_language.specs.Blocks.{Block, says, statements, open_blocks, first_word}
 use Rattle.sim_language.specs.Variables.{variables_at}
@@ -40,21 +40,21 @@ is_poster f = false
 -- ---- what the lines above say
 
 -- a line above is of such a form
-abbrev pub some_above : (Form → Bool) → List Line → Bool
+abbrev pub some_above : (Form → Bool) → List TextLine → Bool
 some_above test [] = false
 some_above test (l ∷ above) = says test l.saying || some_above test above
 
-abbrev pub count_above : (Form → Bool) → List Line → ℕ
+abbrev pub count_above : (Form → Bool) → List TextLine → ℕ
 count_above test [] = 0
 count_above test (l ∷ above) = if says test l.saying then count_above test above + 1 else count_above test above
 
 -- how many lines above have words
-abbrev pub worded_above : List Line → ℕ
+abbrev pub worded_above : List TextLine → ℕ
 worded_above [] = 0
 worded_above (l ∷ above) = if is_empty l.words then worded_above above else worded_above above + 1
 
 -- a line above begins with `journal`
-abbrev pub journal_above : List Line → Bool
+abbrev pub journal_above : List TextLine → Bool
 journal_above [] = false
 journal_above (l ∷ above) = begins_with (codes "journal") l.words || journal_above above
 
@@ -63,7 +63,7 @@ after_then (Says form.After slots) last = literal (first_word slots)
 after_then other last = last
 
 -- the number of events that the last journal entry above gives
-abbrev pub after_above : List Line → Option ℤ
+abbrev pub after_above : List TextLine → Option ℤ
 after_above [] = None
 after_above (l ∷ above) = after_then l.saying (after_above above)
 
@@ -80,7 +80,7 @@ pub record Above : Type 0 where
   pub posters : ℕ
   pub after : Option ℤ
 
-abbrev pub above_of : List Line → Above
+abbrev pub above_of : List TextLine → Above
 above_of above = record {
   worded = worded_above above;
   declared = declared above;
@@ -96,16 +96,16 @@ above_of above = record {
 
 -- ---- places
 
-pub record Place : Type 0 where
+pub record LineInText : Type 0 where
   -- the number of the line, counted from 1
   pub number : ℕ
   pub above : Above
   -- the variables of the process that the line stands in or begins
   pub variables : List (Named Class)
-  pub line : Line
+  pub line : TextLine
 
 -- the lines below, where the line numbers go on with n and `above` has the lines above, the nearest first
-abbrev pub places : ℕ → List Line → List Line → List Place
+abbrev pub places : ℕ → List TextLine → List TextLine → List LineInText
 places n above [] = []
 places n above (l ∷ below) = record { number = n; above = above_of above; variables = variables_at (l ∷ above) below; line = l } ∷ places (n + 1) (l ∷ above) below
 

@@ -1,6 +1,7 @@
 -- What a text says.
 --     reads built bytes      the fault of the first faulty line, or else the scenario
-use Rattle.std.specs.Prelude.{ℕ, ◌+◌, ◌^◌, Bool, if◌then◌else◌, nat_lt, List, [], ◌∷◌, ◌++◌, map, length, take, replicate, nat_abs, ℤ, pos, Option, Some, None, unwrap_or, Result, Ok, Err}
+use Rattle.std.specs.Prelude.{ℕ, ◌+◌, Bool, if◌then◌else◌, nat_lt, List, [], ◌∷◌, ◌++◌, map, length, take, replicate, nat_abs, ℤ, pos, Option, Some, None, unwrap_or, Result, Ok, Err}
+use Rattle.sim_types.specs.Limits.{most_bytes, most_items, most_level}
 use Rattle.sim_types.specs.Scenarios.{ScenarioOf}
 use Rattle.sim_types.specs.declared.fault.Fault.{Fault}
 use Rattle.sim_types.specs.declared.fault.FaultKind.TheVariants as fault
@@ -20,10 +21,10 @@ use Rattle.sim_language.specs.declared.shape.Role.{Role}
 use Rattle.sim_language.specs.declared.shape.Role.TheVariants.{Names}
 use Rattle.sim_language.specs.Lines.{Word, lines}
 use Rattle.sim_language.specs.Named.{Named}
-use Rattle.sim_language.specs.Shapes.{Slot, Heads, capacity}
-use Rattle.sim_language.specs.Sayings.{Line, Saying, Says, heads_of, sayings}
+use Rattle.sim_language.specs.Shapes.{Operand, ProcessLines, capacity}
+use Rattle.sim_language.specs.Sayings.{TextLine, Saying, Says, heads_of, sayings}
 use Rattle.sim_language.specs.Variables.{given_by}
-use Rattle.sim_language.specs.Places.{Place, places}
+use Rattle.sim_language.specs.Places.{LineInText, places}
 use Rattle.sim_language.specs.Faults.{first_fault, end_fault}
 use Rattle.sim_language.specs.Statements.{literal_of, number_declared, event_number, kind_number, statement}
 use Rattle.sim_language.specs.Links.{linked}
@@ -61,7 +62,7 @@ abbrev pub capacity_of : ℤ → Word → ℤ
 capacity_of most w = unwrap_or (capacity most w) (pos 0)
 
 -- an argument of a start: a literal, or the number of a named event
-abbrev pub start_argument_of : List (Named Meaning) → Slot → ℤ
+abbrev pub start_argument_of : List (Named Meaning) → Operand → ℤ
 start_argument_of ds slot = by slot.role
   where
     by : Role → ℤ
@@ -72,20 +73,20 @@ start_argument_of ds slot = by slot.role
 abbrev pub classes_of : List (Named Class) → List Class
 classes_of variables = take 64 (class.Number ∷ map (λ v. v.value) variables ++ replicate 64 class.Number)
 
-abbrev pub kind_of : Place → List Slot → Kind
+abbrev pub kind_of : LineInText → List Operand → Kind
 kind_of place slots = record { params = length (given_by slots); first = place.above.statements; classes = classes_of place.variables }
 
 -- `until empty` and the lines of headers and sections add nothing
-abbrev pub add : Heads → Place → Form → List Slot → ScenarioOf → ScenarioOf
+abbrev pub add : ProcessLines → LineInText → Form → List Operand → ScenarioOf → ScenarioOf
 add heads place form.UntilTime (t ∷ []) s = record s { setup = record s.setup { until = until.At (literal_of t.word) } }
 add heads place form.Seed (n ∷ []) s = record s { seed = natural_of n.word }
 add heads place form.Resource (n ∷ c ∷ []) s = with_resource s resource.Plain (literal_of c.word) (pos 0)
 add heads place form.Priority (n ∷ c ∷ []) s = with_resource s resource.Priority (literal_of c.word) (pos 0)
 add heads place form.Preemptive (n ∷ c ∷ []) s = with_resource s resource.Preemptive (literal_of c.word) (pos 0)
-add heads place form.Container (n ∷ c ∷ o ∷ []) s = with_resource s resource.Container (capacity_of (pos (2 ^ 62)) c.word) (literal_of o.word)
-add heads place form.Store (n ∷ c ∷ []) s = with_resource s resource.Store (capacity_of (pos (2 ^ 32)) c.word) (pos 0)
-add heads place form.PStore (n ∷ c ∷ []) s = with_resource s resource.PStore (capacity_of (pos (2 ^ 32)) c.word) (pos 0)
-add heads place form.FStore (n ∷ c ∷ []) s = with_resource s resource.FStore (capacity_of (pos (2 ^ 32)) c.word) (pos 0)
+add heads place form.Container (n ∷ c ∷ o ∷ []) s = with_resource s resource.Container (capacity_of most_level c.word) (literal_of o.word)
+add heads place form.Store (n ∷ c ∷ []) s = with_resource s resource.Store (capacity_of most_items c.word) (pos 0)
+add heads place form.PStore (n ∷ c ∷ []) s = with_resource s resource.PStore (capacity_of most_items c.word) (pos 0)
+add heads place form.FStore (n ∷ c ∷ []) s = with_resource s resource.FStore (capacity_of most_items c.word) (pos 0)
 add heads place form.Event slots s = record s { setup = record s.setup { events = s.setup.events + 1 } }
 add heads place form.Port (n ∷ p ∷ []) s = with_port s n.word (kind_number heads p.word)
 add heads place form.Process slots s = with_kind s (kind_of place slots)
@@ -95,12 +96,12 @@ add heads place form.Poster slots s = record s { posters = s.posters ++ [] ∷ [
 add heads place form.Post (port ∷ v ∷ []) s = record s { posters = onto_last (record { port = number_declared place.above.declared port.word; value = literal_of v.word }) s.posters }
 add heads place f slots s = with_statement s (statement heads place f slots)
 
-abbrev pub add_said : Heads → Place → Saying → ScenarioOf → ScenarioOf
+abbrev pub add_said : ProcessLines → LineInText → Saying → ScenarioOf → ScenarioOf
 add_said heads place (Says f slots) s = add heads place f slots s
 add_said heads place other s = s
 
 -- the scenario with what the lines at these places add, one after the other
-abbrev pub with_lines : Heads → ScenarioOf → List Place → ScenarioOf
+abbrev pub with_lines : ProcessLines → ScenarioOf → List LineInText → ScenarioOf
 with_lines heads s [] = s
 with_lines heads s (place ∷ rest) = with_lines heads (add_said heads place place.line.saying s) rest
 
@@ -123,17 +124,17 @@ unless_faulty (Some fault) s = Err fault
 unless_faulty None s = Ok (record s { code = linked 0 s.code })
 
 -- what the lines at these places say, where those above say s
-abbrev pub outcome : Heads → ScenarioOf → List Place → Option Fault → Result ScenarioOf Fault
+abbrev pub outcome : ProcessLines → ScenarioOf → List LineInText → Option Fault → Result ScenarioOf Fault
 outcome heads s ps end = unless_faulty (first_fault heads ps end) (with_lines heads s ps)
 
-abbrev pub reads_lines : Heads → List Line → Result ScenarioOf Fault
+abbrev pub reads_lines : ProcessLines → List TextLine → Result ScenarioOf Fault
 reads_lines heads ls = outcome heads nothing_said (places 1 [] ls) (end_fault ls)
 
--- at most 4,194,304 bytes
+-- more bytes than a text may have
 abbrev pub is_too_long : List ℕ → Bool
-is_too_long bytes = nat_lt 4194304 (length bytes)
+is_too_long bytes = nat_lt most_bytes (length bytes)
 
-abbrev pub reads_text : (Form → Bool) → Heads → List Word → Result ScenarioOf Fault
+abbrev pub reads_text : (Form → Bool) → ProcessLines → List Word → Result ScenarioOf Fault
 reads_text built heads ls = reads_lines heads (sayings built heads ls)
 
 abbrev pub reads : (Form → Bool) → List ℕ → Result ScenarioOf Fault

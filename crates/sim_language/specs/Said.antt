@@ -3,11 +3,11 @@ use Rattle.std.specs.Prelude.{◌≡◌, false, List, [], Some}
 use Rattle.std.specs.List.{list_any}
 use Rattle.sim_language.specs.declared.form.Form.{Form}
 use Rattle.sim_language.specs.Lines.{Word}
-use Rattle.sim_language.specs.Shapes.{Slot, Context, shape, fit}
+use Rattle.sim_language.specs.Shapes.{Operand, Context, shape, fit}
 use Rattle.sim_language.specs.Sayings.{Saying, Blank, Wrong, Says, is_bad_number, is_bad_name}
 
 -- the operands have the shape of the form, and their numbers and names are good
-pub record Fits (f : Form) (slots : List Slot) : Type 0 where
+pub record Fits (f : Form) (slots : List Operand) : Type 0 where
   pub context : Context
   pub words : List Word
   pub shape : fit context [] (shape f) words ≡ Some slots

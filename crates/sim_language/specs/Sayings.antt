@@ -20,7 +20,7 @@ use Rattle.sim_language.specs.Names.{is_name}
 use Rattle.sim_language.specs.Named.{Named, with_all}
 use Rattle.sim_language.specs.Parameters.{is_parameter, parameter_class}
 use Rattle.sim_language.specs.Forms.{begins, operands}
-use Rattle.sim_language.specs.Shapes.{Slot, Heads, Context, capacity, shape, fit}
+use Rattle.sim_language.specs.Shapes.{Operand, ProcessLines, Context, capacity, shape, fit}
 
 -- the first word of a line is this one
 abbrev pub begins_with : Word → List Word → Bool
@@ -35,7 +35,7 @@ head_of (p ∷ name ∷ params) = if same p (codes "process") && is_name name th
 head_of other = None
 
 -- each process by the first line that declares it
-abbrev pub heads_of : List Word → Heads
+abbrev pub heads_of : List Word → ProcessLines
 heads_of ls = with_all [] (filter_map (λ l. head_of (words (cut l))) ls)
 
 -- ---- the section that a line stands in
@@ -59,7 +59,7 @@ if_built built (Some f) = if built f then Some f else None
 -- ---- numbers and names
 
 -- a number is wanted, and the word is none in the range
-abbrev pub is_bad_number : Slot → Bool
+abbrev pub is_bad_number : Operand → Bool
 is_bad_number slot = by slot.role
   where
     by : Role → Bool
@@ -81,7 +81,7 @@ abbrev pub is_me : Word → Bool
 is_me w = same w (codes "me")
 
 -- a name is wanted, and the word is none
-abbrev pub is_bad_name : Slot → Bool
+abbrev pub is_bad_name : Operand → Bool
 is_bad_name slot = by slot.role
   where
     by : Role → Bool
@@ -101,9 +101,9 @@ pub data Saying : Type 0 where
   -- what is wrong with it by itself
   Wrong : FaultKind → Saying
   -- a form, and its operands
-  Says : Form → List Slot → Saying
+  Says : Form → List Operand → Saying
 
-abbrev pub said_by_slots : Form → Option (List Slot) → Saying
+abbrev pub said_by_slots : Form → Option (List Operand) → Saying
 said_by_slots f None = Wrong fault.BadShape
 said_by_slots f (Some slots) =
     if list_any is_bad_number slots then Wrong fault.BadNumber
@@ -116,7 +116,7 @@ said_by_form context (Some f) ws = said_by_slots f (fit context [] (shape f) (op
 -- what a line says depends on the forms that are built, the process lines, and the sections that began above
 pub record Setting : Type 0 where
   pub built : Form → Bool
-  pub heads : Heads
+  pub heads : ProcessLines
   pub section : Section
   pub posters : ℕ
 
@@ -132,21 +132,21 @@ saying s line (w ∷ ws) =
     else said_by_form (context_of s) (if_built s.built (form_in s.section (w ∷ ws))) (w ∷ ws))
 
 -- a cut line, its words and what it says
-pub record Line : Type 0 where
+pub record TextLine : Type 0 where
   pub words : List Word
   pub saying : Saying
 
-abbrev pub line_of : Setting → Word → Line
+abbrev pub line_of : Setting → Word → TextLine
 line_of s line = let c : Word = cut line in let ws : List Word = words c in record { words = ws; saying = saying s c ws }
 
 abbrev pub setting_behind : List Word → Setting → Setting
 setting_behind ws s = record s { section = section_behind ws s.section; posters = if begins_with (codes "poster") ws then s.posters + 1 else s.posters }
 
 -- lines one below the other
-abbrev pub lines_from : Setting → List Word → List Line
+abbrev pub lines_from : Setting → List Word → List TextLine
 lines_from s [] = []
 lines_from s (l ∷ ls) = line_of s l ∷ lines_from (setting_behind (words (cut l)) s) ls
 
 -- the lines of a text with these process lines
-abbrev pub sayings : (Form → Bool) → Heads → List Word → List Line
+abbrev pub sayings : (Form → Bool) → ProcessLines → List Word → List TextLine
 sayings built heads ls = lines_from (record { built = built; heads = heads; section = Plain; posters = 0 }) ls

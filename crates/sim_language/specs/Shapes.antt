@@ -2,6 +2,7 @@
 --     shape form                     the parts of the form, in their order
 --     fit context last items ws      the words with what each is there for, where they have this shape
 use Rattle.std.specs.Prelude.{ℕ, ◌^◌, ◌-◌, if◌then◌else◌, List, [], ◌∷◌, map, codes, Option, Some, None, option_map, unwrap_or, ℤ, pos}
+use Rattle.sim_types.specs.Limits.{last_time, most_items, most_level, most_slots}
 use Rattle.sim_types.specs.declared.setup.Class.{Class}
 use Rattle.sim_types.specs.declared.setup.Class.TheVariants as class
 use Rattle.sim_language.specs.declared.form.Form.{Form}
@@ -24,7 +25,7 @@ use Rattle.sim_language.specs.Named.{Named, value_of}
 
 -- a number of users, and any number of 64 bits
 abbrev pub users : Role
-users = Within (pos 1) (pos (2 ^ 32 - 1))
+users = Within (pos 1) most_slots
 
 abbrev pub any_literal : Role
 any_literal = Within least greatest
@@ -32,21 +33,21 @@ any_literal = Within least greatest
 abbrev pub shape : Form → List Item
 shape form.Scenario = Exactly fixed.One ∷ []
 shape form.UntilEmpty = Exactly fixed.Empty ∷ []
-shape form.UntilTime = A (Within (pos 1) (pos (2 ^ 62))) ∷ []
+shape form.UntilTime = A (Within (pos 1) last_time) ∷ []
 shape form.Seed = A (Within (pos 0) greatest) ∷ []
 shape form.Resource = A Declares ∷ A users ∷ []
 shape form.Priority = A Declares ∷ A users ∷ []
 shape form.Preemptive = A Declares ∷ A users ∷ []
-shape form.Container = A Declares ∷ A (Capacity (pos (2 ^ 62))) ∷ Opening ∷ []
-shape form.Store = A Declares ∷ A (Capacity (pos (2 ^ 32))) ∷ []
-shape form.PStore = A Declares ∷ A (Capacity (pos (2 ^ 32))) ∷ []
-shape form.FStore = A Declares ∷ A (Capacity (pos (2 ^ 32))) ∷ []
+shape form.Container = A Declares ∷ A (Capacity most_level) ∷ Opening ∷ []
+shape form.Store = A Declares ∷ A (Capacity most_items) ∷ []
+shape form.PStore = A Declares ∷ A (Capacity most_items) ∷ []
+shape form.FStore = A Declares ∷ A (Capacity most_items) ∷ []
 shape form.Event = A Declares ∷ []
 shape form.Port = A Declares ∷ A (Names sort.Process) ∷ []
 shape form.Process = A Declares ∷ Each Parameter ∷ []
 shape form.Start = A (Names sort.Process) ∷ StartArguments ∷ []
 shape form.Journal = []
-shape form.After = A (Within (pos 0) (pos (2 ^ 62))) ∷ A (Within (pos 0) (pos 15)) ∷ A (Within (pos 0) (pos 65535)) ∷ A (Names sort.Port) ∷ A any_literal ∷ []
+shape form.After = A (Within (pos 0) last_time) ∷ A (Within (pos 0) (pos 15)) ∷ A (Within (pos 0) (pos 65535)) ∷ A (Names sort.Port) ∷ A any_literal ∷ []
 shape form.Poster = NextPoster ∷ []
 shape form.Post = A (Names sort.Port) ∷ A any_literal ∷ []
 shape form.Let = A (Gives class.Number) ∷ Exactly fixed.Equals ∷ A Value ∷ MayEnd ∷ OneOf choice.Operator ∷ A Value ∷ []
@@ -99,22 +100,22 @@ choices choice.Preference = words (codes "preempt wait")
 -- ---- what the words of a line are there for
 
 -- an operand of a line
-pub record Slot : Type 0 where
+pub record Operand : Type 0 where
   pub role : Role
   pub word : Word
 
 -- the process lines of a text, each with the classes of its parameters
-abbrev pub Heads : Type 0
-Heads = List (Named (List Class))
+abbrev pub ProcessLines : Type 0
+ProcessLines = List (Named (List Class))
 
 -- the parameters of a process; none where no process has the name
-abbrev pub parameters : Heads → Word → List Class
+abbrev pub parameters : ProcessLines → Word → List Class
 parameters heads name = unwrap_or (value_of name heads) []
 
 -- what a line's shape depends on beside its words: the process lines of the whole text, and how many `poster` lines stand
 -- above
 pub record Context : Type 0 where
-  pub heads : Heads
+  pub heads : ProcessLines
   pub posters : ℕ
 
 -- an argument is there for what its parameter takes
@@ -135,24 +136,24 @@ capacity most w = if same w (codes "inf") then Some most else literal_within (po
 
 -- an opening behind a word that is no capacity: that word alone is faulty
 abbrev pub opening : Word → Role
-opening capacity_word = Within (pos 0) (unwrap_or (capacity (pos (2 ^ 62)) capacity_word) greatest)
+opening capacity_word = Within (pos 0) (unwrap_or (capacity most_level capacity_word) greatest)
 
 -- where a number is wanted, a word that begins as one does is a literal
-abbrev pub slot_of : Role → Word → Slot
+abbrev pub slot_of : Role → Word → Operand
 slot_of Value w = record { role = if looks_numeric w then any_literal else Value; word = w }
 slot_of role w = record { role = role; word = w }
 
 -- words and roles side by side; a word without a role is free
-abbrev pub side_by_side : List Role → List Word → List Slot
+abbrev pub side_by_side : List Role → List Word → List Operand
 side_by_side roles [] = []
 side_by_side [] (w ∷ ws) = slot_of Free w ∷ side_by_side [] ws
 side_by_side (r ∷ roles) (w ∷ ws) = slot_of r w ∷ side_by_side roles ws
 
-abbrev pub before_all : Slot → Option (List Slot) → Option (List Slot)
+abbrev pub before_all : Operand → Option (List Operand) → Option (List Operand)
 before_all slot slots = option_map (λ more. slot ∷ more) slots
 
 -- the words as operands, where they have this shape; `last` is the word in front of them
-abbrev pub fit : Context → Word → List Item → List Word → Option (List Slot)
+abbrev pub fit : Context → Word → List Item → List Word → Option (List Operand)
 fit context last [] [] = Some []
 fit context last [] (w ∷ ws) = None
 fit context last (MayEnd ∷ items) [] = Some []

@@ -21,12 +21,12 @@ use Rattle.sim_language.specs.declared.shape.Role.TheVariants.{Within, Refers}
 use Rattle.sim_language.specs.Lines.{Word, same}
 use Rattle.sim_language.specs.Numbers.{literal}
 use Rattle.sim_language.specs.Named.{Named, value_of, place_or_none}
-use Rattle.sim_language.specs.Shapes.{Slot, Heads}
+use Rattle.sim_language.specs.Shapes.{Operand, ProcessLines}
 use Rattle.sim_language.specs.Sayings.{is_me}
 use Rattle.sim_language.specs.Declarations.{is_event}
 use Rattle.sim_language.specs.Blocks.{Block}
 use Rattle.sim_language.specs.Variables.{variable_number}
-use Rattle.sim_language.specs.Places.{Place}
+use Rattle.sim_language.specs.Places.{LineInText}
 
 -- ---- words as what they stand for
 
@@ -47,7 +47,7 @@ abbrev pub event_number : List (Named Meaning) → Word → ℕ
 event_number ds w = suc (number_declared ds w)
 
 -- processes are numbered by their lines in the text
-abbrev pub kind_number : Heads → Word → ℕ
+abbrev pub kind_number : ProcessLines → Word → ℕ
 kind_number heads w = place_or_none w heads
 
 abbrev pub literal_of : Word → ℤ
@@ -57,20 +57,20 @@ literal_of w = unwrap_or (literal w) (pos 0)
 abbrev pub variable_or_now : List (Named Class) → Word → Num
 variable_or_now variables w = if same w (codes "now") then num.Now else (if same w (codes "val") then num.Var 0 else num.Var (variable variables w))
 
-abbrev pub number_of : List (Named Class) → Slot → Num
+abbrev pub number_of : List (Named Class) → Operand → Num
 number_of variables slot = by slot.role
   where
     by : Role → Num
     by (Within low high) = num.Lit (literal_of slot.word)
     by role = variable_or_now variables slot.word
 
-abbrev pub event_of : Place → Word → Ref
+abbrev pub event_of : LineInText → Word → Ref
 event_of place w =
     if is_me w then ref.Me
     else (if is_event place.above.declared w then ref.Named (event_number place.above.declared w)
     else ref.Var (variable place.variables w))
 
-abbrev pub argument_of : Place → Slot → SpawnArg
+abbrev pub argument_of : LineInText → Operand → SpawnArg
 argument_of place slot = by slot.role
   where
     by : Role → SpawnArg
@@ -78,18 +78,18 @@ argument_of place slot = by slot.role
     by role = spawn.Num (number_of place.variables slot)
 
 -- a process has no more than 8 parameters
-abbrev pub arguments : Place → List Slot → List SpawnArg
+abbrev pub arguments : LineInText → List Operand → List SpawnArg
 arguments place slots = take 8 (map (argument_of place) slots)
 
 -- a condition has no more than 16 members
-abbrev pub members : Place → List Slot → List Ref
+abbrev pub members : LineInText → List Operand → List Ref
 members place slots = take 16 (map (λ slot. event_of place slot.word) slots)
 
 -- a part that the form has not is 0
 abbrev pub nothing : Num
 nothing = num.Lit (pos 0)
 
-abbrev pub number_or_nothing : List (Named Class) → List Slot → Num
+abbrev pub number_or_nothing : List (Named Class) → List Operand → Num
 number_or_nothing variables [] = nothing
 number_or_nothing variables (slot ∷ slots) = number_of variables slot
 
@@ -106,7 +106,7 @@ operator_of w =
     else (if same w (codes "<=") then arith.AtMost else arith.Equal))))))))
 
 -- only `wait` makes a request that preempts nobody
-abbrev pub preempts : List Slot → Bool
+abbrev pub preempts : List Operand → Bool
 preempts (p ∷ preference ∷ []) = same preference.word (codes "preempt")
 preempts slots = true
 
@@ -123,7 +123,7 @@ end_of (b ∷ blocks) = by b.form
 
 -- ---- the statement
 
-abbrev pub statement : Heads → Place → Form → List Slot → Option Stmt
+abbrev pub statement : ProcessLines → LineInText → Form → List Operand → Option Stmt
 statement heads place form.Let (x ∷ a ∷ []) = Some (stmt.Let (variable place.variables x.word) arith.Only (number_of place.variables a) nothing)
 statement heads place form.Let (x ∷ a ∷ op ∷ b ∷ []) = Some (stmt.Let (variable place.variables x.word) (operator_of op.word) (number_of place.variables a) (number_of place.variables b))
 statement heads place form.Count (x ∷ r ∷ []) = Some (stmt.Count (variable place.variables x.word) (number_declared place.above.declared r.word))

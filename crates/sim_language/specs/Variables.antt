@@ -10,10 +10,10 @@ use Rattle.sim_language.specs.Lines.{Word}
 use Rattle.sim_language.specs.Named.{Named, with_all, place_or_none}
 use Rattle.sim_language.specs.Parameters.{parameter_name, parameter_class}
 use Rattle.sim_language.specs.Forms.{opens_block, is_process, is_end}
-use Rattle.sim_language.specs.Shapes.{Slot}
-use Rattle.sim_language.specs.Sayings.{Line, Saying, Blank, Wrong, Says}
+use Rattle.sim_language.specs.Shapes.{Operand}
+use Rattle.sim_language.specs.Sayings.{TextLine, Saying, Blank, Wrong, Says}
 
-abbrev pub given_by_slot : Slot → Option (Named Class)
+abbrev pub given_by_slot : Operand → Option (Named Class)
 given_by_slot slot = by slot.role
   where
     by : Role → Option (Named Class)
@@ -22,7 +22,7 @@ given_by_slot slot = by slot.role
     by role = None
 
 -- the variables that a line gives, or the parameters of a process line
-abbrev pub given_by : List Slot → List (Named Class)
+abbrev pub given_by : List Operand → List (Named Class)
 given_by slots = filter_map given_by_slot slots
 
 -- ---- the lines of a process
@@ -38,7 +38,7 @@ deep_behind zero f = if opens_block f then 1 else 0
 deep_behind (suc deep) f = if opens_block f then suc (suc deep) else (if is_end f then deep else suc deep)
 
 -- what the lines below give, up to the process's end; a line with a fault of its own gives nothing
-abbrev pub given_below : ℕ → List Line → List (Named Class)
+abbrev pub given_below : ℕ → List TextLine → List (Named Class)
 given_below deep [] = []
 given_below deep (l ∷ below) = by l.saying (given_below (deep_then l.saying) below)
   where
@@ -52,16 +52,16 @@ given_below deep (l ∷ below) = by l.saying (given_below (deep_then l.saying) b
     by (Wrong kind) more = more
     by (Says f slots) more = if ends_process deep f then [] else given_by slots ++ more
 
-abbrev pub variables_of : List Slot → List Line → List (Named Class)
+abbrev pub variables_of : List Operand → List TextLine → List (Named Class)
 variables_of params below = with_all [] (given_by params ++ given_below 0 below)
 
 -- a process line begins the variables anew
-abbrev pub variables_then : Saying → List Line → List (Named Class) → List (Named Class)
+abbrev pub variables_then : Saying → List TextLine → List (Named Class) → List (Named Class)
 variables_then (Says form.Process params) below others = variables_of params below
 variables_then other below others = others
 
 -- by the lines above, the nearest first, and those below
-abbrev pub variables_at : List Line → List Line → List (Named Class)
+abbrev pub variables_at : List TextLine → List TextLine → List (Named Class)
 variables_at [] below = []
 variables_at (l ∷ above) below = variables_then l.saying below (variables_at above (l ∷ below))
 

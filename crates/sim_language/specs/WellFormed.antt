@@ -1,77 +1,31 @@
 -- What holds of each scenario that is read: what the type of scenarios keeps, and what scripts rest on.
 --     is_well_formed s      numbers in their ranges, names in theirs, each variable of its class, blocks closed, `after` never falling
-use Rattle.std.specs.Prelude.{ℕ, suc, ◌-◌, ◌^◌, Bool, true, false, ◌&&◌, ◌==◌, nat_lt, nat_le, List, [], ◌∷◌, map, length, take, ℤ, pos, Option, Some, None}
+use Rattle.std.specs.Prelude.{ℕ, suc, ◌^◌, Bool, true, false, ◌&&◌, ◌==◌, nat_lt, nat_le, List, [], ◌∷◌, map, length, take}
 use Rattle.std.specs.List.{list_all}
 use Rattle.std.specs.Cmp.Lexicographic.{pointwise}
-use Rattle.std.specs.Int.Signed.{le_z}
-use Rattle.sim_types.specs.Scenarios.{ScenarioOf}
+use Rattle.sim_types.specs.Scenarios.{ScenarioOf, facts_of}
+use Rattle.sim_types.specs.Setups.{until_fits, resource_fits, port_fits, start_fits}
 use Rattle.sim_types.specs.declared.setup.Class.{Class}
 use Rattle.sim_types.specs.declared.setup.Class.TheVariants as class
-use Rattle.sim_types.specs.declared.setup.Until.{Until}
-use Rattle.sim_types.specs.declared.setup.Until.TheVariants as until
-use Rattle.sim_types.specs.declared.setup.Resource.{Resource}
-use Rattle.sim_types.specs.declared.setup.ResourceKind.{ResourceKind}
-use Rattle.sim_types.specs.declared.setup.ResourceKind.TheVariants as resource
-use Rattle.sim_types.specs.declared.setup.Start.{Start}
 use Rattle.sim_types.specs.declared.setup.Arrival.{Arrival}
 use Rattle.sim_types.specs.declared.setup.Post.{Post}
 use Rattle.sim_types.specs.declared.script.Kind.{Kind}
 use Rattle.sim_language.specs.Names.{is_spelled}
-use Rattle.sim_language.specs.FittingStatements.{classes_at, script_fits}
+use Rattle.sim_language.specs.FittingStatements.{script_fits}
 use Rattle.sim_language.specs.FittingBlocks.{code_fits, firsts}
 
--- ---- the setup
-
-abbrev pub is_between : ℤ → ℤ → ℤ → Bool
-is_between low high n = le_z low n && le_z n high
-
--- `scenario 1` names no event there
-abbrev pub until_fits : Until → Bool
-until_fits until.Never = true
-until_fits (until.At t) = is_between (pos 1) (pos (2 ^ 62)) t
-until_fits (until.Event e) = false
-
-abbrev pub capacity_fits : ResourceKind → ℤ → ℤ → Bool
-capacity_fits resource.Plain c o = is_between (pos 1) (pos (2 ^ 32 - 1)) c
-capacity_fits resource.Priority c o = is_between (pos 1) (pos (2 ^ 32 - 1)) c
-capacity_fits resource.Preemptive c o = is_between (pos 1) (pos (2 ^ 32 - 1)) c
-capacity_fits resource.Container c o = is_between (pos 1) (pos (2 ^ 62)) c && is_between (pos 0) c o
-capacity_fits kind c o = is_between (pos 1) (pos (2 ^ 32)) c
-
-abbrev pub resource_fits : Resource → Bool
-resource_fits r = capacity_fits r.kind r.capacity r.opening
-
--- a port's process has one parameter, a number
-abbrev pub port_fits : ScenarioOf → ℕ → Bool
-port_fits s kind = by (classes_at s kind)
-  where
-    by : Option (List Class) → Bool
-    by (Some (class.Number ∷ [])) = true
-    by other = false
-
--- an argument of a start: any number, or a named event
-abbrev pub start_argument_fits : ScenarioOf → Class → ℤ → Bool
-start_argument_fits s class.Number v = true
-start_argument_fits s class.Event v = is_between (pos 1) (pos s.setup.events) v
-start_argument_fits s c v = false
-
-abbrev pub start_fits : ScenarioOf → Start → Bool
-start_fits s x = by (classes_at s x.kind)
-  where
-    by : Option (List Class) → Bool
-    by None = false
-    by (Some classes) = pointwise (start_argument_fits s) classes x.args
+-- ---- the setup, as a kernel may be opened with it
 
 abbrev pub setup_fits : ScenarioOf → Bool
 setup_fits s =
-    until_fits s.setup.until
+    until_fits s.setup.events s.setup.until
     && nat_le s.setup.events 1024
     && nat_le (length s.setup.resources) 1024
     && nat_le (length s.setup.ports) 256
     && nat_le (length s.setup.starts) 65536
     && list_all resource_fits s.setup.resources
-    && list_all (port_fits s) s.setup.ports
-    && list_all (start_fits s) s.setup.starts
+    && list_all (port_fits (facts_of s)) s.setup.ports
+    && list_all (start_fits (facts_of s)) s.setup.starts
 
 -- ---- the process kinds
 

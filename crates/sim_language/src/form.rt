@@ -6,21 +6,18 @@ ghost use Rattle.sim_language.specs.LimitFaults.{most_of};
 ghost use Rattle.sim_language.specs.Shapes.{shape};
 
 use crate::shape::{Choice, Fixed, Item, Reference, Role};
-use sim_types::Class;
-
-/// The greatest time, 2^62; a container has no greater capacity.
-const LAST_TIME: i64 = 4_611_686_018_427_387_904;
+use sim_types::{Class, LAST_TIME, MOST_ITEMS, MOST_LEVEL, MOST_SLOTS};
 
 const DECLARES: Item = Item::A(Role::Declares);
 
 /// How many users a resource has, at most.
-const USERS: Item = Item::A(Role::Within(1, 4_294_967_295));
+const USERS: Item = Item::A(Role::Within(1, MOST_SLOTS));
 
 /// The capacity of a container.
-const LEVEL: Item = Item::A(Role::Capacity(LAST_TIME));
+const LEVEL: Item = Item::A(Role::Capacity(MOST_LEVEL));
 
 /// The capacity of a store.
-const ITEMS: Item = Item::A(Role::Capacity(4_294_967_296));
+const ITEMS: Item = Item::A(Role::Capacity(MOST_ITEMS));
 
 /// Any number of 64 bits, as a literal.
 const LITERAL: Item = Item::A(Role::Within(i64::MIN, i64::MAX));

@@ -1,19 +1,14 @@
 -- Which entry of the agenda is due, and what its pop does to the calendar.
-use Rattle.std.specs.Prelude.{◌==◌, not, List, Option, true, [], ◌∷◌, filter, Some, None, if◌then◌else◌}
+use Rattle.std.specs.Prelude.{◌==◌, not, List, Option, true, filter}
 use Rattle.sim_types.specs.declared.event.Entry.{Entry}
+use Rattle.sim_machine.specs.Choices.{best}
 use Rattle.sim_machine.specs.Keys.{comes_first}
 use Rattle.sim_machine.specs.State.{Calendar}
 use Rattle.sim_machine.specs.Events.{is_same, change_event}
 
--- of e and the others the one that comes first
-abbrev pub first_from : Entry → List Entry → Entry
-first_from e [] = e
-first_from e (f ∷ fs) = first_from (if comes_first f.key e.key then f else e) fs
-
 -- the entry that comes before all others: by time, then urgency, then insertion (SimPy's Environment.step)
 abbrev pub due : List Entry → Option Entry
-due [] = None
-due (e ∷ es) = Some (first_from e es)
+due es = best (λ f e. comes_first f.key e.key) es
 
 -- the agenda without the entry of this number, which no other has in a lawful state
 abbrev pub without_entry : Entry → List Entry → List Entry

@@ -1,6 +1,7 @@
 -- What each operation of a process does, and what the process is told next. Errors and their numbers are this project's
 -- own; SimPy raises exceptions in their place.
 use Rattle.std.specs.Prelude.{Bool, not, int_lt, ℕ, ℤ, List, Option, true, false, Some, None, if◌then◌else◌, ◌+◌, pos, ◌+ℤ◌, ◌-ℤ◌, ◌%◌, nat_abs}
+use Rattle.sim_types.specs.Throws.{interrupt, failure, negative_delay, amount_not_positive, already_triggered, ended_process, process_itself, empty_range, time_too_late, condition_too_wide}
 use Rattle.sim_types.specs.declared.event.EventId.{EventId}
 use Rattle.sim_types.specs.declared.event.ProcId.{ProcId}
 use Rattle.sim_types.specs.declared.event.Outcome.{Outcome}
@@ -34,25 +35,25 @@ tell_made e s = tell (signal.Made e) s
 -- a timeout is made, and then the process goes on as said; error 1 is a negative delay, 9 a time past the last
 abbrev pub with_timeout : {B : Type 0} → ℤ → ℤ → (EventId → State B → State B) → State B → State B
 with_timeout delay value after s =
-    if int_lt delay (pos 0) then raise 1 s
-    else if is_too_late delay (calendar s) then raise 9 s
+    if int_lt delay (pos 0) then raise negative_delay s
+    else if is_too_late delay (calendar s) then raise time_too_late s
     else after (next_event (calendar s)) (on_events (make_timeout delay value) s)
 
 -- an event is triggered (SimPy's Event.succeed and fail); error 3 is one that was already
 abbrev pub trigger_pending : {B : Type 0} → EventId → Outcome → State B → State B
-trigger_pending e x s = if is_pending (calendar s) e then tell signal.Done (on_events (trigger e x) s) else raise 3 s
+trigger_pending e x s = if is_pending (calendar s) e then tell signal.Done (on_events (trigger e x) s) else raise already_triggered s
 
 -- what is done to a process: error 4 is one that has ended, 5 is the process itself (SimPy's Process.interrupt)
 abbrev pub to_another : {B : Type 0} → ProcId → ProcId → (State B → State B) → State B → State B
 to_another p q does s =
-    if not (is_alive q s) then raise 4 s
-    else if is_process q p then raise 5 s
+    if not (is_alive q s) then raise ended_process s
+    else if is_process q p then raise process_itself s
     else tell signal.Done (does s)
 
 -- a condition is made; error 10 is one that weighs too much
 abbrev pub with_condition : {B : Type 0} → Sort → List EventId → State B → State B
 with_condition sort members s =
-    if is_too_wide members (calendar s) then raise 10 s
+    if is_too_wide members (calendar s) then raise condition_too_wide s
     else tell_made (next_event (calendar s)) (on_events (make_condition sort members) s)
 
 -- yes as 1 and no as 0
@@ -64,13 +65,13 @@ number_of false = pos 0
 abbrev pub enter : {B : Type 0} → Plan B → ProcId → ℕ → ℤ → Bool → State B → State B
 enter g p res priority preempts s =
     let e = next_event (calendar s) in
-    if is_own_victim g.setup.resources res p priority preempts s.facilities then raise 5 s
+    if is_own_victim g.setup.resources res p priority preempts s.facilities then raise process_itself s
     else tell_made e (open_scope p e res (on_facilities (make_request g.setup.resources res p priority preempts) s))
 
 -- a put or get is made, and then the process goes on as said; error 2 is an amount that is not positive
 abbrev pub with_move : {B : Type 0} → Plan B → ℕ → ℤ → (Facilities → Facilities) → (EventId → State B → State B) → State B → State B
 with_move g res amount made after s =
-    if is_refused_amount g.setup.resources res amount then raise 2 s
+    if is_refused_amount g.setup.resources res amount then raise amount_not_positive s
     else after (next_event (calendar s)) (on_facilities made s)
 
 -- a number of the range from lo to hi, by a random word: lo and the remainder of the word by the number of numbers
@@ -80,7 +81,7 @@ drawn_number word lo hi = lo +ℤ pos (word % (nat_abs (hi -ℤ lo) + 1))
 -- a random number of a range by the next random word; error 8 is an empty range, and then no word is drawn
 abbrev pub draw : {B : Type 0} → Plan B → ℤ → ℤ → State B → State B
 draw g lo hi s =
-    if int_lt hi lo then raise 8 s
+    if int_lt hi lo then raise empty_range s
     else tell (signal.Number (drawn_number (g.word s.drawn) lo hi)) (record s { drawn = s.drawn + 1 })
 
 -- an event gets the outcome of another; one that is not pending stays as it is (this project's own: SimPy's
@@ -95,7 +96,7 @@ abbrev pub chain : {B : Type 0} → EventId → EventId → State B → State B
 chain e y s =
     if not (is_processed (calendar s) e) then tell signal.Done (on_events (register e (callback.Trigger y)) s)
     else if is_pending (calendar s) y then tell signal.Done (on_events (pass_on (event_at (calendar s) e).outcome y) s)
-    else raise 3 s
+    else raise already_triggered s
 
 -- the active process p asks for an operation; one equation for each, in the order of the operations
 abbrev pub effect : {B : Type 0} → Plan B → ProcId → Op → State B → State B
@@ -105,9 +106,9 @@ effect g p (op.Pause delay value) s = with_timeout delay value (λ e t. wait e p
 effect g p (op.Wait e) s = wait e p s
 effect g p op.NewEvent s = tell_made (next_event (calendar s)) (on_events (make kind.Plain) s)
 effect g p (op.Succeed e value) s = trigger_pending e (outcome.Ok value) s
-effect g p (op.Fail e code) s = trigger_pending e (outcome.Fail (record { kind = 3; value = code })) s
+effect g p (op.Fail e code) s = trigger_pending e (outcome.Fail (record { kind = failure; value = code })) s
 effect g p (op.Spawn k args) s = tell_made (next_event (calendar s)) (make_process g k args s)
-effect g p (op.Interrupt q cause) s = to_another p q (on_events (make_interruption q (record { kind = 1; value = cause }))) s
+effect g p (op.Interrupt q cause) s = to_another p q (on_events (make_interruption q (record { kind = interrupt; value = cause }))) s
 effect g p (op.Drop q value) s = to_another p q (drop_process q value) s
 effect g p (op.AllOf members) s = with_condition Every members s
 effect g p (op.AnyOf members) s = with_condition Either members s

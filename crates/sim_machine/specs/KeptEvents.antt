@@ -60,3 +60,7 @@ kept_below named tell s (suc n) found =
 -- the kept events, by number
 abbrev pub kept_events : {B : Type 0} → ℕ → Telling B → State B → List EventId
 kept_events named tell s = kept_below named tell s (length s.facilities.calendar.events) []
+
+-- whether e is one of them
+abbrev pub is_kept : {B : Type 0} → ℕ → Telling B → State B → EventId → Bool
+is_kept named tell s e = list_any (is_same e) (kept_events named tell s)

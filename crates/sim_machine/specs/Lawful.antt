@@ -1,5 +1,6 @@
 -- What is to hold of every state that a run comes to. (It is this project's own: SimPy's documentation says what
 -- happens, and not what stays true.)
+use Rattle.std.specs.Prelude.{length}
 use Rattle.sim_machine.specs.State.{State, Plan}
 use Rattle.sim_machine.specs.Tellings.{Telling}
 use Rattle.sim_machine.specs.LawfulTimes.{LawfulTimes}
@@ -11,6 +12,9 @@ use Rattle.sim_machine.specs.LawfulCapacities.{LawfulCapacities}
 use Rattle.sim_machine.specs.LawfulConditions.{LawfulConditions}
 use Rattle.sim_machine.specs.LawfulBodies.{LawfulBodies}
 use Rattle.sim_machine.specs.LawfulChains.{LawfulChains}
+use Rattle.sim_machine.specs.LawfulTries.{LawfulTries}
+use Rattle.sim_machine.specs.LawfulLedger.{LawfulLedger}
+use Rattle.sim_machine.specs.LawfulStops.{LawfulStops}
 
 -- a lawful state: all of these hold
 pub record Lawful {B : Type 0} (g : Plan B) (tell : Telling B) (sound : B → Type 0) (s : State B) : Type 0 where
@@ -23,3 +27,6 @@ pub record Lawful {B : Type 0} (g : Plan B) (tell : Telling B) (sound : B → Ty
   pub conditions : LawfulConditions s.facilities.calendar s.control
   pub bodies : LawfulBodies tell sound s
   pub chains : LawfulChains s.facilities.calendar s.control
+  pub tries : LawfulTries (length g.setup.resources) s.facilities.calendar s.control
+  pub ledger : LawfulLedger s.facilities
+  pub stops : LawfulStops g.setup.until s.facilities.calendar s.control

@@ -6,7 +6,8 @@ use Rattle.sim_types.specs.declared.setup.ResourceKind.{ResourceKind}
 use Rattle.sim_machine.specs.State.{Calendar, Want, Slot, Give, Take, Waiter, User, Facilities}
 use Rattle.sim_machine.specs.Events.{is_pending}
 use Rattle.sim_machine.specs.Users.{resource_at, users, items}
-use Rattle.sim_machine.specs.Trying.{level, is_container}
+use Rattle.sim_machine.specs.Attempts.{is_container}
+use Rattle.sim_machine.specs.Trying.{level}
 use Rattle.sim_machine.specs.MayAsk.{takes_requests}
 use Rattle.sim_machine.specs.Standing.{was_made, kind_at}
 use Rattle.sim_machine.specs.LawfulWaiting.{is_request_kind, is_put_kind, is_get_kind}

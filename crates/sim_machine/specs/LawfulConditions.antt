@@ -1,13 +1,29 @@
 -- Lawful conditions: they count only their members, and are built once.
-use Rattle.std.specs.Prelude.{Bool, nat_lt, ◌==◌, ◌||◌, ◌&&◌, not, ℕ, List, true, false, [], ◌∷◌, length, ◌+◌, ◌≡◌, nat_le, ◌≤◌, IsTrue, count_by}
-use Rattle.std.specs.List.{list_any, list_all}
+use Rattle.std.specs.Prelude.{Bool, nat_lt, ◌==◌, ◌||◌, ◌&&◌, not, ℕ, List, true, false, [], ◌∷◌, length, ◌+◌, ◌≡◌, nat_le, ◌≤◌, IsTrue, count_by, All, is_some}
+use Rattle.std.specs.List.{list_any, list_all, AllPass}
 use Rattle.sim_types.specs.declared.event.EventId.{EventId}
+use Rattle.sim_types.specs.declared.event.EventKind.{EventKind}
+use Rattle.sim_types.specs.declared.event.EventKind.TheVariants as kind
 use Rattle.sim_types.specs.declared.event.Callback.{Callback}
 use Rattle.sim_types.specs.declared.event.Callback.TheVariants as callback
-use Rattle.sim_machine.specs.State.{ConditionOf, Calendar, Control}
+use Rattle.sim_machine.specs.State.{ConditionOf, EventOf, Calendar, Control}
 use Rattle.sim_machine.specs.Events.{is_same, is_pending, is_processed, callbacks_of, is_check_of}
 use Rattle.sim_machine.specs.Conditions.{is_condition, condition_at, members_of, most_weight, weight_within}
 use Rattle.sim_machine.specs.Standing.{one_if, was_made, left_of, is_event_of, all_callbacks_of}
+
+-- the kind of conditions
+abbrev pub is_condition_kind : EventKind → Bool
+is_condition_kind kind.Cond = true
+is_condition_kind _ = false
+
+-- an event has members, a count and a value exactly where it is a condition by its kind
+abbrev pub IsConditionByKind : EventOf → Type 0
+IsConditionByKind x = is_some x.condition ≡ is_condition_kind x.kind
+
+-- whether the callback, if it builds a condition, builds one that is one
+abbrev pub builds_condition : Calendar → Callback → Bool
+builds_condition c (callback.Build e) = is_condition c e
+builds_condition c _ = true
 
 -- whether the callback builds the condition e
 abbrev pub is_build_of : EventId → Callback → Bool
@@ -62,7 +78,8 @@ builds_left_first control cond =
     (count_by (is_build_of cond) (left_of control) == 0)
     || (count_by (is_build_of cond) (left_of control) == 1) && is_event_of control cond && first_passes (is_build_of cond) (left_of control)
 
--- a condition counts only members, each as often as it stands there, and is built once, before anything else that it calls
+-- a condition counts only members, each as often as it stands there, and is built once, before anything else that it
+-- calls; what is no condition has no members and is never built
 pub record LawfulConditions (c : Calendar) (control : Control) : Type 0 where
   pub members : (e : EventId) → IsTrue (was_made c e) → IsTrue (members_are_older c e)
   pub counts : (e : EventId) → IsTrue (counts_well c e)
@@ -71,3 +88,5 @@ pub record LawfulConditions (c : Calendar) (control : Control) : Type 0 where
   pub builds : (cond : EventId) → count_by (λ r. is_build_of cond r.callback) c.registered ≡ one_if (needs_build c cond)
   pub first : (cond : EventId) → IsTrue (builds_first c cond)
   pub left : (cond : EventId) → IsTrue (builds_left_first control cond)
+  pub left_builds : AllPass (builds_condition c) (left_of control)
+  pub kinds : All IsConditionByKind c.events

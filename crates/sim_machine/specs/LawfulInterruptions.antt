@@ -30,6 +30,14 @@ is_unheard_kind _ = false
 abbrev pub strikes_alone : Calendar → Control → EventId → Bool
 strikes_alone c control e = is_interrupt_kind (kind_at c e) && (length (all_callbacks_of c control e) == 1)
 
+-- whether a callback of e, if it is an interruption's, is the one callback of an interruption
+abbrev pub strikes_well : Calendar → Control → EventId → Callback → Bool
+strikes_well c control e x = not (is_strike x) || strikes_alone c control e
+
+-- the same of the callbacks that are left to call
+abbrev pub left_strikes_well : Calendar → Control → EventId → Bool
+left_strikes_well c control e = not (list_any is_strike (left_of control)) || strikes_alone c control e
+
 -- whether an event, if it is an interruption, has failed, as it has from the start
 abbrev pub is_failed_interruption : EventOf → Bool
 is_failed_interruption x = not (is_interrupt_kind x.kind) || is_fail x.outcome
@@ -40,8 +48,8 @@ has_heard_members c x = elim x.condition [ None ↦ true | Some y ↦ list_all (
 
 -- an interruption strikes one process and does nothing else, and nothing waits for it
 pub record LawfulInterruptions {B : Type 0} (s : State B) : Type 0 where
-  pub registered : AllPass (λ r. not (is_strike r.callback) || strikes_alone s.facilities.calendar s.control r.event) s.facilities.calendar.registered
-  pub calling : (e : EventId) → IsTrue (is_event_of s.control e) → IsTrue (not (list_any is_strike (left_of s.control)) || strikes_alone s.facilities.calendar s.control e)
+  pub registered : AllPass (λ r. strikes_well s.facilities.calendar s.control r.event r.callback) s.facilities.calendar.registered
+  pub calling : (e : EventId) → IsTrue (is_event_of s.control e) → IsTrue (left_strikes_well s.facilities.calendar s.control e)
   pub failed : AllPass is_failed_interruption s.facilities.calendar.events
   pub targets : AllPass (λ x. not (is_unheard_kind (kind_at s.facilities.calendar x.target))) s.processes
   pub members : AllPass (has_heard_members s.facilities.calendar) s.facilities.calendar.events

@@ -29,7 +29,13 @@ is_plain_kind _ = false
 abbrev pub is_waiting_well : {B : Type 0} → State B → ProcessOf B → Bool
 is_waiting_well s x =
     let c = s.facilities.calendar in
-    is_active s.control x.id || (callbacks_in_all (is_resume_of x.id) c s.control == 1) && (count_by (is_resume_of x.id) (all_callbacks_of c s.control x.target) == 1)
+    is_active s.control x.id
+    || (callbacks_in_all (is_resume_of x.id) c s.control == 1)
+    && (count_by (is_resume_of x.id) (all_callbacks_of c s.control x.target) == 1)
+
+-- how many callbacks are to resume p
+abbrev pub resumptions_of : {B : Type 0} → ProcId → State B → ℕ
+resumptions_of p s = callbacks_in_all (is_resume_of p) s.facilities.calendar s.control
 
 -- whether the target of a live process was made, and its own event is of a process and pending
 abbrev pub is_living_well : {B : Type 0} → State B → ProcessOf B → Bool
@@ -47,7 +53,7 @@ pub record LawfulProcesses {B : Type 0} (named : ℕ) (s : State B) : Type 0 whe
   pub distinct : AllPairs (λ x y. x.id ≢ y.id) s.processes
   pub active : (p : ProcId) → IsTrue (is_active s.control p) → IsTrue (is_alive p s)
   pub waiting : AllPass (is_waiting_well s) s.processes
-  pub not_resumed : (p : ProcId) → IsTrue (is_active s.control p || not (is_alive p s)) → callbacks_in_all (is_resume_of p) s.facilities.calendar s.control ≡ 0
+  pub not_resumed : (p : ProcId) → IsTrue (is_active s.control p || not (is_alive p s)) → resumptions_of p s ≡ 0
   pub living : AllPass (is_living_well s) s.processes
   pub named_made : named < length s.facilities.calendar.events
   pub named_plain : (n : ℕ) → n ≤ named → IsTrue (is_plain_kind (kind_at s.facilities.calendar (record { 0 = n })))

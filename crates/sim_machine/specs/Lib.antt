@@ -1,10 +1,12 @@
 pub mod Keys
+pub mod Choices
 pub mod State
 pub mod Events
 pub mod Agenda
 pub mod Triggering
 pub mod Conditions
 pub mod Users
+pub mod Attempts
 pub mod Trying
 pub mod Requests
 pub mod Scopes
@@ -17,6 +19,7 @@ pub mod Tellings
 pub mod MayFollow
 pub mod MayAsk
 pub mod BodyLaw
+pub mod Bodies
 pub mod Setups
 pub mod NumberBounds
 pub mod Standing
@@ -29,6 +32,9 @@ pub mod LawfulCapacities
 pub mod LawfulConditions
 pub mod LawfulBodies
 pub mod LawfulChains
+pub mod LawfulTries
+pub mod LawfulLedger
+pub mod LawfulStops
 pub mod Lawful
 pub mod RandomWords
 pub mod KeptEvents

@@ -2,6 +2,7 @@
 -- waits.
 use Rattle.std.specs.Prelude.{Bool, ◌==◌, ◌||◌, ℕ, List, Option, true, false, [], ◌∷◌, Some, None}
 use Rattle.std.specs.List.{list_any}
+use Rattle.sim_types.specs.Throws.{negative_delay, amount_not_positive, already_triggered, ended_process, process_itself, empty_range, time_too_late, condition_too_wide}
 use Rattle.sim_types.specs.declared.event.EventKind.{EventKind}
 use Rattle.sim_types.specs.declared.event.Signal.{Signal}
 use Rattle.sim_types.specs.declared.event.EventKind.TheVariants as kind
@@ -47,32 +48,32 @@ is_number _ = false
 -- whether this may be told next to a process that asked for this and goes on; after `Finish` and `Die` nothing may
 abbrev pub may_follow : Op → Signal → Bool
 may_follow op.Nop x = is_done x
-may_follow (op.Timeout delay value) x = is_made x || raises_one_of (1 ∷ 9 ∷ []) x
-may_follow (op.Pause delay value) x = is_resumption x || raises_one_of (1 ∷ 9 ∷ []) x
+may_follow (op.Timeout delay value) x = is_made x || raises_one_of (negative_delay ∷ time_too_late ∷ []) x
+may_follow (op.Pause delay value) x = is_resumption x || raises_one_of (negative_delay ∷ time_too_late ∷ []) x
 may_follow (op.Wait e) x = is_resumption x
 may_follow op.NewEvent x = is_made x
-may_follow (op.Succeed e value) x = is_done x || raises_one_of (3 ∷ []) x
-may_follow (op.Fail e code) x = is_done x || raises_one_of (3 ∷ []) x
+may_follow (op.Succeed e value) x = is_done x || raises_one_of (already_triggered ∷ []) x
+may_follow (op.Fail e code) x = is_done x || raises_one_of (already_triggered ∷ []) x
 may_follow (op.Spawn k args) x = is_made x
-may_follow (op.Interrupt q cause) x = is_done x || raises_one_of (4 ∷ 5 ∷ []) x
-may_follow (op.Drop q value) x = is_done x || raises_one_of (4 ∷ 5 ∷ []) x
-may_follow (op.AllOf members) x = is_made x || raises_one_of (10 ∷ []) x
-may_follow (op.AnyOf members) x = is_made x || raises_one_of (10 ∷ []) x
+may_follow (op.Interrupt q cause) x = is_done x || raises_one_of (ended_process ∷ process_itself ∷ []) x
+may_follow (op.Drop q value) x = is_done x || raises_one_of (ended_process ∷ process_itself ∷ []) x
+may_follow (op.AllOf members) x = is_made x || raises_one_of (condition_too_wide ∷ []) x
+may_follow (op.AnyOf members) x = is_made x || raises_one_of (condition_too_wide ∷ []) x
 may_follow (op.Has cond e) x = is_number x
-may_follow (op.Enter res priority preempts) x = is_made x || raises_one_of (5 ∷ []) x
+may_follow (op.Enter res priority preempts) x = is_made x || raises_one_of (process_itself ∷ []) x
 may_follow op.Leave x = is_done x
 may_follow (op.Release request) x = is_done x
-may_follow (op.Put res amount priority) x = is_made x || raises_one_of (2 ∷ []) x
-may_follow (op.Get res least greatest) x = is_made x || raises_one_of (2 ∷ []) x
-may_follow (op.PutWait res amount priority) x = is_resumption x || raises_one_of (2 ∷ []) x
-may_follow (op.GetWait res least greatest) x = is_resumption x || raises_one_of (2 ∷ []) x
+may_follow (op.Put res amount priority) x = is_made x || raises_one_of (amount_not_positive ∷ []) x
+may_follow (op.Get res least greatest) x = is_made x || raises_one_of (amount_not_positive ∷ []) x
+may_follow (op.PutWait res amount priority) x = is_resumption x || raises_one_of (amount_not_positive ∷ []) x
+may_follow (op.GetWait res least greatest) x = is_resumption x || raises_one_of (amount_not_positive ∷ []) x
 may_follow (op.Cancel e) x = is_done x
 may_follow (op.Count res) x = is_number x
-may_follow (op.Draw lo hi) x = is_number x || raises_one_of (8 ∷ []) x
+may_follow (op.Draw lo hi) x = is_number x || raises_one_of (empty_range ∷ []) x
 may_follow (op.Log value) x = is_done x
 may_follow (op.Finish value) x = false
 may_follow (op.Die t) x = false
-may_follow (op.Chain e y) x = is_done x || raises_one_of (3 ∷ []) x
+may_follow (op.Chain e y) x = is_done x || raises_one_of (already_triggered ∷ []) x
 
 -- the same, where before the first poll only a resumption may be told
 abbrev pub may_be_told : Option Op → Signal → Bool

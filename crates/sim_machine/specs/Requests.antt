@@ -15,7 +15,8 @@ use Rattle.sim_machine.specs.State.{Want, Slot, Give, Take, Waiter, User, Releas
 use Rattle.sim_machine.specs.Events.{is_same, is_process, next_event, cancel_event, register}
 use Rattle.sim_machine.specs.Triggering.{make, succeed}
 use Rattle.sim_machine.specs.Users.{resource_at, users, items, put_queue}
-use Rattle.sim_machine.specs.Trying.{on_calendar, write_deed, level, unqueue, victim_of, is_container, try_put, try_get}
+use Rattle.sim_machine.specs.Attempts.{grant_of, victim_of, is_container}
+use Rattle.sim_machine.specs.Trying.{on_calendar, write_deed, level, unqueue, try_put, try_get}
 
 -- an event is made that waits at the resource behind all others; once it is processed, the other queue is tried
 -- (SimPy's resources.base)
@@ -59,7 +60,7 @@ is_refused_amount rs res amount = is_container (resource_at rs res).kind && int_
 
 -- whom the attempt at a waiter that wants this would preempt; puts and gets preempt nobody
 abbrev pub victim_at_want : Resource → Want → List User → Option User
-victim_at_want r (Slot process key) us = victim_of r key us
+victim_at_want r (Slot process key) us = victim_of (grant_of r key us)
 victim_at_want r _ us = None
 
 -- whom the attempt at the first of a queue would preempt

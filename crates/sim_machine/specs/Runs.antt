@@ -1,5 +1,5 @@
 -- Whole runs: the opening state, n units, the trace and its summary.
-use Rattle.std.specs.Prelude.{ℕ, ℤ, List, Option, true, [], ◌∷◌, ◌++◌, length, Some, None, pos, ◌+ℤ◌, zero, suc, fold, ◌≡◌, ◌≢◌, ◌⊎◌, ◌≤◌, replicate, unwrap_or}
+use Rattle.std.specs.Prelude.{ℕ, ℤ, List, Option, true, [], ◌∷◌, ◌++◌, length, Some, None, pos, ◌+ℤ◌, zero, suc, fold, ◌≡◌, ◌≢◌, ◌⊎◌, ◌≤◌, replicate, unwrap_or, is_none, if◌then◌else◌}
 use Rattle.sim_types.specs.declared.event.Signal.{Signal}
 use Rattle.sim_types.specs.declared.event.Entry.{Entry}
 use Rattle.sim_types.specs.declared.line.End.{End}
@@ -103,6 +103,12 @@ after_units g turn (suc k) m = unit_of g turn (after_units g turn k m)
 -- the run of so many units at most
 abbrev pub run : {B : Type 0} → Plan B → TurnFunction B → List Arrival → ℕ → Course B
 run g turn journal limit = after_units g turn limit (opening_course g journal)
+
+-- how many units are made of so many at most: each is made before which the run has not ended
+abbrev pub units_made : {B : Type 0} → Plan B → TurnFunction B → List Arrival → ℕ → ℕ
+units_made g turn journal zero = zero
+units_made g turn journal (suc k) =
+    if is_none (end_of g (run g turn journal k)) then suc (units_made g turn journal k) else units_made g turn journal k
 
 -- how a run is said to have ended; one that has not was stopped by its limit
 abbrev pub end_word : {B : Type 0} → Plan B → Course B → End

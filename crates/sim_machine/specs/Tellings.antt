@@ -5,10 +5,11 @@ use Rattle.sim_types.specs.declared.event.EventId.{EventId}
 use Rattle.sim_types.specs.declared.event.ProcId.{ProcId}
 use Rattle.sim_types.specs.declared.event.EventKind.{EventKind}
 use Rattle.sim_types.specs.declared.event.EventKind.TheVariants as kind
-use Rattle.sim_types.specs.declared.setup.Resource.{Resource}
 use Rattle.sim_types.specs.declared.op.Op.{Op}
 use Rattle.sim_types.specs.declared.setup.Class.{Class}
 use Rattle.sim_types.specs.declared.setup.Class.TheVariants as class
+-- what a body's code tells, and whether two classes are one
+pub use Rattle.sim_types.specs.Setups.{CodeFacts, is_class}
 
 -- a place of a body, where it remembers an event: the class of event that it is for, and the event, or event 0 for none
 pub record Place : Type 0 where
@@ -22,23 +23,6 @@ pub record Telling (B : Type 0) : Type 0 where
   pub places : B → List Place
   pub scopes : B → List EventId
   pub last : B → Option Op
-
--- what a body's code tells: the classes of the parameters of each process kind, how many events are named, and the
--- resources
-pub record CodeFacts : Type 0 where
-  pub params : List (List Class)
-  pub named : ℕ
-  pub resources : List Resource
-
--- whether two classes are one
-abbrev pub is_class : Class → Class → Bool
-is_class class.Number class.Number = true
-is_class class.Event class.Event = true
-is_class class.Cond class.Cond = true
-is_class class.Proc class.Proc = true
-is_class class.Request class.Request = true
-is_class class.Move class.Move = true
-is_class _ _ = false
 
 -- whether an event of this kind may stand in a place of this class; in a number no event stands
 abbrev pub kind_fits : Class → EventKind → Bool

@@ -1,17 +1,18 @@
 -- How far a try goes along a queue, and what an attempt at one waiter does (SimPy's "Shared resources").
-use Rattle.std.specs.Prelude.{Bool, ◌&&◌, not, int_lt, ℕ, ℤ, List, Option, true, false, [], ◌∷◌, ◌++◌, filter, length, Some, None, if◌then◌else◌, pos, ◌+ℤ◌, int_le}
+use Rattle.std.specs.Prelude.{Bool, not, ℕ, ℤ, List, Option, true, false, [], ◌∷◌, ◌++◌, filter, Some, None, if◌then◌else◌, pos}
 use Rattle.std.specs.List.{list_any}
+use Rattle.sim_types.specs.Throws.{preemption}
 use Rattle.sim_types.specs.declared.event.RequestKey.{RequestKey}
 use Rattle.sim_types.specs.declared.event.EventId.{EventId}
 use Rattle.sim_types.specs.declared.event.ProcId.{ProcId}
 use Rattle.sim_types.specs.declared.setup.Resource.{Resource}
 use Rattle.sim_types.specs.declared.setup.ResourceKind.{ResourceKind}
 use Rattle.sim_types.specs.declared.setup.ResourceKind.TheVariants as resource
-use Rattle.sim_machine.specs.Keys.{is_served_first}
-use Rattle.sim_machine.specs.State.{Calendar, Want, Slot, Give, Take, Waiter, User, Item, Deed, Granted, Preempted, Deposited, Taken, Filled, Drained, Facilities}
+use Rattle.sim_machine.specs.State.{Calendar, Want, Slot, Give, Take, Waiter, User, Deed, Granted, Preempted, Facilities}
 use Rattle.sim_machine.specs.Events.{is_same}
 use Rattle.sim_machine.specs.Triggering.{succeed, make_interruption}
-use Rattle.sim_machine.specs.Users.{resource_at, users, level_after, items, put_queue, get_queue, last_served, item_for}
+use Rattle.sim_machine.specs.Users.{resource_at, users, level_after, items, put_queue, get_queue}
+use Rattle.sim_machine.specs.Attempts.{Grant, NoSlot, FreeSlot, SlotOf, Served, grant_of, put_served, get_served}
 
 -- what is done to the calendar of the facilities
 abbrev pub on_calendar : (Calendar → Calendar) → Facilities → Facilities
@@ -33,52 +34,33 @@ unqueue e f = record f { waiters = filter (λ w. not (is_same w.event e)) f.wait
 abbrev pub serve : Waiter → ℤ → Deed → Facilities → Facilities
 serve w value deed f = write_deed deed (on_calendar (succeed w.event value) (unqueue w.event f))
 
--- whether fewer slots are used than there are
-abbrev pub has_free_slot : Resource → List User → Bool
-has_free_slot r us = int_lt (pos (length us)) r.capacity
-
--- the user, where the request of this key preempts and its key comes before the user's
-abbrev pub beaten : RequestKey → Option User → Option User
-beaten key None = None
-beaten key (Some u) = if not key.wait && is_served_first key u.key then Some u else None
-
--- the user whose slot a request of this key would take: only at a preemptive resource whose slots are all used (SimPy's
--- PreemptiveResource)
-abbrev pub victim_of : Resource → RequestKey → List User → Option User
-victim_of r key us = elim r.kind [ resource.Preemptive ↦ (if has_free_slot r us then None else beaten key (last_served us)) | _ ↦ None ]
+-- the waiter is served as the attempt answered; where it answered nothing, nothing happens
+abbrev pub serve_if_any : Waiter → Option Served → Facilities → Facilities
+serve_if_any w None f = f
+serve_if_any w (Some x) f = serve w x.value x.deed f
 
 -- the victim is a user no longer, and is interrupted with the time since which it used the slot (SimPy's Preempted)
-abbrev pub preempt : ℕ → Option User → Facilities → Facilities
-preempt res None f = f
-preempt res (Some u) f = on_calendar (make_interruption u.process (record { kind = 2; value = u.since })) (write_deed (Preempted res u.request) f)
+abbrev pub preempt : ℕ → User → Facilities → Facilities
+preempt res u f = on_calendar (make_interruption u.process (record { kind = preemption; value = u.since })) (write_deed (Preempted res u.request) f)
 
--- the request is granted where a slot is free, and is a user since now
-abbrev pub grant : Resource → Waiter → ProcId → RequestKey → Facilities → Facilities
-grant r w process key f =
-    if has_free_slot r (users w.res f.ledger) then serve w (pos 0) (Granted w.res (record { request = w.event; process = process; key = key; since = f.calendar.time })) f else f
+-- the request is granted, and is a user since now
+abbrev pub take_slot : Waiter → ProcId → RequestKey → Facilities → Facilities
+take_slot w process key f =
+    serve w (pos 0) (Granted w.res (record { request = w.event; process = process; key = key; since = f.calendar.time })) f
 
--- the item that a get is given leaves the store; without one nothing happens
-abbrev pub hand_out : Waiter → Option Item → Facilities → Facilities
-hand_out w None f = f
-hand_out w (Some x) f = serve w x.value (Taken w.res x.put) f
+-- the request takes the slot that the attempt answered, after its user was preempted
+abbrev pub use_slot : Waiter → ProcId → RequestKey → Grant → Facilities → Facilities
+use_slot w process key NoSlot f = f
+use_slot w process key FreeSlot f = take_slot w process key f
+use_slot w process key (SlotOf u) f = take_slot w process key (preempt w.res u f)
 
--- whether a resource of this kind is a container
-abbrev pub is_container : ResourceKind → Bool
-is_container resource.Container = true
-is_container _ = false
-
--- an attempt at one waiter: it is served if it can be, else nothing happens. A request may preempt first; a put fits
--- into what is free, a get takes what is there (SimPy's Resource, Container and Store)
+-- an attempt at one waiter: it is served if it can be, else nothing happens (SimPy's Resource, Container and Store)
 abbrev pub attempt_for : List Resource → Resource → Waiter → Want → Facilities → Facilities
-attempt_for rs r w (Slot process key) f = grant r w process key (preempt w.res (victim_of r key (users w.res f.ledger)) f)
+attempt_for rs r w (Slot process key) f = use_slot w process key (grant_of r key (users w.res f.ledger)) f
 attempt_for rs r w (Give amount priority) f =
-    if is_container r.kind
-    then (if int_le (level rs w.res f +ℤ amount) r.capacity then serve w (pos 0) (Filled w.res amount) f else f)
-    else (if int_lt (pos (length (items w.res f.ledger))) r.capacity then serve w (pos 0) (Deposited w.res (record { put = w.event; value = amount; priority = priority })) f else f)
+    serve_if_any w (put_served r w amount priority (level rs w.res f) (items w.res f.ledger)) f
 attempt_for rs r w (Take least greatest) f =
-    if is_container r.kind
-    then (if int_le least (level rs w.res f) then serve w (pos 0) (Drained w.res least) f else f)
-    else hand_out w (item_for r.kind least greatest (items w.res f.ledger)) f
+    serve_if_any w (get_served r w least greatest (level rs w.res f) (items w.res f.ledger)) f
 
 -- an attempt at one waiter, for what it wants
 abbrev pub attempt : List Resource → Waiter → Facilities → Facilities

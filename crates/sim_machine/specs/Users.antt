@@ -6,6 +6,7 @@ use Rattle.sim_types.specs.declared.event.EventId.{EventId}
 use Rattle.sim_types.specs.declared.setup.Resource.{Resource}
 use Rattle.sim_types.specs.declared.setup.ResourceKind.{ResourceKind}
 use Rattle.sim_types.specs.declared.setup.ResourceKind.TheVariants as resource
+use Rattle.sim_machine.specs.Choices.{best}
 use Rattle.sim_machine.specs.Keys.{is_served_first}
 use Rattle.sim_machine.specs.State.{Want, Slot, Take, Waiter, User, Item, Deed, Granted, Released, Preempted, Deposited, Taken, Filled, Drained}
 use Rattle.sim_machine.specs.Events.{is_same}
@@ -96,25 +97,14 @@ abbrev pub first_of_list : {X : Type 0} → List X → Option X
 first_of_list [] = None
 first_of_list (x ∷ xs) = Some x
 
--- of u and the others the user with the greatest key, among equals the last granted
-abbrev pub last_served_from : User → List User → User
-last_served_from u [] = u
-last_served_from u (v ∷ vs) = last_served_from (if is_served_first v.key u.key then u else v) vs
-
 -- the user that a preemption looks at, if there is a user: the one with the greatest key, among equals the last granted
 abbrev pub last_served : List User → Option User
-last_served [] = None
-last_served (u ∷ us) = Some (last_served_from u us)
+last_served us = best (λ v u. not (is_served_first v.key u.key)) us
 
--- of x and the others the item with the least priority; among equals the first put, which is this project's own rule
-abbrev pub least_item_from : Item → List Item → Item
-least_item_from x [] = x
-least_item_from x (y ∷ ys) = least_item_from (if int_lt y.priority x.priority then y else x) ys
-
--- the item that a priority store gives, if it has one
+-- the item that a priority store gives, if it has one: the one with the least priority; among equals the first put,
+-- which is this project's own rule
 abbrev pub least_item : List Item → Option Item
-least_item [] = None
-least_item (x ∷ xs) = Some (least_item_from x xs)
+least_item xs = best (λ y x. int_lt y.priority x.priority) xs
 
 -- the item that a get from least to greatest is given; only a filter store looks at the range (SimPy's Store,
 -- PriorityStore and FilterStore; a range in place of a filter function is this project's own)

@@ -1,5 +1,6 @@
 -- What a script asks for when it is polled, and the state that it is in then.
 use Rattle.std.specs.Prelude.{ℕ, ◌+◌, ◌-◌, ℤ, pos, ◌-ℤ◌, List, [], ◌∷◌, map, int_lt, Option, Some, None, if◌then◌else◌}
+use Rattle.sim_types.specs.Throws.{error, failure}
 use Rattle.sim_types.specs.declared.event.EventId.{EventId}
 use Rattle.sim_types.specs.declared.event.Throw.{Throw}
 use Rattle.sim_types.specs.declared.event.Signal.{Signal}
@@ -49,7 +50,7 @@ take_in code signal.Begin b = b
 take_in code signal.Done b = b
 take_in code (signal.Value v) b = set_variable 0 v b
 take_in code (signal.Thrown t) b = set_mode (Throwing t) b
-take_in code (signal.Raised n) b = set_mode (Throwing (record { kind = 4; value = pos n })) b
+take_in code (signal.Raised n) b = set_mode (Throwing (record { kind = error; value = pos n })) b
 take_in code (signal.Number n) b = store (given_by (last_stmt code b)) n b
 take_in code (signal.Made e) b = open_with (last_stmt code b) e (store (given_by (last_stmt code b)) (pos e.0) b)
 
@@ -93,7 +94,7 @@ unwind code b (InRepeat count past ∷ frames) = (op.Nop, leave_loop past b.mode
 -- the variable gets the number, or an error is thrown and it stays
 abbrev pub answer_to : ℕ → Answer → Script → Script
 answer_to to (Number n) b = set_variable to n b
-answer_to to (Error n) b = set_mode (Throwing (record { kind = 4; value = pos n })) b
+answer_to to (Error n) b = set_mode (Throwing (record { kind = error; value = pos n })) b
 
 -- the end of a repeat: once more from its first statement while turns are left, or on with what follows
 abbrev pub end_repeat : ℕ → List Frame → Script → Script
@@ -127,7 +128,7 @@ do_stmt time b (stmt.Has to cond on) = (op.Has (event_in b cond) (event_of_ref b
 do_stmt time b (stmt.Spawn to kind args) = (op.Spawn kind (map (value_of_arg time b) args), b)
 do_stmt time b (stmt.Interrupt who value) = (op.Interrupt (process_of_ref b who) (value_of_num time b value), b)
 do_stmt time b (stmt.Drop who value) = (op.Drop (process_of_ref b who) (value_of_num time b value), b)
-do_stmt time b (stmt.Raise code) = (op.Nop, set_mode (Throwing (record { kind = 3; value = value_of_num time b code })) b)
+do_stmt time b (stmt.Raise code) = (op.Nop, set_mode (Throwing (record { kind = failure; value = value_of_num time b code })) b)
 do_stmt time b (stmt.Finish value) = (op.Nop, set_mode (Finishing (value_of_num time b value)) b)
 do_stmt time b (stmt.With to res priority preempt) = (op.Enter res (value_of_num time b priority) preempt, b)
 do_stmt time b (stmt.Release on) = (op.Release (event_in b on), b)

@@ -1,5 +1,5 @@
 -- The run of a scenario: its setup, its scripts and the random words of a seed, put into the machine.
-use Rattle.std.specs.Prelude.{ℕ, zero, suc, ◌+◌, ◌%◌, ◌^◌, List, [], ◌∷◌, map, take, drop}
+use Rattle.std.specs.Prelude.{ℕ, zero, suc, ◌+◌, ◌%◌, ◌^◌, List, [], ◌∷◌}
 use Rattle.sim_types.specs.Scenarios.{ScenarioOf}
 use Rattle.sim_types.specs.declared.setup.Arrival.{Arrival}
 use Rattle.sim_types.specs.declared.line.Line.{Line}
@@ -7,7 +7,6 @@ use Rattle.sim_types.specs.declared.line.Summary.{Summary}
 use Rattle.sim_machine.specs.State.{Plan}
 use Rattle.sim_machine.specs.Units.{Course}
 use Rattle.sim_machine.specs.Runs.{run, trace_of, summary_of}
-use Rattle.sim_machine.specs.Tellings.{CodeFacts}
 use Rattle.sim_machine.specs.RandomWords.{word_of}
 use Rattle.sim_script_model.specs.Scripts.{Script, script_start}
 use Rattle.sim_script_model.specs.Polls.{script_turn}
@@ -41,12 +40,3 @@ abbrev pub replications : ScenarioOf → ℕ → ℕ → ℕ → List Summary
 replications x limit from zero = []
 replications x limit from (suc count) =
     summary x ((x.seed + from) % 2 ^ 64) x.journal limit ∷ replications x limit (from + 1) count
-
--- what a scenario's code tells: the classes of parameters, which stand behind `val` among the variables
-abbrev pub facts_of : ScenarioOf → CodeFacts
-facts_of x =
-    record {
-      params = map (λ k. take k.params (drop 1 k.classes)) x.kinds;
-      named = x.setup.events;
-      resources = x.setup.resources;
-    }

@@ -1,3 +1,6 @@
+pub mod Few
 pub mod Keys
+pub mod Limits
 pub mod Scenarios
-pub mod Statuses
+pub mod Setups
+pub mod Throws

@@ -2,26 +2,32 @@
 //! trace, the parts of a scenario and the statements of its scripts.
 #![tactic(auto)]
 
-mod command;
 mod event;
 mod fault;
+mod few;
 mod key;
+mod limits;
 mod line;
 mod list;
 mod op;
 mod script;
 mod setup;
-mod status;
+mod throws;
 
-pub use command::Command;
 pub use event::{
     Callback, Entry, EventId, EventKind, Outcome, ProcId, RequestKey, Scope, Signal, Throw,
 };
 pub use fault::{Fault, FaultKind};
+pub use few::{Args, Few, Members};
 pub use key::{Count, Key};
+pub use limits::{LAST_TIME, MOST_BYTES, MOST_ITEMS, MOST_LEVEL, MOST_SLOTS};
 pub use line::{End, Line, Summary};
-pub use list::{Args, List, Members, Name};
+pub use list::{List, Name};
 pub use op::Op;
 pub use script::{Arith, Kind, Num, Ref, Refs, SpawnArg, SpawnArgs, Stmt};
 pub use setup::{Arrival, Class, Classes, Post, Resource, ResourceKind, Setup, Start, Until};
-pub use status::Status;
+pub use throws::{
+    ALREADY_TRIGGERED, AMOUNT_NOT_POSITIVE, CONDITION_TOO_WIDE, EMPTY_RANGE, ENDED_PROCESS, ERROR,
+    FAILURE, INTERRUPT, NEGATIVE_DELAY, OVERFLOW, PREEMPTION, PROCESS_ITSELF, TIME_TOO_LATE,
+    ZERO_DIVISOR,
+};

@@ -1,7 +1,6 @@
 //! Lists that contracts see as lists.
-ghost use Rattle.std.specs.Prelude.{◌≡◌, ℕ, ◌+◌, ◌<◌, ◌↔◌, IsTrue, List, [], ◌∷◌, ◌++◌, length, IfOk, OnOk, OnErr, slice_get, option_copied, cond, nat_lt};
+ghost use Rattle.std.specs.Prelude.{◌≡◌, ◌↔◌, IsTrue, [], ◌∷◌, ◌++◌, length, IfOk, OnOk, OnErr, slice_get, option_copied};
 
-use crate::event::EventId;
 use std::alloc::{AllocError, Global};
 use std::marker::Model;
 
@@ -102,107 +101,5 @@ impl Name {
         ensures { result.now ≡ self.now }
     {
         self.bytes.as_slice()
-    }
-}
-
-/// At most eight numbers.
-#[derive(Drop)]
-pub struct Args {
-    values: [i64; 8],
-    len: usize,
-}
-
-impl Model for Args {
-    ghost use Rattle.std.specs.Prelude.{List, ℤ, take, ◌≤◌};
-
-    ghost Value = { List ℤ };
-
-    ghost view = { λ a. take a.len a.values };
-
-    ghost invariant = { λ a. a.len ≤ 8 };
-}
-
-impl Args {
-    pub fn new() -> Args
-        ensures { result ≡ [] }
-    {
-        Args {
-            values: [0; 8],
-            len: 0,
-        }
-    }
-
-    /// The same numbers once more.
-    pub fn copied(&self) -> Args
-        ensures { result ≡ self.now }
-    {
-        Args {
-            values: self.values,
-            len: self.len,
-        }
-    }
-
-    /// The numbers, in order.
-    pub fn as_slice(&self) -> &[i64]
-        ensures { result.now ≡ self.now }
-    {
-        &self.values[..self.len]
-    }
-
-    /// False where eight are held.
-    pub fn push(&mut self, value: i64) -> bool
-        ensures room { IsTrue result ↔ length self.old < 8 }
-        ensures new { self.new ≡ cond (nat_lt (length self.old) 8) (self.old ++ value ∷ []) self.old }
-    {
-        if self.len < 8 {
-            self.values[self.len] = value;
-            self.len += 1;
-            true
-        } else {
-            false
-        }
-    }
-}
-
-/// At most sixteen events.
-#[derive(Drop)]
-pub struct Members {
-    values: [EventId; 16],
-    len: usize,
-}
-
-impl Model for Members {
-    ghost use Rattle.std.specs.Prelude.{List, take, ◌≤◌};
-    ghost use Rattle.sim_types.specs.declared.event.EventId.{EventId};
-
-    ghost Value = { List EventId };
-
-    ghost view = { λ a. take a.len a.values };
-
-    ghost invariant = { λ a. a.len ≤ 16 };
-}
-
-impl Members {
-    pub fn new() -> Members
-        ensures { result ≡ [] }
-    {
-        Members {
-            values: [EventId(0); 16],
-            len: 0,
-        }
-    }
-
-    /// False where sixteen are held.
-    pub fn push(&mut self, value: EventId) -> bool
-        ensures room { IsTrue result ↔ length self.old < 16 }
-        ensures new { self.new ≡ cond (nat_lt (length self.old) 16) (self.old ++ value ∷ []) self.old }
-    {
-        if self.len < 16 {
-            self.values[self.len] = value;
-            self.len += 1;
-            true
-        } else {
-            false
-        }
     }
 }

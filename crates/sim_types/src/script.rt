@@ -1,8 +1,7 @@
 //! Scripts: the statements of the processes of a scenario.
-ghost use Rattle.std.specs.Prelude.{◌≡◌, ◌<◌, ◌≤◌, ◌↔◌, IsTrue, [], ◌∷◌, ◌++◌, length, cond, nat_lt};
 
+use crate::few::Few;
 use crate::setup::Classes;
-use std::marker::Model;
 
 /// A number: as written, of a variable, or the time.
 #[derive(Clone, Copy)]
@@ -13,10 +12,11 @@ pub enum Num {
 }
 
 /// An event: of a variable, a named one, or that of the process itself.
-#[derive(Clone, Copy)]
+#[derive(Clone, Copy, Default)]
 pub enum Ref {
     Var(u8),
     Named(u64),
+    #[default]
     Me,
 }
 
@@ -25,6 +25,12 @@ pub enum Ref {
 pub enum SpawnArg {
     Num(Num),
     Ref(Ref),
+}
+
+impl Default for SpawnArg {
+    fn default() -> SpawnArg {
+        SpawnArg::Num(Num::Now)
+    }
 }
 
 /// What `let` computes; `Only` is its first number.
@@ -43,107 +49,11 @@ pub enum Arith {
     Equal,
 }
 
-/// At most 16 events, in place.
-#[derive(Drop)]
-pub struct Refs {
-    values: [Ref; 16],
-    len: usize,
-}
+/// The members of a condition that a statement makes.
+pub type Refs = Few<Ref, 16>;
 
-impl Model for Refs {
-    ghost use Rattle.std.specs.Prelude.{List, take, ◌≤◌};
-    ghost use Rattle.sim_types.specs.declared.script.Ref.{Ref};
-
-    ghost Value = { List Ref };
-
-    ghost view = { λ a. take a.len a.values };
-
-    ghost invariant = { λ a. a.len ≤ 16 };
-}
-
-impl Refs {
-    pub fn new() -> Refs
-        ensures { result ≡ [] }
-    {
-        Refs {
-            values: [Ref::Me; 16],
-            len: 0,
-        }
-    }
-
-    /// The events, in order.
-    pub fn as_slice(&self) -> &[Ref]
-        ensures events { result.now ≡ self.now }
-        ensures few { length self.now ≤ 16 }
-    {
-        &self.values[..self.len]
-    }
-
-    /// False where sixteen are held.
-    pub fn push(&mut self, value: Ref) -> bool
-        ensures room { IsTrue result ↔ length self.old < 16 }
-        ensures new { self.new ≡ cond (nat_lt (length self.old) 16) (self.old ++ value ∷ []) self.old }
-    {
-        if self.len < 16 {
-            self.values[self.len] = value;
-            self.len += 1;
-            true
-        } else {
-            false
-        }
-    }
-}
-
-/// At most 8 arguments, in place.
-#[derive(Drop)]
-pub struct SpawnArgs {
-    values: [SpawnArg; 8],
-    len: usize,
-}
-
-impl Model for SpawnArgs {
-    ghost use Rattle.std.specs.Prelude.{List, take, ◌≤◌};
-    ghost use Rattle.sim_types.specs.declared.script.SpawnArg.{SpawnArg};
-
-    ghost Value = { List SpawnArg };
-
-    ghost view = { λ a. take a.len a.values };
-
-    ghost invariant = { λ a. a.len ≤ 8 };
-}
-
-impl SpawnArgs {
-    pub fn new() -> SpawnArgs
-        ensures { result ≡ [] }
-    {
-        SpawnArgs {
-            values: [SpawnArg::Num(Num::Now); 8],
-            len: 0,
-        }
-    }
-
-    /// The arguments, in order.
-    pub fn as_slice(&self) -> &[SpawnArg]
-        ensures arguments { result.now ≡ self.now }
-        ensures few { length self.now ≤ 8 }
-    {
-        &self.values[..self.len]
-    }
-
-    /// False where eight are held.
-    pub fn push(&mut self, value: SpawnArg) -> bool
-        ensures room { IsTrue result ↔ length self.old < 8 }
-        ensures new { self.new ≡ cond (nat_lt (length self.old) 8) (self.old ++ value ∷ []) self.old }
-    {
-        if self.len < 8 {
-            self.values[self.len] = value;
-            self.len += 1;
-            true
-        } else {
-            false
-        }
-    }
-}
+/// The arguments of a process that is spawned.
+pub type SpawnArgs = Few<SpawnArg, 8>;
 
 /// A statement. Variables are told by their places, resources and process kinds by theirs in the scenario, and where to
 /// go on by the place of a statement in the code.
