@@ -13,19 +13,20 @@ use Rattle.sim_machine.specs.Effect.{calendar}
 use Rattle.sim_machine.specs.Steps.{call}
 use Rattle.sim_machine.specs.Tellings.{Telling}
 use Rattle.sim_machine.specs.Standing.{is_event_of, left_of}
-use Rattle.sim_machine.specs.LawfulConditions.{LawfulConditions, is_build_of, is_below_all, checks_at, times_member, first_passes, builds_left_first}
-use Rattle.sim_machine.specs.Lawful.{Lawful}
-use Rattle.sim_machine.proofs.EventLaws.{is_same-self, is_same-yes}
-use Rattle.sim_machine.proofs.CallbackLaws.{count_by-cons, count_by-append, counts_one, counts_none, callbacks_at-called}
-use Rattle.sim_machine.proofs.KeptRegistrationsCalendar.{pending_unprocessed}
-use Rattle.sim_machine.proofs.KeptTimesCases.{if_cases}
-use Rattle.sim_machine.proofs.KeptInterruptionsParts.{change_event-passes}
+use Rattle.sim_machine.specs.LawfulConditions.{is_build_of, is_below_all, checks_at, times_member, first_passes, builds_left_first}
+use Rattle.sim_machine_law.proofs.EventLaws.{is_same-self, is_same-yes}
+use Rattle.sim_machine_law.proofs.CallbackLaws.{count_by-cons, count_by-append, counts_one, counts_none, callbacks_at-called}
+use Rattle.sim_machine_law.proofs.KeptRegistrationsCalendar.{pending_unprocessed}
+use Rattle.sim_machine_law.proofs.KeptTimesCases.{if_cases}
+use Rattle.sim_machine_law.proofs.KeptInterruptionsParts.{change_event-passes}
 use Rattle.sim_machine_law.proofs.TakenCalendars.{MayTake, take_replaced, lawful_taken_called}
 use Rattle.sim_machine_law.proofs.TakenChanges.{take_condition}
 use Rattle.sim_machine_law.proofs.ReplacedCalendars.{replace_same}
 use Rattle.sim_machine_law.proofs.CheckedConditions.{counts, same_condition, conditions_recounted}
-use Rattle.sim_machine_law.proofs.CalledCheck.{HasMember, has_member, still_building, first_failing}
+use Rattle.sim_machine_law.proofs.CalledCheck.{HasMember, has_member, still_building}
 use Rattle.sim_machine_law.proofs.UnregisteredChecks.{unregistered-fewer, unregistered-one, take_unregistered, conditions_unregistered}
+use Rattle.sim_machine_law.proofs.LawfulBasis.{ConditionsBasis, LawfulBasis}
+use Rattle.sim_machine_law.proofs.KeptConditions.{first_failing}
 
 -- ---- checks are taken out, down to a depth
 
@@ -76,7 +77,7 @@ record IsOwnBuild (e cond : EventId) (left : List Callback) : Type 0 where
 one_more_is_one : (n : ℕ) (a b : Bool) → ((n + 1 == 0) || (n + 1 == 1) && a && b) ≡ true → (n ≡ 0) × (a ≡ true)
 one_more_is_one n a b h = (grind (arith, nat_tests), grind (arith, nat_tests))
 
-own_build : (c : Calendar) (e cond : EventId) (left : List Callback) → LawfulConditions c (Calling e (callback.Build cond ∷ left)) → IsOwnBuild e cond left
+own_build : (c : Calendar) (e cond : EventId) (left : List Callback) → ConditionsBasis c (Calling e (callback.Build cond ∷ left)) → IsOwnBuild e cond left
 own_build c e cond left h =
     let n : ℕ = count_by (is_build_of cond) left in
     let sum : count_by (is_build_of cond) (callback.Build cond ∷ left) ≡ n + 1 = omega (arith, count_by-cons (is_build_of cond) (callback.Build cond) left, counts_one (is_same cond cond) (is_same-self cond)) in
@@ -84,7 +85,7 @@ own_build c e cond left h =
     record { same = is_same-yes e cond both.1; none = both.0 }
 
 -- no condition is its own member
-no_own_member : (c : Calendar) (k : Control) (cond : EventId) → LawfulConditions c k → times_member c cond cond ≡ 0
+no_own_member : (c : Calendar) (k : Control) (cond : EventId) → ConditionsBasis c k → times_member c cond cond ≡ 0
 no_own_member c k cond h =
     elim (cases_lt 0 (times_member c cond cond)) [
       | inl some ↦ (let has : HasMember c cond cond = has_member c k cond cond h some in absurd (omega (arith, has.older)))
@@ -92,7 +93,7 @@ no_own_member c k cond h =
     ]
 
 -- nothing that is left to call checks the condition that is processed
-none_called : (c : Calendar) (cond f : EventId) (left : List Callback) → LawfulConditions c (Calling cond (callback.Build cond ∷ left)) → (b : Bool) → is_same cond f ≡ b → count_by (is_check_of cond) (if b then left else []) ≡ 0
+none_called : (c : Calendar) (cond f : EventId) (left : List Callback) → ConditionsBasis c (Calling cond (callback.Build cond ∷ left)) → (b : Bool) → is_same cond f ≡ b → count_by (is_check_of cond) (if b then left else []) ≡ 0
 none_called c cond f left h false differ = refl
 none_called c cond f left h true same =
     let before : Control = Calling cond (callback.Build cond ∷ left) in
@@ -102,7 +103,7 @@ none_called c cond f left h true same =
     omega (arith, sum, h.checks cond cond, no_own_member c before cond h, callbacks_at-called (is_check_of cond) c before after (callback.Build cond) cond refl refl)
 
 -- of its callbacks the build was called, and nobody checks it any more
-conditions_built : (c d : Calendar) (cond : EventId) (left : List Callback) → LawfulConditions c (Calling cond (callback.Build cond ∷ left)) → LawfulConditions d (Calling cond (callback.Build cond ∷ left)) → ((f : EventId) → bears cond f d ≡ 0) → count_by (is_build_of cond) left ≡ 0 → LawfulConditions d (Calling cond left)
+conditions_built : (c d : Calendar) (cond : EventId) (left : List Callback) → ConditionsBasis c (Calling cond (callback.Build cond ∷ left)) → ConditionsBasis d (Calling cond (callback.Build cond ∷ left)) → ((f : EventId) → bears cond f d ≡ 0) → count_by (is_build_of cond) left ≡ 0 → ConditionsBasis d (Calling cond left)
 conditions_built c d cond left was h none_bears none_builds =
     let x : Callback = callback.Build cond in
     let before : Control = Calling cond (x ∷ left) in
@@ -141,37 +142,37 @@ conditions_built c d cond left was h none_bears none_builds =
 fixed_counts : (b q : Bool) → b ≡ false → (not (true && b) || q) ≡ true
 fixed_counts b q h = rw h refl
 
-conditions_fixed : (cond : EventId) (d : Calendar) (k : Control) → is_pending d cond ≡ false → LawfulConditions d k → LawfulConditions (fix_value cond d) k
+conditions_fixed : (cond : EventId) (d : Calendar) (k : Control) → is_pending d cond ≡ false → ConditionsBasis d k → ConditionsBasis (fix_value cond d) k
 conditions_fixed cond d k turned h =
     let fixed : ConditionOf → ConditionOf = λ x. record x { value = value_of cond d } in
     let change : EventOf → EventOf = λ x. record x { condition = Some (fixed (condition_of x.condition)) } in
     conditions_recounted d (fix_value cond d) k (same_condition cond fixed d (λ x. refl))
     (λ f. change_event-passes counts cond f change d (fixed_counts (is_pending d cond) (is_below_all (fixed (condition_at d cond))) turned) (h.counts f)) h
 
-lawful_built : {B : Type 0} (g : Plan B) (tell : Telling B) (sound : B → Type 0) (s : State B) (cond : EventId) (left : List Callback) → count_by (is_build_of cond) left ≡ 0 → s.control ≡ Calling cond (callback.Build cond ∷ left) → Lawful g tell sound s → Lawful g tell sound (call g cond (callback.Build cond) left s)
+lawful_built : {B : Type 0} (g : Plan B) (tell : Telling B) (sound : B → Type 0) (s : State B) (cond : EventId) (left : List Callback) → count_by (is_build_of cond) left ≡ 0 → s.control ≡ Calling cond (callback.Build cond ∷ left) → LawfulBasis g tell sound s → LawfulBasis g tell sound (call g cond (callback.Build cond) left s)
 lawful_built g tell sound s cond left none calling h =
     let c : Calendar = calendar s in
     let before : Control = Calling cond (callback.Build cond ∷ left) in
     let after : Control = Calling cond left in
     let d : Calendar = take_checks_within (most_weight + 1) cond c in
     let fixed : ConditionOf → ConditionOf = λ x. record x { value = value_of cond d } in
-    let was : LawfulConditions c before = subst (λ k. LawfulConditions c k) calling h.conditions in
+    let was : ConditionsBasis c before = subst (λ k. ConditionsBasis c k) calling h.conditions in
     let take : MayTake s d = checks_taken (MayTake s) (λ f x n w. take_unregistered s f x n w) (most_weight + 1) cond c (take_replaced g tell sound s c h (replace_same g tell sound s h)) in
-    let now : LawfulConditions d before = checks_taken (λ n. LawfulConditions n before) (λ f x n w. conditions_unregistered f x n before w) (most_weight + 1) cond c was in
+    let now : ConditionsBasis d before = checks_taken (λ n. ConditionsBasis n before) (λ f x n w. conditions_unregistered f x n before w) (most_weight + 1) cond c was in
     let bears_none : (f : EventId) → bears cond f d ≡ 0 = none_left 64 cond c (λ f. omega (arith, was.checks cond f, count_by-append (is_check_of cond) (callbacks_of f c) (if is_event_of before f then left_of before else []))) in
-    let built : LawfulConditions d after = conditions_built c d cond left was now bears_none none in
+    let built : ConditionsBasis d after = conditions_built c d cond left was now bears_none none in
     let processed : is_processed d cond ≡ true = take.registrations.processing cond (ap (λ k. is_event_of k cond) calling ∙ is_same-self cond) in
     let turned : is_pending d cond ≡ false = not_both (is_pending d cond) (is_processed d cond) (pending_unprocessed d cond take.registrations.outcomes) processed in
     lawful_taken_called g tell sound s cond (callback.Build cond) left (build cond) calling (λ p. refl) h
     (if_cases (MayTake s) (is_fail (event_at d cond).outcome) d (fix_value cond d) (λ fails. take) (λ ok. take_condition s cond fixed d (λ x. refl) take))
-    (if_cases (λ n. LawfulConditions n after) (is_fail (event_at d cond).outcome) d (fix_value cond d) (λ fails. built) (λ ok. conditions_fixed cond d after turned built))
+    (if_cases (λ n. ConditionsBasis n after) (is_fail (event_at d cond).outcome) d (fix_value cond d) (λ fails. built) (λ ok. conditions_fixed cond d after turned built))
   where
     not_both : (a b : Bool) → (a ≡ true → b ≡ false) → b ≡ true → a ≡ false
     not_both false b apart w = refl
     not_both true b apart w = absurd (both_ways b (apart refl) w)
 
-pub lawful-called_build : {B : Type 0} (g : Plan B) (tell : Telling B) (sound : B → Type 0) (s : State B) (e : EventId) (cond : EventId) (left : List Callback) → s.control ≡ Calling e (callback.Build cond ∷ left) → Lawful g tell sound s → Lawful g tell sound (call g e (callback.Build cond) left s)
+pub lawful-called_build : {B : Type 0} (g : Plan B) (tell : Telling B) (sound : B → Type 0) (s : State B) (e : EventId) (cond : EventId) (left : List Callback) → s.control ≡ Calling e (callback.Build cond ∷ left) → LawfulBasis g tell sound s → LawfulBasis g tell sound (call g e (callback.Build cond) left s)
 lawful-called_build g tell sound s e cond left calling h =
-    let own : IsOwnBuild e cond left = own_build (calendar s) e cond left (subst (λ k. LawfulConditions (calendar s) k) calling h.conditions) in
-    let P : EventId → Type 0 = λ f. s.control ≡ Calling f (callback.Build cond ∷ left) → Lawful g tell sound (call g f (callback.Build cond) left s) in
+    let own : IsOwnBuild e cond left = own_build (calendar s) e cond left (subst (λ k. ConditionsBasis (calendar s) k) calling h.conditions) in
+    let P : EventId → Type 0 = λ f. s.control ≡ Calling f (callback.Build cond ∷ left) → LawfulBasis g tell sound (call g f (callback.Build cond) left s) in
     subst P (sym own.same) (λ w. lawful_built g tell sound s cond left own.none w h) calling

@@ -3,7 +3,6 @@ use Rattle.std.proofs.Common.{◌≡◌, ℕ, ◌+◌, ◌<◌, ◌≤◌, Bool,
 use Rattle.std.specs.Prelude.{is_some, count_by, nat_lt, nat_le, ◌==◌}
 use Rattle.std.specs.List.{list_any, list_all}
 use Rattle.std.proofs.lemmas.Bool.{and_parts, ltb-true, lt-ltb, cases_Bool}
-use Rattle.std.proofs.lemmas.Bool.Decides.{nat_tests}
 use Rattle.sim_types.specs.declared.event.EventId.{EventId}
 use Rattle.sim_types.specs.declared.event.Callback.{Callback}
 use Rattle.sim_types.specs.declared.event.Callback.TheVariants as callback
@@ -14,17 +13,16 @@ use Rattle.sim_machine.specs.Effect.{calendar}
 use Rattle.sim_machine.specs.Steps.{call}
 use Rattle.sim_machine.specs.Tellings.{Telling}
 use Rattle.sim_machine.specs.Standing.{one_if}
-use Rattle.sim_machine.specs.LawfulConditions.{LawfulConditions, is_build_of, checks_at, times_member, is_empty, first_passes}
-use Rattle.sim_machine.specs.Lawful.{Lawful}
-use Rattle.sim_machine.proofs.EventLaws.{is_same-self, is_same-yes}
-use Rattle.sim_machine.proofs.CallbackLaws.{count_by-cons, counts_one, counts_none, callbacks_at-called}
-use Rattle.sim_machine.proofs.KeptRegistrationsCalendar.{made_if}
-use Rattle.sim_machine.proofs.KeptConditions.{older_everywhere}
-use Rattle.sim_machine_law.specs.WholeStates.{HaveConditionKinds}
+use Rattle.sim_machine.specs.LawfulConditions.{is_build_of, checks_at, times_member, is_empty, first_passes}
+use Rattle.sim_machine_law.proofs.EventLaws.{is_same-self, is_same-yes}
+use Rattle.sim_machine_law.proofs.CallbackLaws.{count_by-cons, counts_one, counts_none, callbacks_at-called}
+use Rattle.sim_machine_law.proofs.KeptRegistrationsCalendar.{made_if}
+use Rattle.sim_machine_law.proofs.KeptConditions.{first_failing, older_everywhere}
 use Rattle.sim_machine_law.proofs.TakenCalendars.{MayTake, take_replaced, lawful_taken_called}
 use Rattle.sim_machine_law.proofs.ReplacedCalendars.{replace_same}
 use Rattle.sim_machine_law.proofs.CheckedConditions.{conditions_checked, take_checked}
 use Rattle.sim_machine_law.proofs.ConditionKinds.{condition_kind}
+use Rattle.sim_machine_law.proofs.LawfulBasis.{AreConditionsByKind, ConditionsBasis, LawfulBasis}
 
 -- ---- who is checked is a member
 
@@ -52,7 +50,7 @@ pub has_some : (o : Option ConditionOf) → is_empty (condition_of o).members �
 has_some None h = sym h
 has_some (Some y) h = refl
 
-pub has_member : (c : Calendar) (k : Control) (cond e : EventId) → LawfulConditions c k → 1 ≤ times_member c cond e → HasMember c cond e
+pub has_member : (c : Calendar) (k : Control) (cond e : EventId) → ConditionsBasis c k → 1 ≤ times_member c cond e → HasMember c cond e
 has_member c k cond e h one =
     let ms : List EventId = members_of c cond in
     let older = and_parts (list_all (λ (f : EventId). nat_lt f.0 cond.0) ms) (nat_le (weight_within (most_weight + 1) c cond) most_weight) (older_everywhere c k cond h) in
@@ -71,11 +69,8 @@ still_building p true b x xs h w = refl
 still_building p false true x xs h w = rw h at w
 still_building p false false x xs h w = w
 
-pub first_failing : (a b q : Bool) (n : ℕ) → q ≡ false → ((n == 0) || (n == 1) && b && q) ≡ true → ((n == 0) || a) ≡ true
-first_failing a b q n h w = grind (arith, nat_tests)
-
 -- of the callbacks of e the first was called, and it builds nothing
-conditions_called : (c : Calendar) (e : EventId) (x : Callback) (left : List Callback) → ((cond : EventId) → is_build_of cond x ≡ false) → LawfulConditions c (Calling e (x ∷ left)) → LawfulConditions c (Calling e left)
+conditions_called : (c : Calendar) (e : EventId) (x : Callback) (left : List Callback) → ((cond : EventId) → is_build_of cond x ≡ false) → ConditionsBasis c (Calling e (x ∷ left)) → ConditionsBasis c (Calling e left)
 conditions_called c e x left no_build h =
     let before : Control = Calling e (x ∷ left) in
     let after : Control = Calling e left in
@@ -95,15 +90,21 @@ conditions_called c e x left no_build h =
           (ap (λ (m : ℕ). (m == 0) || (m == 1) && is_same e cond && is_build_of cond x) (sym same) ∙ h.left cond);
     }
 
--- events with members are conditions; that is no part of what is lawful
-pub lawful-called_check : {B : Type 0} (g : Plan B) (tell : Telling B) (sound : B → Type 0) (s : State B) (e : EventId) (cond : EventId) (left : List Callback) → HaveConditionKinds (calendar s) → s.control ≡ Calling e (callback.Check cond ∷ left) → Lawful g tell sound s → Lawful g tell sound (call g e (callback.Check cond) left s)
+-- what is checked is a condition of the event that is processed
+pub checks_member : (c : Calendar) (k : Control) (e cond : EventId) (left : List Callback) → k ≡ Calling e (callback.Check cond ∷ left) → ConditionsBasis c k → HasMember c cond e
+checks_member c k e cond left calling h =
+    let before : Control = Calling e (callback.Check cond ∷ left) in
+    let conditions : ConditionsBasis c before = subst (λ m. ConditionsBasis c m) calling h in
+    let once : 1 ≤ checks_at c before cond e = omega (arith, callbacks_at-called (is_check_of cond) c before (Calling e left) (callback.Check cond) e refl refl, counts_one (is_same e e && is_same cond cond) (rw (is_same-self e, is_same-self cond) refl)) in
+    has_member c before cond e conditions (omega (arith, once, conditions.checks cond e))
+
+pub lawful-called_check : {B : Type 0} (g : Plan B) (tell : Telling B) (sound : B → Type 0) (s : State B) (e : EventId) (cond : EventId) (left : List Callback) → AreConditionsByKind (calendar s) → s.control ≡ Calling e (callback.Check cond ∷ left) → LawfulBasis g tell sound s → LawfulBasis g tell sound (call g e (callback.Check cond) left s)
 lawful-called_check g tell sound s e cond left kinds calling h =
     let c : Calendar = calendar s in
     let before : Control = Calling e (callback.Check cond ∷ left) in
-    let conditions : LawfulConditions c before = subst (λ k. LawfulConditions c k) calling h.conditions in
-    let once : 1 ≤ checks_at c before cond e = omega (arith, callbacks_at-called (is_check_of cond) c before (Calling e left) (callback.Check cond) e refl refl, counts_one (is_same e e && is_same cond cond) (rw (is_same-self e, is_same-self cond) refl)) in
-    let has : HasMember c cond e = has_member c before cond e conditions (omega (arith, once, conditions.checks cond e)) in
+    let conditions : ConditionsBasis c before = subst (λ k. ConditionsBasis c k) calling h.conditions in
+    let has : HasMember c cond e = checks_member c s.control e cond left calling h.conditions in
     let take : MayTake s c = take_replaced g tell sound s c h (replace_same g tell sound s h) in
     lawful_taken_called g tell sound s e (callback.Check cond) left (check cond e) calling (λ p. refl) h
-    (take_checked s cond e c has.made (λ zero. omega (arith, zero, has.older)) (condition_kind c cond kinds has.some) take)
+    (take_checked s cond e c has.made (λ zero. omega (arith, zero, has.older)) (condition_kind c cond kinds has.is) take)
     (conditions_called (check cond e c) e (callback.Check cond) left (λ f. refl) (conditions_checked cond e c before has.made has.is conditions))

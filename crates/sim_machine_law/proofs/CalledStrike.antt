@@ -21,31 +21,30 @@ use Rattle.sim_machine.specs.LawfulRegistrations.{LawfulRegistrations}
 use Rattle.sim_machine.specs.LawfulProcesses.{LawfulProcesses, is_active, is_waiting_well}
 use Rattle.sim_machine.specs.LawfulInterruptions.{LawfulInterruptions, is_strike}
 use Rattle.sim_machine.specs.LawfulWaiting.{entered_by}
-use Rattle.sim_machine.specs.LawfulConditions.{LawfulConditions}
 use Rattle.sim_machine.specs.LawfulBodies.{is_told_well, waits_or_new}
 use Rattle.sim_machine.specs.LawfulChains.{LawfulChains, chains_well}
-use Rattle.sim_machine.specs.Lawful.{Lawful}
-use Rattle.sim_machine.proofs.CallbackLaws.{callbacks_in_all-called, callbacks_at-called, count_by-append, count_by-cons}
-use Rattle.sim_machine.proofs.EventLaws.{is_same-self}
-use Rattle.sim_machine.proofs.KeptTimes.{times_registered}
-use Rattle.sim_machine.proofs.KeptTimesCases.{if_cases}
-use Rattle.sim_machine.proofs.KeptRegistrations.{registrations_control}
-use Rattle.sim_machine.proofs.KeptRegistrationsCalendar.{later_self}
-use Rattle.sim_machine.proofs.KeptProcessesParts.{WaitsOnce, is_process-yes, waits_once, waiting_well, waiting_active}
-use Rattle.sim_machine.proofs.KeptInterruptions.{interruptions-called}
-use Rattle.sim_machine.proofs.KeptInterruptionsParts.{StrikesAlone, all_made, alone_parts, hearing-events, hearing-same, interruptions-kept, interruptions-strikes}
-use Rattle.sim_machine.proofs.KeptConditions.{IsNoConditions, calls_less, conditions_controlled}
-use Rattle.sim_machine.proofs.KeptChains.{chains_control}
-use Rattle.sim_machine.proofs.KeptCapacities.{capacities_later}
-use Rattle.sim_machine.proofs.KeptBodies.{of_is_resumption, told_resumed}
-use Rattle.sim_machine.proofs.KeptBodiesEvents.{Grown}
-use Rattle.sim_machine.proofs.KeptBodiesPolls.{bodies_moved}
-use Rattle.sim_machine.proofs.KeptWaiting.{waits_pending}
-use Rattle.sim_machine.proofs.KeptWaitingPolls.{entered_resumed, waiting_unpolled}
+use Rattle.sim_machine_law.proofs.CallbackLaws.{callbacks_in_all-called, callbacks_at-called, count_by-append, count_by-cons}
+use Rattle.sim_machine_law.proofs.EventLaws.{is_same-self}
+use Rattle.sim_machine_law.proofs.KeptTimes.{times_registered}
+use Rattle.sim_machine_law.proofs.KeptTimesCases.{if_cases}
+use Rattle.sim_machine_law.proofs.KeptRegistrations.{registrations_control}
+use Rattle.sim_machine_law.proofs.KeptRegistrationsCalendar.{later_self}
+use Rattle.sim_machine_law.proofs.KeptProcessesParts.{WaitsOnce, is_process-yes, waits_once, waiting_well, waiting_active}
+use Rattle.sim_machine_law.proofs.KeptInterruptions.{interruptions-called}
+use Rattle.sim_machine_law.proofs.KeptInterruptionsParts.{StrikesAlone, all_made, alone_parts, hearing-events, hearing-same, interruptions-kept, interruptions-strikes}
+use Rattle.sim_machine_law.proofs.KeptConditions.{IsNoConditions, calls_less, conditions_controlled}
+use Rattle.sim_machine_law.proofs.KeptChains.{chains_control}
+use Rattle.sim_machine_law.proofs.KeptCapacities.{capacities_later}
+use Rattle.sim_machine_law.proofs.KeptBodies.{of_is_resumption, told_resumed}
+use Rattle.sim_machine_law.proofs.KeptBodiesEvents.{Grown}
+use Rattle.sim_machine_law.proofs.KeptBodiesPolls.{bodies_moved}
+use Rattle.sim_machine_law.proofs.KeptWaiting.{waits_pending}
+use Rattle.sim_machine_law.proofs.KeptWaitingPolls.{entered_resumed, waiting_unpolled}
 use Rattle.sim_machine_law.proofs.ChangedCalendars.{lawful_called}
 use Rattle.sim_machine_law.proofs.ReplacedCalendars.{replace_same}
 use Rattle.sim_machine_law.proofs.TakenOut.{registrations_taken, chains_taken, strikes_taken, conditions_taken}
 use Rattle.sim_machine_law.proofs.StoppedWaiting.{Resumed, found_alive, resumed_at, none-unregister, others-unregister, others_at-unregister}
+use Rattle.sim_machine_law.proofs.LawfulBasis.{ConditionsBasis, LawfulBasis}
 
 strike_is_no_conditions : (p : ProcId) → IsNoConditions (callback.Strike p)
 strike_is_no_conditions p = record { no_check = λ cond. refl; no_build = λ cond. refl }
@@ -53,7 +52,7 @@ strike_is_no_conditions p = record { no_check = λ cond. refl; no_build = λ con
 -- ---- the process has ended
 
 -- of the callbacks still to call the first one is passed over
-lawful-missed : {B : Type 0} (g : Plan B) (tell : Telling B) (sound : B → Type 0) (s : State B) (e : EventId) (left : List Callback) (p : ProcId) → s.control ≡ Calling e (callback.Strike p ∷ left) → Lawful g tell sound s → Lawful g tell sound (control_to (Calling e left) s)
+lawful-missed : {B : Type 0} (g : Plan B) (tell : Telling B) (sound : B → Type 0) (s : State B) (e : EventId) (left : List Callback) (p : ProcId) → s.control ≡ Calling e (callback.Strike p ∷ left) → LawfulBasis g tell sound s → LawfulBasis g tell sound (control_to (Calling e left) s)
 lawful-missed g tell sound s e left p calling h =
     lawful_called g tell sound s e (callback.Strike p) left (λ c. c) calling (λ q. refl) (strike_is_no_conditions p) h (replace_same g tell sound s h)
 
@@ -116,7 +115,7 @@ processes-struck {B} named s e left p y calling alive struck h =
     not_counted true = refl
     not_counted false = refl
 
-lawful-struck : {B : Type 0} (g : Plan B) (tell : Telling B) (sound : B → Type 0) (s : State B) (e : EventId) (left : List Callback) (p : ProcId) (o : Option Outcome) → s.control ≡ Calling e (callback.Strike p ∷ left) → is_alive p s ≡ true → Lawful g tell sound s → Lawful g tell sound (control_to (Active e left p (signal_of o)) (stop_waiting p s))
+lawful-struck : {B : Type 0} (g : Plan B) (tell : Telling B) (sound : B → Type 0) (s : State B) (e : EventId) (left : List Callback) (p : ProcId) (o : Option Outcome) → s.control ≡ Calling e (callback.Strike p ∷ left) → is_alive p s ≡ true → LawfulBasis g tell sound s → LawfulBasis g tell sound (control_to (Active e left p (signal_of o)) (stop_waiting p s))
 lawful-struck {B} g tell sound s e left p o calling alive h =
     let c : Calendar = calendar s in
     let x : Callback = callback.Strike p in
@@ -137,15 +136,15 @@ lawful-struck {B} g tell sound s e left p o calling alive h =
       waiting = waiting_unpolled g tell s d l s.processed s.drawn s.lines grown (λ w v. waits_pending c w v)
           (λ q v. entered_resumed e left p y q v (of_is_resumption o) ∙ sym (ap (λ (j : Control). entered_by j q v) calling)) h.waiting;
       capacities = capacities_later g.setup.resources s.facilities d (later_self c d refl) h.capacities;
-      conditions = conditions_controlled d k l (calls_less e x left l (λ f. refl) refl (strike_is_no_conditions p)) (same_calling (λ j. LawfulConditions d j) s k calling (conditions_taken target p c s.control h.conditions));
+      conditions = conditions_controlled d k l (calls_less e x left l (λ f. refl) refl (strike_is_no_conditions p)) (same_calling (λ j. ConditionsBasis d j) s k calling (conditions_taken target p c s.control h.conditions));
       bodies = bodies_moved tell sound s t refl grown (λ q b w.
           let waits : waits_or_new tell b ≡ true = ap (λ (j : Control). is_told_well tell c q b j) (sym calling) ∙ w in
           told_resumed tell d q b e left p y waits (of_is_resumption o)) h.bodies;
       chains = chains_control d k l (λ f w. w) (λ f w. All-tail (λ z. chains_well d f z ≡ true) x left w) (same_calling (λ j. LawfulChains d j) s k calling (chains_taken target (is_resume_of p) c s.control h.chains));
     }
 
-pub lawful-called_strike : {B : Type 0} (g : Plan B) (tell : Telling B) (sound : B → Type 0) (s : State B) (e : EventId) (left : List Callback) (p : ProcId) → s.control ≡ Calling e (callback.Strike p ∷ left) → Lawful g tell sound s → Lawful g tell sound (call g e (callback.Strike p) left s)
+pub lawful-called_strike : {B : Type 0} (g : Plan B) (tell : Telling B) (sound : B → Type 0) (s : State B) (e : EventId) (left : List Callback) (p : ProcId) → s.control ≡ Calling e (callback.Strike p ∷ left) → LawfulBasis g tell sound s → LawfulBasis g tell sound (call g e (callback.Strike p) left s)
 lawful-called_strike g tell sound s e left p calling h =
     let o : Option Outcome = (event_at (calendar s) e).outcome in
-    if_cases (λ u. Lawful g tell sound u) (is_alive p s) (control_to (Active e left p (signal_of o)) (stop_waiting p s)) (control_to (Calling e left) s)
+    if_cases (λ u. LawfulBasis g tell sound u) (is_alive p s) (control_to (Active e left p (signal_of o)) (stop_waiting p s)) (control_to (Calling e left) s)
     (λ alive. lawful-struck g tell sound s e left p o calling alive h) (λ gone. lawful-missed g tell sound s e left p calling h)

@@ -18,25 +18,24 @@ use Rattle.sim_machine.specs.BodyLaw.{IsLawfulPoll, scopes_told}
 use Rattle.sim_machine.specs.LawfulTimes.{LawfulTimes}
 use Rattle.sim_machine.specs.LawfulRegistrations.{LawfulRegistrations}
 use Rattle.sim_machine.specs.LawfulWaiting.{waits_well, entered_by}
-use Rattle.sim_machine.specs.LawfulConditions.{LawfulConditions}
 use Rattle.sim_machine.specs.LawfulChains.{LawfulChains, chains_well}
 use Rattle.sim_machine.specs.LawfulBodies.{told_fits, is_told_well}
-use Rattle.sim_machine.specs.Lawful.{Lawful}
-use Rattle.sim_machine.proofs.KeptRegistrationsCalendar.{Later}
-use Rattle.sim_machine.proofs.KeptRegistrations.{registrations_told, registrations_control}
-use Rattle.sim_machine.proofs.KeptProcessesParts.{KeepsLiving, KeepsResumes, resumes-called}
-use Rattle.sim_machine.proofs.KeptProcesses.{processes-events, processes-control}
-use Rattle.sim_machine.proofs.KeptProcessesChanges.{processes-bodies, processes-told}
-use Rattle.sim_machine.proofs.KeptInterruptionsParts.{KeepsHearing, StrikesAlone, all_made, interruptions-kept}
-use Rattle.sim_machine.proofs.KeptInterruptions.{interruptions-called}
-use Rattle.sim_machine.proofs.KeptInterruptionsChanges.{interruptions-bodies, all_made-bodies, interruptions-told}
-use Rattle.sim_machine.proofs.KeptWaitingPolls.{IsWaitingPoll, waiting_unpolled}
-use Rattle.sim_machine.proofs.KeptCapacities.{capacities_later}
-use Rattle.sim_machine.proofs.KeptConditions.{IsNoConditions, conditions_told, conditions_controlled, calls_less}
-use Rattle.sim_machine.proofs.KeptBodiesEvents.{Grown}
-use Rattle.sim_machine.proofs.KeptBodiesPolls.{IsBodyPoll, bodies_moved, bodies_going_on}
-use Rattle.sim_machine.proofs.KeptChains.{chains_told, chains_control}
+use Rattle.sim_machine_law.proofs.KeptRegistrationsCalendar.{Later}
+use Rattle.sim_machine_law.proofs.KeptRegistrations.{registrations_told, registrations_control}
+use Rattle.sim_machine_law.proofs.KeptProcessesParts.{KeepsLiving, KeepsResumes, resumes-called}
+use Rattle.sim_machine_law.proofs.KeptProcesses.{processes-events, processes-control}
+use Rattle.sim_machine_law.proofs.KeptProcessesChanges.{processes-bodies, processes-told}
+use Rattle.sim_machine_law.proofs.KeptInterruptionsParts.{KeepsHearing, StrikesAlone, all_made, interruptions-kept}
+use Rattle.sim_machine_law.proofs.KeptInterruptions.{interruptions-called}
+use Rattle.sim_machine_law.proofs.KeptInterruptionsChanges.{interruptions-bodies, all_made-bodies, interruptions-told}
+use Rattle.sim_machine_law.proofs.KeptWaitingPolls.{IsWaitingPoll, waiting_unpolled}
+use Rattle.sim_machine_law.proofs.KeptCapacities.{capacities_later}
+use Rattle.sim_machine_law.proofs.KeptConditions.{IsNoConditions, conditions_told, conditions_controlled, calls_less}
+use Rattle.sim_machine_law.proofs.KeptBodiesEvents.{Grown}
+use Rattle.sim_machine_law.proofs.KeptBodiesPolls.{IsBodyPoll, bodies_moved, bodies_going_on}
+use Rattle.sim_machine_law.proofs.KeptChains.{chains_told, chains_control}
 use Rattle.sim_machine_law.proofs.ToldScopes.{waiting_told}
+use Rattle.sim_machine_law.proofs.LawfulBasis.{ConditionsBasis, LawfulBasis}
 
 -- what a calendar d has that may take the place of the state's, for each part of the law
 pub record MayReplace {B : Type 0} (s : State B) (d : Calendar) : Type 0 where
@@ -49,8 +48,16 @@ pub record MayReplace {B : Type 0} (s : State B) (d : Calendar) : Type 0 where
   pub grown : Grown s.facilities.calendar d
   pub pending : (w : Waiter) → waits_well s.facilities.calendar w ≡ true → is_pending d w.event ≡ true
   pub later : Later s.facilities.calendar d
-  pub conditions : LawfulConditions d s.control
+  pub conditions : ConditionsBasis d s.control
   pub chains : LawfulChains d s.control
+
+-- the active process p, whose body was y's and is b now, asks for o in a lawful state
+pub record AsksFor {B : Type 0} (g : Plan B) (tell : Telling B) (sound : B → Type 0) (s : State B) (f : CodeFacts) (e : EventId) (left : List Callback) (p : ProcId) (x : Signal) (y : ProcessOf B) (b : B) (o : Op) : Type 0 where
+  pub active : s.control ≡ Active e left p x
+  pub found : process_at p s ≡ Some y
+  pub is_sound : sound b
+  pub lawful : LawfulBasis g tell sound s
+  pub poll : IsLawfulPoll f tell y.body x o b
 
 -- the active process p, whose body was y's, asked for o in a lawful state, and its body is b now; o is not to leave a
 -- scope
@@ -58,7 +65,7 @@ pub record HasAsked {B : Type 0} (g : Plan B) (tell : Telling B) (sound : B → 
   pub active : s.control ≡ Active e left p x
   pub found : process_at p s ≡ Some y
   pub is_sound : sound b
-  pub lawful : Lawful g tell sound s
+  pub lawful : LawfulBasis g tell sound s
   pub poll : IsLawfulPoll f tell y.body x o b
   pub scopes : tell.scopes b ≡ scopes_told (tell.scopes y.body) (tell.last y.body) x
 
@@ -69,12 +76,12 @@ pub scopes_asked_for : {B : Type 0} (g : Plan B) (tell : Telling B) (sound : B �
 scopes_asked_for g tell sound s f e left p x y b o h = record { active = h.active; found = h.found; scopes = h.scopes; lawful = h.lawful.waiting }
 
 -- the process goes on and is told n, and the calendar is changed so
-pub lawful_told : {B : Type 0} (g : Plan B) (tell : Telling B) (sound : B → Type 0) (s : State B) (f : CodeFacts) (e : EventId) (left : List Callback) (p : ProcId) (x : Signal) (y : ProcessOf B) (b : B) (o : Op) (n : Signal) (change : Calendar → Calendar) → HasAsked g tell sound s f e left p x y b o → MayReplace s (change (calendar s)) → is_enter (tell.last b) ≡ false → told_fits tell (change (calendar s)) b n ≡ true → Lawful g tell sound (told n (on_events change (with_body p b s)))
+pub lawful_told : {B : Type 0} (g : Plan B) (tell : Telling B) (sound : B → Type 0) (s : State B) (f : CodeFacts) (e : EventId) (left : List Callback) (p : ProcId) (x : Signal) (y : ProcessOf B) (b : B) (o : Op) (n : Signal) (change : Calendar → Calendar) → HasAsked g tell sound s f e left p x y b o → MayReplace s (change (calendar s)) → is_enter (tell.last b) ≡ false → told_fits tell (change (calendar s)) b n ≡ true → LawfulBasis g tell sound (told n (on_events change (with_body p b s)))
 lawful_told {B} g tell sound s f e left p x y b o n change h k not_enters fits =
     let d : Calendar = change (calendar s) in
     let r : State B = with_body p b s in
     let t : State B = on_events change r in
-    let l : Lawful g tell sound s = h.lawful in
+    let l : LawfulBasis g tell sound s = h.lawful in
     record {
       times = k.times;
       registrations = registrations_told n d s.control k.registrations;
@@ -88,7 +95,7 @@ lawful_told {B} g tell sound s f e left p x y b o n change h k not_enters fits =
     }
 
 -- a callback of e was called that resumes nobody and is no condition's, and the calendar is changed so
-pub lawful_called : {B : Type 0} (g : Plan B) (tell : Telling B) (sound : B → Type 0) (s : State B) (e : EventId) (x : Callback) (left : List Callback) (change : Calendar → Calendar) → s.control ≡ Calling e (x ∷ left) → ((p : ProcId) → is_resume_of p x ≡ false) → IsNoConditions x → Lawful g tell sound s → MayReplace s (change (calendar s)) → Lawful g tell sound (control_to (Calling e left) (on_events change s))
+pub lawful_called : {B : Type 0} (g : Plan B) (tell : Telling B) (sound : B → Type 0) (s : State B) (e : EventId) (x : Callback) (left : List Callback) (change : Calendar → Calendar) → s.control ≡ Calling e (x ∷ left) → ((p : ProcId) → is_resume_of p x ≡ false) → IsNoConditions x → LawfulBasis g tell sound s → MayReplace s (change (calendar s)) → LawfulBasis g tell sound (control_to (Calling e left) (on_events change s))
 lawful_called {B} g tell sound s e x left change calling others no_condition l k =
     let d : Calendar = change (calendar s) in
     let t : State B = on_events change s in
@@ -101,7 +108,7 @@ lawful_called {B} g tell sound s e x left change calling others no_condition l k
       interruptions = interruptions-called t after x (rw calling refl) (λ f. rw calling refl) (interruptions-kept s t refl (all_made g tell sound s l) k.hearing k.strikes l.interruptions);
       waiting = waiting_unpolled g tell s d after s.processed s.drawn s.lines k.grown k.pending (λ q v. sym (ap (λ (c : Control). entered_by c q v) calling)) l.waiting;
       capacities = capacities_later g.setup.resources s.facilities d k.later l.capacities;
-      conditions = conditions_controlled d before after (calls_less e x left after (λ f. refl) refl no_condition) (subst (λ c. LawfulConditions d c) calling k.conditions);
+      conditions = conditions_controlled d before after (calls_less e x left after (λ f. refl) refl no_condition) (subst (λ c. ConditionsBasis d c) calling k.conditions);
       bodies = bodies_moved tell sound s (control_to after t) refl k.grown (λ q b w. ap (is_told_well tell (calendar s) q b) (sym calling) ∙ w) l.bodies;
       chains = chains_control d before after (λ f w. w) (λ f w. All-tail (λ z. chains_well d f z ≡ true) x left w) (subst (λ c. LawfulChains d c) calling k.chains);
     }

@@ -1,5 +1,5 @@
 -- Which facilities may take the place of those of a lawful state, where the scopes, the processes and the control stay.
-use Rattle.std.proofs.Common.{◌≡◌, ◌≢◌, ℕ, ◌<◌, Bool, true, false, ◌&&◌, not, List, [], ◌∷◌, length, Option, refl, ap, ◌∙◌, arith, if◌then◌else◌, AllPairs, ⊎_elim}
+use Rattle.std.proofs.Common.{◌≡◌, ◌≢◌, ℕ, ◌<◌, Bool, true, ◌&&◌, not, List, [], ◌∷◌, length, Option, refl, ap, ◌∙◌, arith, AllPairs, ⊎_elim}
 use Rattle.std.specs.Prelude.{◌==◌, nat_lt, is_none}
 use Rattle.std.specs.List.{list_all, AllPass}
 use Rattle.std.proofs.lemmas.Bool.{and_parts, and_from, or_cases, or_left, or_right}
@@ -22,20 +22,19 @@ use Rattle.sim_machine.specs.MayFollow.{may_be_told, makes_kind}
 use Rattle.sim_machine.specs.Standing.{was_made, kind_at}
 use Rattle.sim_machine.specs.LawfulTimes.{LawfulTimes}
 use Rattle.sim_machine.specs.LawfulRegistrations.{LawfulRegistrations}
-use Rattle.sim_machine.specs.LawfulWaiting.{waits_well, may_wait_kind, is_cancelled_well, is_request_kind, request_has_scope, has_scope, is_scope_well}
+use Rattle.sim_machine.specs.LawfulWaiting.{waits_well, may_wait_kind, is_request_kind, request_has_scope, has_scope, is_scope_well}
 use Rattle.sim_machine.specs.LawfulCapacities.{LawfulCapacities}
-use Rattle.sim_machine.specs.LawfulConditions.{LawfulConditions}
 use Rattle.sim_machine.specs.LawfulBodies.{LawfulBodies, place_fits, told_fits, is_told_well}
 use Rattle.sim_machine.specs.LawfulChains.{LawfulChains}
-use Rattle.sim_machine.specs.Lawful.{Lawful}
-use Rattle.sim_machine.proofs.EventLaws.{change_event-other, change_event-length}
-use Rattle.sim_machine.proofs.KeptRegistrationsCalendar.{Later, Calm, below_made, made_below}
-use Rattle.sim_machine.proofs.KeptProcessesParts.{KeepsLiving, KeepsResumes, processes-kept}
-use Rattle.sim_machine.proofs.KeptInterruptionsParts.{KeepsHearing, StrikesAlone, all_made, interruptions-kept}
-use Rattle.sim_machine.proofs.KeptWaitingPolls.{waiting_unpolled}
-use Rattle.sim_machine.proofs.KeptCapacities.{capacities_later}
-use Rattle.sim_machine.proofs.KeptBodies.{four_parts, four_from}
+use Rattle.sim_machine_law.proofs.EventLaws.{change_event-other, change_event-length}
+use Rattle.sim_machine_law.proofs.KeptRegistrationsCalendar.{Later, Calm, below_made, made_below}
+use Rattle.sim_machine_law.proofs.KeptProcessesParts.{KeepsLiving, KeepsResumes, processes-kept}
+use Rattle.sim_machine_law.proofs.KeptInterruptionsParts.{KeepsHearing, StrikesAlone, all_made, interruptions-kept}
+use Rattle.sim_machine_law.proofs.KeptWaitingPolls.{waiting_unpolled}
+use Rattle.sim_machine_law.proofs.KeptCapacities.{capacities_later}
+use Rattle.sim_machine_law.proofs.KeptBodies.{if_stays, four_parts, four_from}
 use Rattle.sim_machine_law.proofs.ChangedCalendars.{MayReplace}
+use Rattle.sim_machine_law.proofs.LawfulBasis.{ConditionsBasis, LawfulBasis}
 
 -- ---- bodies
 
@@ -67,10 +66,6 @@ made_calm c d e asked m calm h =
 fits_calm : {B : Type 0} (tell : Telling B) (c d : Calendar) (b : B) (x : Signal) → Calm c d → told_fits tell c b x ≡ true → told_fits tell d b x ≡ true
 fits_calm tell c d b (signal.Made e) calm h = made_calm c d e (tell.last b) (may_be_told (tell.last b) (signal.Made e)) calm h
 fits_calm tell c d b _ calm h = h
-
-if_stays : (b p q r : Bool) → (p ≡ true → q ≡ true) → (if b then p else r) ≡ true → (if b then q else r) ≡ true
-if_stays true p q r f h = f h
-if_stays false p q r f h = h
 
 -- what is told fits on
 pub told_calm : {B : Type 0} (tell : Telling B) (c d : Calendar) (q : ProcId) (b : B) (k : Control) → Calm c d → is_told_well tell c q b k ≡ true → is_told_well tell d q b k ≡ true
@@ -126,14 +121,13 @@ pub record MayBecome {B : Type 0} (g : Plan B) (s : State B) (f : Facilities) : 
   pub calm : Calm s.facilities.calendar f.calendar
   pub waiters : AllPass (waits_well f.calendar) f.waiters
   pub once : AllPairs (λ w v. w.event ≢ v.event) f.waiters
-  pub cancelled : AllPass is_cancelled_well f.calendar.events
   pub requests : AllPass (λ w. request_has_scope s.scopes w w.want) f.waiters
   pub using : (res : ℕ) → AllPass (λ u. has_scope s.scopes u.request u.process res) (users res f.ledger)
   pub capacities : LawfulCapacities g.setup.resources f
-  pub conditions : LawfulConditions f.calendar s.control
+  pub conditions : ConditionsBasis f.calendar s.control
   pub chains : LawfulChains f.calendar s.control
 
-pub lawful_becomes : {B : Type 0} (g : Plan B) (tell : Telling B) (sound : B → Type 0) (s : State B) (f : Facilities) → Lawful g tell sound s → MayBecome g s f → Lawful g tell sound (record s { facilities = f })
+pub lawful_becomes : {B : Type 0} (g : Plan B) (tell : Telling B) (sound : B → Type 0) (s : State B) (f : Facilities) → LawfulBasis g tell sound s → MayBecome g s f → LawfulBasis g tell sound (record s { facilities = f })
 lawful_becomes {B} g tell sound s f l k =
     let t : State B = record s { facilities = f } in
     record {
@@ -144,7 +138,6 @@ lawful_becomes {B} g tell sound s f l k =
       waiting = record {
         waiters = k.waiters;
         once = k.once;
-        cancelled = k.cancelled;
         requests = k.requests;
         using = k.using;
         scopes = All-weaker (λ x. is_scope_well g.setup.resources s x ≡ true) (λ x. is_scope_well g.setup.resources t x ≡ true) (λ x w. scope_later g.setup.resources s t x k.calm.later (λ y. y) w) s.scopes l.waiting.scopes;
@@ -157,7 +150,7 @@ lawful_becomes {B} g tell sound s f l k =
     }
 
 -- the same where the calendar alone is changed
-pub lawful_on_events : {B : Type 0} (g : Plan B) (tell : Telling B) (sound : B → Type 0) (s : State B) (change : Calendar → Calendar) → Lawful g tell sound s → MayReplace s (change (calendar s)) → Calm (calendar s) (change (calendar s)) → Lawful g tell sound (on_events change s)
+pub lawful_on_events : {B : Type 0} (g : Plan B) (tell : Telling B) (sound : B → Type 0) (s : State B) (change : Calendar → Calendar) → LawfulBasis g tell sound s → MayReplace s (change (calendar s)) → Calm (calendar s) (change (calendar s)) → LawfulBasis g tell sound (on_events change s)
 lawful_on_events {B} g tell sound s change l k calm =
     let d : Calendar = change (calendar s) in
     let t : State B = on_events change s in

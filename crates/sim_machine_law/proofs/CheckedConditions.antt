@@ -12,14 +12,14 @@ use Rattle.sim_machine.specs.Events.{event_at, is_pending, is_processed, defuse}
 use Rattle.sim_machine.specs.Conditions.{no_condition, condition_of, is_condition, condition_at, members_of, change_condition, is_met, count_member, judge, check}
 use Rattle.sim_machine.specs.Triggering.{trigger, succeed, fail}
 use Rattle.sim_machine.specs.Standing.{kind_at}
-use Rattle.sim_machine.specs.LawfulConditions.{LawfulConditions, is_below_all, counts_well, is_empty, needs_build}
-use Rattle.sim_machine.proofs.EventLaws.{same_event, change_event-same, change_event-other, change_event-keeps, change_event-length}
-use Rattle.sim_machine.proofs.KeptTimesCases.{if_cases}
-use Rattle.sim_machine.proofs.KeptConditions.{older_same, older_everywhere}
-use Rattle.sim_machine.proofs.KeptInterruptionsParts.{change_event-passes}
-use Rattle.sim_machine_law.specs.WholeStates.{is_cond_kind}
+use Rattle.sim_machine.specs.LawfulConditions.{is_condition_kind, is_below_all, counts_well, is_empty, needs_build}
+use Rattle.sim_machine_law.proofs.EventLaws.{same_event, change_event-same, change_event-other, change_event-keeps, change_event-length}
+use Rattle.sim_machine_law.proofs.KeptTimesCases.{if_cases}
+use Rattle.sim_machine_law.proofs.KeptConditions.{older_same, older_everywhere}
+use Rattle.sim_machine_law.proofs.KeptInterruptionsParts.{change_event-passes}
 use Rattle.sim_machine_law.proofs.TakenCalendars.{MayTake}
 use Rattle.sim_machine_law.proofs.TakenChanges.{take_defused, take_condition, take_triggered}
+use Rattle.sim_machine_law.proofs.LawfulBasis.{ConditionsBasis}
 
 -- ---- what a check comes to
 
@@ -93,7 +93,7 @@ same_checked cond m c =
     (record { members = λ e. refl; needs = λ e. refl; processed = λ e. refl; registered = refl })
 
 -- where they count well too, they stay lawful
-pub conditions_recounted : (c d : Calendar) (k : Control) → SameConditions c d → ((e : EventId) → counts_well d e ≡ true) → LawfulConditions c k → LawfulConditions d k
+pub conditions_recounted : (c d : Calendar) (k : Control) → SameConditions c d → ((e : EventId) → counts_well d e ≡ true) → ConditionsBasis c k → ConditionsBasis d k
 conditions_recounted c d k same counts h =
     record {
       members = λ e made. older_same c d same.members e ∙ older_everywhere c k e h;
@@ -133,7 +133,7 @@ counts_one_more n m a b p q h other = grind (arith, nat_tests)
 -- ---- a member is checked
 
 -- the condition was made, and is pending, so it has not counted all
-pub conditions_checked : (cond m : EventId) (c : Calendar) (k : Control) → cond.0 < length c.events → is_condition c cond ≡ true → LawfulConditions c k → LawfulConditions (check cond m c) k
+pub conditions_checked : (cond m : EventId) (c : Calendar) (k : Control) → cond.0 < length c.events → is_condition c cond ≡ true → ConditionsBasis c k → ConditionsBasis (check cond m c) k
 conditions_checked cond m c k made is h =
     let one : ConditionOf → ConditionOf = λ x. record x { count = x.count + 1 } in
     let change : EventOf → EventOf = λ x. record x { condition = Some (one (condition_of x.condition)) } in
@@ -142,7 +142,7 @@ conditions_checked cond m c k made is h =
     let long : length n.events ≡ length c.events = change_event-length cond change c in
     let others : (f : EventId) → f.0 ≢ cond.0 → counts (event_at n f) ≡ true = λ f differ. ap counts (change_event-other cond f change c differ) ∙ h.counts f in
     let now : EventOf = event_at c cond in
-    check_cases (λ d. LawfulConditions d k) cond m c
+    check_cases (λ d. ConditionsBasis d k) cond m c
     (λ pending t.
     let q : Calendar = defuse m n in
     let all : (f : EventId) → f.0 ≢ cond.0 → counts (event_at q f) ≡ true = λ f differ. change_event-keeps counts m f (λ x. record x { defused = true }) n (λ x. refl) ∙ others f differ in
@@ -158,7 +158,7 @@ conditions_checked cond m c k made is h =
     (λ f. change_event-passes counts cond f change c (counts_one_more on.count (length on.members) (is_condition c cond) (is_pending c cond) is pending (h.counts cond) short) (h.counts f)) h)
     h
 
-pub take_checked : {B : Type 0} (s : State B) (cond m : EventId) (d : Calendar) → cond.0 < length d.events → cond.0 ≢ 0 → is_cond_kind (kind_at d cond) ≡ true → MayTake s d → MayTake s (check cond m d)
+pub take_checked : {B : Type 0} (s : State B) (cond m : EventId) (d : Calendar) → cond.0 < length d.events → cond.0 ≢ 0 → is_condition_kind (kind_at d cond) ≡ true → MayTake s d → MayTake s (check cond m d)
 take_checked s cond m d made nonzero kinds h =
     let one : ConditionOf → ConditionOf = λ x. record x { count = x.count + 1 } in
     let change : EventOf → EventOf = λ x. record x { condition = Some (one (condition_of x.condition)) } in
@@ -167,11 +167,11 @@ take_checked s cond m d made nonzero kinds h =
     let q : Calendar = defuse m n in
     let counted : MayTake s n = take_condition s cond one d (λ x. refl) h in
     let long : length n.events ≡ length d.events = change_event-length cond change d in
-    let kind : is_cond_kind (kind_at n cond) ≡ true = change_event-keeps (λ x. is_cond_kind x.kind) cond cond change d (λ x. refl) ∙ kinds in
+    let kind : is_condition_kind (kind_at n cond) ≡ true = change_event-keeps (λ x. is_condition_kind x.kind) cond cond change d (λ x. refl) ∙ kinds in
     let still : is_pending n cond ≡ is_pending d cond = change_event-keeps (λ x. is_none x.outcome) cond cond change d (λ x. refl) in
     check_cases (MayTake s) cond m d
     (λ pending t. take_triggered s cond (outcome.Fail t) q (omega (arith, made, long, change_event-length m defused n)) nonzero
-    (change_event-keeps (λ x. is_cond_kind x.kind) m cond defused n (λ x. refl) ∙ kind) (change_event-keeps (λ x. is_none x.outcome) m cond defused n (λ x. refl) ∙ (still ∙ pending)) (take_defused s m n counted))
+    (change_event-keeps (λ x. is_condition_kind x.kind) m cond defused n (λ x. refl) ∙ kind) (change_event-keeps (λ x. is_none x.outcome) m cond defused n (λ x. refl) ∙ (still ∙ pending)) (take_defused s m n counted))
     (λ pending. take_triggered s cond (outcome.Ok (pos 0)) n (omega (arith, made, long)) nonzero kind (still ∙ pending) counted)
     (λ pending not_met. counted)
     h

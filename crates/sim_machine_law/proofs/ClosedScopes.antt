@@ -1,21 +1,20 @@
 -- The scopes of a process are closed one after another: what waits, and who uses, stays lawful but for what the process itself
 -- knows of its scopes. No two open scopes may be of one request.
 use Rattle.std.proofs.Common.{◌≡◌, ◌≢◌, ℕ, ◌<◌, ◌≤◌, pos, Bool, true, false, ◌&&◌, not, List, [], ◌∷◌, map, filter, length, get_or, Some, refl, sym, subst, ap, ◌∙◌, arith, ⊎_elim, All, AllPairs}
-use Rattle.std.specs.Prelude.{◌==◌, count_by, fold, is_none}
+use Rattle.std.specs.Prelude.{◌==◌, fold, is_none}
 use Rattle.std.specs.List.{list_any, AllPass}
 use Rattle.std.proofs.lemmas.Bool.{and_parts, both_ways, cases_Bool, cond_both, eqb-false, eqb-true, false≢true, false_from_ne_true, not-true, not_from_false, or_parts, or_cases}
-use Rattle.std.proofs.lemmas.List.Elements.{All-cons, All-filter, All-head, All-nil, All-push, All-same, All-tail, All-weaker, filter_passes}
+use Rattle.std.proofs.lemmas.List.Elements.{All-cons, All-filter, All-head, All-nil, All-same, All-tail, All-weaker, filter_passes}
 use Rattle.std.proofs.lemmas.List.Folds.{Any-from_list_any}
 use Rattle.std.proofs.lemmas.List.Kept.{AllPairs-filter}
 use Rattle.std.proofs.lemmas.Map.Views.{any-filter_same}
 use Rattle.sim_types.specs.declared.event.EventId.{EventId}
 use Rattle.sim_types.specs.declared.event.ProcId.{ProcId}
-use Rattle.sim_types.specs.declared.event.EventKind.{EventKind}
 use Rattle.sim_types.specs.declared.event.EventKind.TheVariants as kind
 use Rattle.sim_types.specs.declared.event.Outcome.TheVariants as outcome
 use Rattle.sim_types.specs.declared.event.Callback.TheVariants as callback
 use Rattle.sim_machine.specs.State.{EventOf, Calendar, Facilities, OpenScope, State, Plan, User, Waiter, Want, Slot}
-use Rattle.sim_machine.specs.Events.{is_same, is_process, event_at, is_pending, pending_event, next_event, cancel_event, register}
+use Rattle.sim_machine.specs.Events.{is_same, is_process, event_at, is_pending, next_event, cancel_event, register}
 use Rattle.sim_machine.specs.Triggering.{make, succeed}
 use Rattle.sim_machine.specs.Users.{users}
 use Rattle.sim_machine.specs.Trying.{on_calendar, unqueue}
@@ -25,13 +24,11 @@ use Rattle.sim_machine.specs.Effect.{calendar}
 use Rattle.sim_machine.specs.Tellings.{Telling}
 use Rattle.sim_machine.specs.MayAsk.{most_scopes}
 use Rattle.sim_machine.specs.Standing.{was_made, kind_at}
-use Rattle.sim_machine.specs.LawfulWaiting.{KnowsItsScopes, has_scope, is_cancelled_well, is_request_kind, is_scope_well, may_wait_kind, request_has_scope, requests_of, waits_well}
-use Rattle.sim_machine.proofs.EventLaws.{change_event-AllPass, change_event-length, change_event-other, make-length, make-old, same_event}
-use Rattle.sim_machine.proofs.CallbackLaws.{count_by-cons, counts_none}
-use Rattle.sim_machine.proofs.KeptBodies.{four_from, four_parts}
-use Rattle.sim_machine.proofs.KeptInterruptionsParts.{passes_at}
-use Rattle.sim_machine.proofs.KeptRegistrationsCalendar.{Later, below_made, made_below}
-use Rattle.sim_machine.proofs.KeptTimesCases.{if_cases}
+use Rattle.sim_machine.specs.LawfulWaiting.{KnowsItsScopes, has_scope, is_request_kind, is_scope_well, may_wait_kind, request_has_scope, requests_of, waits_well}
+use Rattle.sim_machine_law.proofs.EventLaws.{change_event-length, change_event-other, make-length, make-old, same_event}
+use Rattle.sim_machine_law.proofs.KeptBodies.{four_from, four_parts}
+use Rattle.sim_machine_law.proofs.KeptRegistrationsCalendar.{Later, below_made, made_below}
+use Rattle.sim_machine_law.proofs.KeptTimesCases.{if_cases}
 use Rattle.sim_machine_law.proofs.ChangedFacilities.{scope_later}
 use Rattle.sim_machine_law.proofs.LeavingCalendars.{end_use-calendar, proceeds-left}
 use Rattle.sim_machine_law.proofs.ReleasedUsers.{UsesOther, users_left, waiters_left}
@@ -49,13 +46,6 @@ filter_twice {X} p keep (x ∷ xs) h =
     let kept : List X = filter keep xs in
     cond_both (keep x) (x ∷ kept) kept (λ ys. filter p ys ≡ filter p (x ∷ xs)) (λ a. rw later refl)
     (λ a. let fails : p x ≡ false = false_from_ne_true (p x) (λ b. both_ways (keep x) a (All-head P x xs h b)) in rw fails later)
-
-count_within : {X : Type 0} (t keep : X → Bool) → ((x : X) → t x ≡ true → keep x ≡ true) → (xs : List X) → count_by t (filter keep xs) ≡ count_by t xs
-count_within t keep within [] = refl
-count_within {X} t keep within (x ∷ xs) =
-    let kept : List X = filter keep xs in
-    cond_both (keep x) (x ∷ kept) kept (λ ys. count_by t ys ≡ count_by t (x ∷ xs)) (λ a. omega (arith, count_by-cons t x xs, count_by-cons t x kept, count_within t keep within xs))
-    (λ a. omega (arith, count_by-cons t x xs, counts_none (t x) (false_from_ne_true (t x) (λ b. both_ways (keep x) a (within x b))), count_within t keep within xs))
 
 all_fail : {X : Type 0} (t : X → Bool) (xs : List X) → list_any t xs ≡ false → All (λ x. t x ≡ false) xs
 all_fail t [] h = All-nil (λ x. t x ≡ false)
@@ -75,15 +65,14 @@ calendar_left res request f =
 record SameButOne (request : EventId) (c d : Calendar) : Type 0 where
   longer : length c.events ≤ length d.events
   same : (e : EventId) → e.0 < length c.events → e.0 ≢ request.0 → event_at d e ≡ event_at c e
-  cancelled : may_wait_kind (kind_at c request) ≡ true → AllPass is_cancelled_well c.events → AllPass is_cancelled_well d.events
 
 same_cancelled : (request : EventId) (f : Facilities) → SameButOne request f.calendar (cancel request f).calendar
 same_cancelled request f =
     let c : Calendar = f.calendar in
     let change : EventOf → EventOf = λ x. record x { cancelled = true } in
     if_cases (λ u. SameButOne request c u.calendar) (waits request f) (on_calendar (cancel_event request) (unqueue request f)) f
-    (λ a. record { longer = omega (arith, change_event-length request change c); same = λ e made differ. change_event-other request e change c differ; cancelled = λ kinds h. change_event-AllPass is_cancelled_well request change c kinds h })
-    (λ a. record { longer = omega arith; same = λ e made differ. refl; cancelled = λ kinds h. h })
+    (λ a. record { longer = omega (arith, change_event-length request change c); same = λ e made differ. change_event-other request e change c differ })
+    (λ a. record { longer = omega arith; same = λ e made differ. refl })
 
 same_left : (res : ℕ) (request : EventId) (f : Facilities) → SameButOne request f.calendar (leave res request f).calendar
 same_left res request f =
@@ -96,14 +85,7 @@ same_left res request f =
     subst (λ (u : Calendar). SameButOne request f.calendar u) (sym (calendar_left res request f)) (record {
       longer = omega (arith, before.longer, make-length kind.Release c, change_event-length e change a);
       same = λ n made differ. change_event-other e n change a (λ same. omega (arith, same, made, before.longer)) ∙ (make-old kind.Release c n (omega (arith, made, before.longer)) ∙ before.same n made differ);
-      cancelled = λ kinds h.
-          let pushed : AllPass is_cancelled_well a.events = All-push (λ x. is_cancelled_well x ≡ true) c.events (pending_event kind.Release) (before.cancelled kinds h) refl in
-          change_event-AllPass is_cancelled_well e change a (passes_at is_cancelled_well a e refl pushed) pushed;
     })
-
-request_may_wait : (k : EventKind) → is_request_kind k ≡ true → may_wait_kind k ≡ true
-request_may_wait kind.Request h = refl
-request_may_wait _ h = absurd (false≢true h)
 
 -- what waits for another event waits as before
 waits_still : (request : EventId) (c d : Calendar) (w : Waiter) → SameButOne request c d → not (is_same w.event request) ≡ true → waits_well c w ≡ true → waits_well d w ≡ true
@@ -125,11 +107,8 @@ stays_open request r x apart same = not_from_false (is_same x.request request) (
 
 has_scope_still : (scopes : List OpenScope) (request r : EventId) (p : ProcId) (res : ℕ) → is_same r request ≡ false → has_scope (filter (is_not_of request) scopes) r p res ≡ has_scope scopes r p res
 has_scope_still scopes request r p res apart =
-    let t : OpenScope → Bool = λ x. is_same x.request r in
-    let u : OpenScope → Bool = λ x. is_same x.request r && is_process x.process p && (x.res == res) in
-    let counted : count_by t (filter (is_not_of request) scopes) ≡ count_by t scopes = count_within t (is_not_of request) (λ x w. stays_open request r x apart w) scopes in
-    let any : list_any u (filter (is_not_of request) scopes) ≡ list_any u scopes = any-filter_same u (is_not_of request) true (λ x w. stays_open request r x apart (and_parts (is_same x.request r) (is_process x.process p) (and_parts (is_same x.request r && is_process x.process p) (x.res == res) w).0).0) scopes in
-    ap (λ (n : ℕ). (n == 1) && list_any u (filter (is_not_of request) scopes)) counted ∙ ap (λ (b : Bool). (count_by t scopes == 1) && b) any
+    any-filter_same (λ x. is_same x.request r && is_process x.process p && (x.res == res)) (is_not_of request) true
+    (λ x w. stays_open request r x apart (and_parts (is_same x.request r) (is_process x.process p) (and_parts (is_same x.request r && is_process x.process p) (x.res == res) w).0).0) scopes
 
 request_scope_still : (scopes : List OpenScope) (request : EventId) (w : Waiter) (want : Want) → is_same w.event request ≡ false → request_has_scope scopes w want ≡ true → request_has_scope (filter (is_not_of request) scopes) w want ≡ true
 request_scope_still scopes request w (Slot p key) apart h = has_scope_still scopes request w.event p w.res apart ∙ h
@@ -141,7 +120,6 @@ request_scope_still scopes request w _ apart h = h
 pub record WaitsBut {B : Type 0} (g : Plan B) (tell : Telling B) (q : ProcId) (s : State B) : Type 0 where
   pub waiters : AllPass (waits_well s.facilities.calendar) s.facilities.waiters
   pub once : AllPairs (λ w v. w.event ≢ v.event) s.facilities.waiters
-  pub cancelled : AllPass is_cancelled_well s.facilities.calendar.events
   pub requests : AllPass (λ w. request_has_scope s.scopes w w.want) s.facilities.waiters
   pub using : (res : ℕ) → AllPass (λ u. has_scope s.scopes u.request u.process res) (users res s.facilities.ledger)
   pub scopes : AllPass (is_scope_well g.setup.resources s) s.scopes
@@ -158,7 +136,7 @@ pub record IsOwnScope (c : Calendar) (scopes : List OpenScope) (q : ProcId) (x :
 uses_elsewhere : (scopes : List OpenScope) (x : OpenScope) (u : User) (at : ℕ) → All (λ y. is_same y.request x.request ≡ true → y ≡ x) scopes → has_scope scopes u.request u.process at ≡ true → is_same u.request x.request ≡ true → x.res ≡ at
 uses_elsewhere scopes x u at alone has same =
     let t : OpenScope → Bool = λ y. is_same y.request u.request && is_process y.process u.process && (y.res == at) in
-    let found = Any-from_list_any t scopes (and_parts (count_by (λ (y : OpenScope). is_same y.request u.request) scopes == 1) (list_any t scopes) has).1 in
+    let found = Any-from_list_any t scopes has in
     let y : OpenScope = found.1 in
     let parts = and_parts (is_same y.request u.request && is_process y.process u.process) (y.res == at) found.4 in
     let here : is_same y.request u.request ≡ true = (and_parts (is_same y.request u.request) (is_process y.process u.process) parts.0).0 in
@@ -181,7 +159,6 @@ closed_scope {B} g tell q s x own h =
     record {
       waiters = All-same (λ w. waits_well d w ≡ true) t.facilities.waiters (filter keep f.waiters) ws (All-passing (λ w. waits_well c w ≡ true) (λ w. waits_well d w ≡ true) keep f.waiters (λ w a b. waits_still r c d w one a b) h.waiters);
       once = subst (λ (vs : List Waiter). AllPairs (λ w v. w.event ≢ v.event) vs) (sym ws) (AllPairs-filter (λ w v. w.event ≢ v.event) keep f.waiters h.once);
-      cancelled = one.cancelled (request_may_wait (kind_at c r) own.kind) h.cancelled;
       requests = All-same (λ w. request_has_scope kept_scopes w w.want ≡ true) t.facilities.waiters (filter keep f.waiters) ws
           (All-passing (λ w. request_has_scope s.scopes w w.want ≡ true) (λ w. request_has_scope kept_scopes w w.want ≡ true) keep f.waiters (λ w a b. request_scope_still s.scopes r w w.want (not-true (is_same w.event r) a) b) h.requests);
       using = λ at.

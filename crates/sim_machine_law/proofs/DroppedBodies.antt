@@ -13,14 +13,14 @@ use Rattle.sim_machine.specs.Processes.{event_of, process_at, target_of, drop_pr
 use Rattle.sim_machine.specs.Effect.{calendar}
 use Rattle.sim_machine.specs.Tellings.{Telling}
 use Rattle.sim_machine.specs.LawfulBodies.{LawfulBodies, is_told_well}
-use Rattle.sim_machine.specs.Lawful.{Lawful}
-use Rattle.sim_machine.proofs.KeptBodies.{IsBodyWell, bodies_lawful, bodies_well}
-use Rattle.sim_machine.proofs.KeptRegistrationsCalendar.{Calm, calm_scheduled, calm_self, calm_then}
+use Rattle.sim_machine_law.proofs.KeptBodies.{IsBodyWell, bodies_lawful, bodies_well}
+use Rattle.sim_machine_law.proofs.KeptRegistrationsCalendar.{Calm, calm_scheduled, calm_self, calm_then}
 use Rattle.sim_machine_law.proofs.ChangedFacilities.{places_later, told_calm}
 use Rattle.sim_machine_law.proofs.DroppedProcess.{MayDrop, IsScopeless, scopeless, scopeless_state}
 use Rattle.sim_machine_law.proofs.EndedProcesses.{is_other}
+use Rattle.sim_machine_law.proofs.LawfulBasis.{LawfulBasis}
 
-pub bodies_dropped : {B : Type 0} (g : Plan B) (tell : Telling B) (sound : B → Type 0) (s : State B) (e : EventId) (left : List Callback) (p : ProcId) (x : Signal) (q : ProcId) (value : ℤ) → MayDrop s e left p x q → Lawful g tell sound s → LawfulBodies tell sound (drop_process q value s)
+pub bodies_dropped : {B : Type 0} (g : Plan B) (tell : Telling B) (sound : B → Type 0) (s : State B) (e : EventId) (left : List Callback) (p : ProcId) (x : Signal) (q : ProcId) (value : ℤ) → MayDrop s e left p x q → LawfulBasis g tell sound s → LawfulBodies tell sound (drop_process q value s)
 bodies_dropped {B} g tell sound s e left p x q value may h =
     let k : IsScopeless s e left p x q = scopeless g.setup.events s e left p x q may h.processes in
     let c : Calendar = calendar s in

@@ -1,13 +1,10 @@
 -- A process drops another: the parts of the law that are not about resources.
 use Rattle.std.proofs.Common.{◌≡◌, ℕ, ℤ, pos, true, false, List, filter, Some, refl, sym, subst, ap, ◌∙◌, arith}
 use Rattle.std.specs.Prelude.{count_by}
-use Rattle.std.proofs.lemmas.Bool.{false≢true}
 use Rattle.sim_types.specs.declared.event.EventId.{EventId}
 use Rattle.sim_types.specs.declared.event.ProcId.{ProcId}
-use Rattle.sim_types.specs.declared.event.EventKind.{EventKind}
 use Rattle.sim_types.specs.declared.event.Signal.{Signal}
 use Rattle.sim_types.specs.declared.event.Callback.{Callback}
-use Rattle.sim_types.specs.declared.event.EventKind.TheVariants as kind
 use Rattle.sim_types.specs.declared.event.Outcome.TheVariants as outcome
 use Rattle.sim_machine.specs.State.{Calendar, ProcessOf, Control, Active, State, Plan}
 use Rattle.sim_machine.specs.Events.{is_process, event_at, unregister, is_resume_of}
@@ -19,24 +16,24 @@ use Rattle.sim_machine.specs.Tellings.{Telling}
 use Rattle.sim_machine.specs.Standing.{kind_at, all_callbacks_of, callbacks_in_all}
 use Rattle.sim_machine.specs.LawfulTimes.{LawfulTimes}
 use Rattle.sim_machine.specs.LawfulRegistrations.{LawfulRegistrations}
-use Rattle.sim_machine.specs.LawfulProcesses.{LawfulProcesses, is_active, is_process_kind}
-use Rattle.sim_machine.specs.LawfulInterruptions.{LawfulInterruptions, is_failed_interruption, is_interrupt_kind}
-use Rattle.sim_machine.specs.LawfulConditions.{LawfulConditions}
+use Rattle.sim_machine.specs.LawfulProcesses.{LawfulProcesses, is_active}
+use Rattle.sim_machine.specs.LawfulInterruptions.{LawfulInterruptions, is_failed_interruption}
 use Rattle.sim_machine.specs.LawfulChains.{LawfulChains}
-use Rattle.sim_machine.specs.Lawful.{Lawful}
-use Rattle.sim_machine.proofs.KeptChains.{chains_scheduled}
-use Rattle.sim_machine.proofs.KeptConditionsEvents.{conditions_scheduled}
-use Rattle.sim_machine.proofs.KeptInterruptionsChanges.{all_made-fewer, interruptions-fewer, interruptions-schedules}
-use Rattle.sim_machine.proofs.KeptInterruptionsParts.{AllMade, KeepsHearing, StrikesAlone, all_made, all_made-kept, hearing-events, hearing-same, hearing-trans, interruptions-kept, interruptions-strikes}
-use Rattle.sim_machine.proofs.KeptProcessesChanges.{processes-same}
-use Rattle.sim_machine.proofs.KeptProcessesParts.{is_process-swap, living-events, living-same, living-trans}
-use Rattle.sim_machine.proofs.KeptRegistrations.{registrations_scheduled}
-use Rattle.sim_machine.proofs.KeptRegistrationsCalendar.{pending_unprocessed}
-use Rattle.sim_machine.proofs.KeptTimes.{times_registered, times_triggered}
+use Rattle.sim_machine_law.proofs.KeptChains.{chains_scheduled}
+use Rattle.sim_machine_law.proofs.KeptConditionsEvents.{conditions_scheduled}
+use Rattle.sim_machine_law.proofs.KeptInterruptionsChanges.{all_made-fewer, interruptions-fewer, interruptions-schedules}
+use Rattle.sim_machine_law.proofs.KeptInterruptionsParts.{AllMade, KeepsHearing, StrikesAlone, all_made, all_made-kept, hearing-events, hearing-same, hearing-trans, interruptions-kept, interruptions-strikes}
+use Rattle.sim_machine_law.proofs.KeptProcessesChanges.{processes-same}
+use Rattle.sim_machine_law.proofs.KeptProcessesParts.{is_process-swap, living-events, living-same, living-trans}
+use Rattle.sim_machine_law.proofs.KeptRegistrations.{registrations_scheduled}
+use Rattle.sim_machine_law.proofs.KeptRegistrationsCalendar.{pending_unprocessed}
+use Rattle.sim_machine_law.proofs.KeptTimes.{times_registered, times_triggered}
 use Rattle.sim_machine_law.proofs.EndedProcesses.{IsUnresumed, ended_state, is_other, lives-unresumed, processes-unresumed}
 use Rattle.sim_machine_law.proofs.LeavingCalendars.{LeavesScopes, leaves-all}
 use Rattle.sim_machine_law.proofs.StoppedWaiting.{Resumed, found_alive, resumed_at}
 use Rattle.sim_machine_law.proofs.StrippedControls.{without_resume, none-dropped, others-dropped, others_at-dropped, registrations_dropped, conditions_dropped, chains_dropped, strikes_dropped}
+use Rattle.sim_machine_law.proofs.LawfulBasis.{ConditionsBasis, LawfulBasis}
+use Rattle.sim_machine_law.proofs.KeptInterruptionsPolls.{process_no_interrupt}
 
 -- p runs, and q is another that is alive
 pub record MayDrop {B : Type 0} (s : State B) (e : EventId) (left : List Callback) (p : ProcId) (x : Signal) (q : ProcId) : Type 0 where
@@ -90,7 +87,7 @@ registrations_scopeless : {B : Type 0} (s : State B) (e : EventId) (left : List 
 registrations_scopeless s e left p x q active k h =
     k.leaves.proceeds.registrations (registrations_dropped (calendar s) e left p q x (target_of q (process_at q s)) (subst (λ (j : Control). LawfulRegistrations (calendar s) j) active h))
 
-pub times_dropped : {B : Type 0} (g : Plan B) (tell : Telling B) (sound : B → Type 0) (s : State B) (e : EventId) (left : List Callback) (p : ProcId) (x : Signal) (q : ProcId) (value : ℤ) → MayDrop s e left p x q → Lawful g tell sound s → LawfulTimes (calendar (drop_process q value s))
+pub times_dropped : {B : Type 0} (g : Plan B) (tell : Telling B) (sound : B → Type 0) (s : State B) (e : EventId) (left : List Callback) (p : ProcId) (x : Signal) (q : ProcId) (value : ℤ) → MayDrop s e left p x q → LawfulBasis g tell sound s → LawfulTimes (calendar (drop_process q value s))
 times_dropped g tell sound s e left p x q value may h =
     let k : IsScopeless s e left p x q = scopeless g.setup.events s e left p x q may h.processes in
     let d : Calendar = calendar (scopeless_state q s) in
@@ -99,7 +96,7 @@ times_dropped g tell sound s e left p x q value may h =
     times_triggered (event_of q) (outcome.Ok value) d own.1.made own.1.pending (pending_unprocessed d (event_of q) at.outcomes own.1.pending)
     (k.leaves.proceeds.times (times_registered (unregister (target_of q (process_at q s)) (is_resume_of q) (calendar s)).registered (calendar s) h.times))
 
-pub registrations_dropped_process : {B : Type 0} (g : Plan B) (tell : Telling B) (sound : B → Type 0) (s : State B) (e : EventId) (left : List Callback) (p : ProcId) (x : Signal) (q : ProcId) (value : ℤ) → MayDrop s e left p x q → Lawful g tell sound s → LawfulRegistrations (calendar (drop_process q value s)) (drop_process q value s).control
+pub registrations_dropped_process : {B : Type 0} (g : Plan B) (tell : Telling B) (sound : B → Type 0) (s : State B) (e : EventId) (left : List Callback) (p : ProcId) (x : Signal) (q : ProcId) (value : ℤ) → MayDrop s e left p x q → LawfulBasis g tell sound s → LawfulRegistrations (calendar (drop_process q value s)) (drop_process q value s).control
 registrations_dropped_process g tell sound s e left p x q value may h =
     let k : IsScopeless s e left p x q = scopeless g.setup.events s e left p x q may h.processes in
     let d : Calendar = calendar (scopeless_state q s) in
@@ -107,7 +104,7 @@ registrations_dropped_process g tell sound s e left p x q value may h =
     subst (λ (j : Control). LawfulRegistrations (trigger (event_of q) (outcome.Ok value) d) j) (sym k.control)
     (registrations_scheduled (event_of q) (outcome.Ok value) normal (pos 0) d l (registrations_scopeless s e left p x q may.active k h.registrations))
 
-pub chains_dropped_process : {B : Type 0} (g : Plan B) (tell : Telling B) (sound : B → Type 0) (s : State B) (e : EventId) (left : List Callback) (p : ProcId) (x : Signal) (q : ProcId) (value : ℤ) → MayDrop s e left p x q → Lawful g tell sound s → LawfulChains (calendar (drop_process q value s)) (drop_process q value s).control
+pub chains_dropped_process : {B : Type 0} (g : Plan B) (tell : Telling B) (sound : B → Type 0) (s : State B) (e : EventId) (left : List Callback) (p : ProcId) (x : Signal) (q : ProcId) (value : ℤ) → MayDrop s e left p x q → LawfulBasis g tell sound s → LawfulChains (calendar (drop_process q value s)) (drop_process q value s).control
 chains_dropped_process g tell sound s e left p x q value may h =
     let k : IsScopeless s e left p x q = scopeless g.setup.events s e left p x q may h.processes in
     let c : Calendar = calendar s in
@@ -119,19 +116,19 @@ chains_dropped_process g tell sound s e left p x q value may h =
     subst (λ (j : Control). LawfulChains (trigger (event_of q) (outcome.Ok value) d) j) (sym k.control)
     (chains_scheduled (event_of q) (outcome.Ok value) normal (pos 0) d l (registrations_scopeless s e left p x q may.active k h.registrations) (k.leaves.proceeds.chains (registrations_dropped c e left p q x target at) stopped))
 
-pub conditions_dropped_process : {B : Type 0} (g : Plan B) (tell : Telling B) (sound : B → Type 0) (s : State B) (e : EventId) (left : List Callback) (p : ProcId) (x : Signal) (q : ProcId) (value : ℤ) → MayDrop s e left p x q → Lawful g tell sound s → LawfulConditions (calendar (drop_process q value s)) (drop_process q value s).control
+pub conditions_dropped_process : {B : Type 0} (g : Plan B) (tell : Telling B) (sound : B → Type 0) (s : State B) (e : EventId) (left : List Callback) (p : ProcId) (x : Signal) (q : ProcId) (value : ℤ) → MayDrop s e left p x q → LawfulBasis g tell sound s → ConditionsBasis (calendar (drop_process q value s)) (drop_process q value s).control
 conditions_dropped_process g tell sound s e left p x q value may h =
     let k : IsScopeless s e left p x q = scopeless g.setup.events s e left p x q may h.processes in
     let c : Calendar = calendar s in
     let d : Calendar = calendar (scopeless_state q s) in
     let l : Control = without_resume e left p x q in
-    let stopped = conditions_dropped c e left p q x (target_of q (process_at q s)) (subst (λ (j : Control). LawfulConditions c j) may.active h.conditions) in
-    subst (λ (j : Control). LawfulConditions (trigger (event_of q) (outcome.Ok value) d) j) (sym k.control)
+    let stopped = conditions_dropped c e left p q x (target_of q (process_at q s)) (subst (λ (j : Control). ConditionsBasis c j) may.active h.conditions) in
+    subst (λ (j : Control). ConditionsBasis (trigger (event_of q) (outcome.Ok value) d) j) (sym k.control)
     (conditions_scheduled (event_of q) (outcome.Ok value) normal (pos 0) d l (k.leaves.proceeds.conditions stopped))
 
 -- ---- the processes
 
-pub processes_dropped : {B : Type 0} (g : Plan B) (tell : Telling B) (sound : B → Type 0) (s : State B) (e : EventId) (left : List Callback) (p : ProcId) (x : Signal) (q : ProcId) (value : ℤ) → MayDrop s e left p x q → Lawful g tell sound s → LawfulProcesses g.setup.events (drop_process q value s)
+pub processes_dropped : {B : Type 0} (g : Plan B) (tell : Telling B) (sound : B → Type 0) (s : State B) (e : EventId) (left : List Callback) (p : ProcId) (x : Signal) (q : ProcId) (value : ℤ) → MayDrop s e left p x q → LawfulBasis g tell sound s → LawfulProcesses g.setup.events (drop_process q value s)
 processes_dropped {B} g tell sound s e left p x q value may h =
     let k : IsScopeless s e left p x q = scopeless g.setup.events s e left p x q may h.processes in
     let d : Calendar = calendar (scopeless_state q s) in
@@ -139,11 +136,7 @@ processes_dropped {B} g tell sound s e left p x q value may h =
     let ended : State B = ended_state s q (outcome.Ok value) d l in
     processes-same g.setup.events ended (drop_process q value s) (ap (λ (ys : List (ProcessOf B)). filter (is_other q) ys) k.leaves.processes) refl k.control (processes-unresumed g.setup.events s q (outcome.Ok value) d l k.unresumed h.processes)
 
-process_no_interrupt : (k : EventKind) → is_process_kind k ≡ true → is_interrupt_kind k ≡ false
-process_no_interrupt kind.Process h = refl
-process_no_interrupt _ h = absurd (false≢true h)
-
-pub interruptions_dropped : {B : Type 0} (g : Plan B) (tell : Telling B) (sound : B → Type 0) (s : State B) (e : EventId) (left : List Callback) (p : ProcId) (x : Signal) (q : ProcId) (value : ℤ) → MayDrop s e left p x q → Lawful g tell sound s → LawfulInterruptions (drop_process q value s)
+pub interruptions_dropped : {B : Type 0} (g : Plan B) (tell : Telling B) (sound : B → Type 0) (s : State B) (e : EventId) (left : List Callback) (p : ProcId) (x : Signal) (q : ProcId) (value : ℤ) → MayDrop s e left p x q → LawfulBasis g tell sound s → LawfulInterruptions (drop_process q value s)
 interruptions_dropped {B} g tell sound s e left p x q value may h =
     let k : IsScopeless s e left p x q = scopeless g.setup.events s e left p x q may h.processes in
     let c : Calendar = calendar s in

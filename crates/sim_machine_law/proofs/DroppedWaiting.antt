@@ -26,19 +26,17 @@ use Rattle.sim_machine.specs.Tellings.{Telling}
 use Rattle.sim_machine.specs.MayFollow.{is_enter}
 use Rattle.sim_machine.specs.Standing.{was_made, kind_at}
 use Rattle.sim_machine.specs.LawfulProcesses.{is_process_kind}
-use Rattle.sim_machine.specs.LawfulWaiting.{LawfulWaiting, KnowsItsScopes, entered_by, is_cancelled_well, is_request_kind, is_scope_well, may_wait_kind, waits_well}
-use Rattle.sim_machine.specs.Lawful.{Lawful}
-use Rattle.sim_machine.proofs.EventLaws.{change_event-AllPass, change_event-length, change_event-other, is_same-self, is_same-yes, same_event}
-use Rattle.sim_machine.proofs.KeptBodies.{four_from, four_parts}
-use Rattle.sim_machine.proofs.KeptInterruptionsParts.{passes_at}
-use Rattle.sim_machine.proofs.KeptProcessesParts.{is_process-swap}
-use Rattle.sim_machine.proofs.KeptRegistrationsCalendar.{below_made, calm_scheduled, made_below}
-use Rattle.sim_machine_law.specs.WholeStates.{AreScopesApart}
+use Rattle.sim_machine.specs.LawfulWaiting.{KnowsItsScopes, entered_by, is_request_kind, is_scope_well, may_wait_kind, waits_well}
+use Rattle.sim_machine_law.proofs.EventLaws.{change_event-length, change_event-other, is_same-self, is_same-yes, same_event}
+use Rattle.sim_machine_law.proofs.KeptBodies.{four_from, four_parts}
+use Rattle.sim_machine_law.proofs.KeptProcessesParts.{is_process-swap}
+use Rattle.sim_machine_law.proofs.KeptRegistrationsCalendar.{below_made, calm_scheduled, made_below}
 use Rattle.sim_machine_law.proofs.ChangedFacilities.{scope_later}
 use Rattle.sim_machine_law.proofs.ClosedScopes.{AllClosed, Covered, IsOwnScope, WaitsBut, closed_scopes}
 use Rattle.sim_machine_law.proofs.DroppedProcess.{MayDrop, IsScopeless, scopeless, scopeless_state, stopped_state}
 use Rattle.sim_machine_law.proofs.EndedProcesses.{alive-other, is_other, lives-unresumed}
 use Rattle.sim_machine_law.proofs.StrippedControls.{without_resume}
+use Rattle.sim_machine_law.proofs.LawfulBasis.{AreScopesApart, LawfulBasis, WaitingBasis}
 
 -- ---- a list and its reverse
 
@@ -94,7 +92,7 @@ entered_stripped q (Over why e left) p v = refl
 
 -- ---- the state without the scopes
 
-closed_all : {B : Type 0} (g : Plan B) (tell : Telling B) (s : State B) (q : ProcId) → AreScopesApart s → LawfulWaiting g tell s → AllClosed g tell q (scopeless_state q s)
+closed_all : {B : Type 0} (g : Plan B) (tell : Telling B) (s : State B) (q : ProcId) → AreScopesApart s → WaitingBasis g tell s → AllClosed g tell q (scopeless_state q s)
 closed_all {B} g tell s q distinct h =
     let c : Calendar = calendar s in
     let u : State B = stopped_state q s in
@@ -113,7 +111,6 @@ closed_all {B} g tell s q distinct h =
     let waits : WaitsBut g tell q u = record {
       waiters = h.waiters;
       once = h.once;
-      cancelled = h.cancelled;
       requests = h.requests;
       using = h.using;
       scopes = h.scopes;
@@ -130,11 +127,11 @@ closed_all {B} g tell s q distinct h =
 
 -- ---- the process has ended
 
-kinds_apart : (k : EventKind) → is_process_kind k ≡ true → may_wait_kind k ≡ false
+pub kinds_apart : (k : EventKind) → is_process_kind k ≡ true → may_wait_kind k ≡ false
 kinds_apart kind.Process h = refl
 kinds_apart _ h = absurd (false≢true h)
 
-waiting_ended_other : {B : Type 0} (g : Plan B) (tell : Telling B) (t : State B) (q : ProcId) (value : ℤ) → is_process_kind (kind_at (calendar t) (event_of q)) ≡ true → AllClosed g tell q t → LawfulWaiting g tell (end_process q (outcome.Ok value) t)
+waiting_ended_other : {B : Type 0} (g : Plan B) (tell : Telling B) (t : State B) (q : ProcId) (value : ℤ) → is_process_kind (kind_at (calendar t) (event_of q)) ≡ true → AllClosed g tell q t → WaitingBasis g tell (end_process q (outcome.Ok value) t)
 waiting_ended_other {B} g tell t q value of h =
     let c : Calendar = calendar t in
     let e : EventId = event_of q in
@@ -152,7 +149,6 @@ waiting_ended_other {B} g tell t q value of h =
     record {
       waiters = All-weaker (λ w. waits_well c w ≡ true) (λ w. waits_well d w ≡ true) still t.facilities.waiters h.waits.waiters;
       once = h.waits.once;
-      cancelled = change_event-AllPass is_cancelled_well e change c (passes_at is_cancelled_well c e refl h.waits.cancelled) h.waits.cancelled;
       requests = h.waits.requests;
       using = h.waits.using;
       scopes = λ k x below.
@@ -163,7 +159,7 @@ waiting_ended_other {B} g tell t q value of h =
           All-filter (is_other q) (λ y. is_process y.id q ≡ false → KnowsItsScopes tell t y) t.processes h.waits.bodies k z below (not-true (is_process (get_or (filter (is_other q) t.processes) k z).id q) (filter_passes (is_other q) t.processes k z below));
     }
 
-pub waiting_dropped : {B : Type 0} (g : Plan B) (tell : Telling B) (sound : B → Type 0) (s : State B) (e : EventId) (left : List Callback) (p : ProcId) (x : Signal) (q : ProcId) (value : ℤ) → AreScopesApart s → MayDrop s e left p x q → Lawful g tell sound s → LawfulWaiting g tell (drop_process q value s)
+pub waiting_dropped : {B : Type 0} (g : Plan B) (tell : Telling B) (sound : B → Type 0) (s : State B) (e : EventId) (left : List Callback) (p : ProcId) (x : Signal) (q : ProcId) (value : ℤ) → AreScopesApart s → MayDrop s e left p x q → LawfulBasis g tell sound s → WaitingBasis g tell (drop_process q value s)
 waiting_dropped g tell sound s e left p x q value distinct may h =
     let k : IsScopeless s e left p x q = scopeless g.setup.events s e left p x q may h.processes in
     let own = lives-unresumed g.setup.events s q (calendar (scopeless_state q s)) (without_resume e left p x q) k.unresumed h.processes in

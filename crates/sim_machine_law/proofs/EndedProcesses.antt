@@ -18,11 +18,11 @@ use Rattle.sim_machine.specs.Processes.{event_of, is_alive}
 use Rattle.sim_machine.specs.Effect.{calendar}
 use Rattle.sim_machine.specs.Standing.{kind_at, all_callbacks_of, callbacks_in_all}
 use Rattle.sim_machine.specs.LawfulProcesses.{LawfulProcesses, is_active, is_living_well, is_ok_zero, is_plain_kind, is_process_kind, is_waiting_well}
-use Rattle.sim_machine.proofs.EventLaws.{change_event-keeps, change_event-length, change_event-other}
-use Rattle.sim_machine.proofs.KeptProcesses.{alive_has}
-use Rattle.sim_machine.proofs.KeptProcessesParts.{KeepsLiving, LivesWell, WaitsOnce, is_process-swap, is_process-yes, lives_on, lives_well, living_well, named_plain_on, waiting_active, waiting_well, waits_once}
+use Rattle.sim_machine_law.proofs.EventLaws.{change_event-keeps, change_event-length, change_event-other}
+use Rattle.sim_machine_law.proofs.KeptProcesses.{alive_has}
+use Rattle.sim_machine_law.proofs.KeptProcessesParts.{KeepsLiving, LivesWell, WaitsOnce, is_process-swap, is_process-yes, lives_on, lives_well, living_well, named_plain_on, waiting_active, waiting_well, waits_once}
 
-kinds_differ : (k : EventKind) → is_process_kind k ≡ true → is_plain_kind k ≡ true → ⊥
+pub kinds_differ : (k : EventKind) → is_process_kind k ≡ true → is_plain_kind k ≡ true → ⊥
 kinds_differ kind.Process a b = false≢true b
 kinds_differ _ a b = false≢true a
 

@@ -18,18 +18,17 @@ use Rattle.sim_machine.specs.Conditions.{condition_of, condition_at, members_of,
 use Rattle.sim_machine.specs.Triggering.{succeed}
 use Rattle.sim_machine.specs.Standing.{one_if, kind_at}
 use Rattle.sim_machine.specs.LawfulInterruptions.{is_interrupt_kind, is_unheard_kind}
-use Rattle.sim_machine.specs.LawfulConditions.{LawfulConditions, is_build_of, is_to_be_built, checks_at, times_member, is_empty, needs_build, first_passes}
-use Rattle.sim_machine.proofs.EventLaws.{is_same-yes, change_event-keeps}
-use Rattle.sim_machine.proofs.CallbackLaws.{count_by-cons, count_by-append, count_by-one, counts_one, counts_none, counts_not, callbacks_of-register, callbacks_of-register_other, callbacks_at-register}
-use Rattle.sim_machine.proofs.KeptTimesCases.{if_cases}
-use Rattle.sim_machine.proofs.KeptRegistrationsCalendar.{made_if}
-use Rattle.sim_machine.proofs.KeptConditions.{older_same, older_everywhere}
-use Rattle.sim_machine_law.specs.WholeStates.{is_cond_kind}
+use Rattle.sim_machine.specs.LawfulConditions.{is_condition_kind, is_build_of, is_to_be_built, checks_at, times_member, is_empty, needs_build, first_passes}
+use Rattle.sim_machine_law.proofs.EventLaws.{is_same-yes, change_event-keeps}
+use Rattle.sim_machine_law.proofs.CallbackLaws.{count_by-cons, count_by-append, count_by-one, counts_one, counts_none, counts_not, callbacks_of-register, callbacks_of-register_other, callbacks_at-register}
+use Rattle.sim_machine_law.proofs.KeptTimesCases.{if_cases}
+use Rattle.sim_machine_law.proofs.KeptRegistrationsCalendar.{made_if}
+use Rattle.sim_machine_law.proofs.KeptConditions.{first_stays, weaker_or, older_same, older_everywhere}
 use Rattle.sim_machine_law.proofs.TakenCalendars.{MayTake, hears}
 use Rattle.sim_machine_law.proofs.TakenChanges.{take_registered}
 use Rattle.sim_machine_law.proofs.CheckedConditions.{SameConditions, same_checked, check_cases, conditions_checked, take_checked}
 use Rattle.sim_machine_law.proofs.CalledCheck.{has_some}
-use Rattle.sim_machine_law.proofs.TakenOut.{weaker_or}
+use Rattle.sim_machine_law.proofs.LawfulBasis.{ConditionsBasis}
 
 -- ---- a check leaves registrations as they are, whichever these are
 
@@ -46,14 +45,14 @@ check_registered : (cond m e : EventId) (x : Callback) (c : Calendar) → check 
 check_registered cond m e x c =
     ap (λ (d : Calendar). if is_pending c cond then d else register e x c) (judge_registered cond m e x (event_at c m).outcome (count_member cond c)) ∙ if_both (register e x) (is_pending c cond) (judge cond m (event_at c m).outcome (count_member cond c)) c
 
-kind_checked : (cond m : EventId) (c : Calendar) → is_cond_kind (kind_at c cond) ≡ true → is_cond_kind (kind_at (check cond m c) cond) ≡ true
+kind_checked : (cond m : EventId) (c : Calendar) → is_condition_kind (kind_at c cond) ≡ true → is_condition_kind (kind_at (check cond m c) cond) ≡ true
 kind_checked cond m c h =
     let n : Calendar = count_member cond c in
-    let one : is_cond_kind (kind_at n cond) ≡ true = change_event-keeps (λ x. is_cond_kind x.kind) cond cond (λ x. record x { condition = Some (record (condition_of x.condition) { count = (condition_of x.condition).count + 1 }) }) c (λ x. refl) ∙ h in
-    let two : is_cond_kind (kind_at (defuse m n) cond) ≡ true = change_event-keeps (λ x. is_cond_kind x.kind) m cond (λ x. record x { defused = true }) n (λ x. refl) ∙ one in
-    check_cases (λ d. is_cond_kind (kind_at d cond) ≡ true) cond m c
-    (λ pending t. change_event-keeps (λ x. is_cond_kind x.kind) cond cond (λ x. record x { outcome = Some (outcome.Fail t) }) (defuse m n) (λ x. refl) ∙ two)
-    (λ pending. change_event-keeps (λ x. is_cond_kind x.kind) cond cond (λ x. record x { outcome = Some (outcome.Ok (pos 0)) }) n (λ x. refl) ∙ one)
+    let one : is_condition_kind (kind_at n cond) ≡ true = change_event-keeps (λ x. is_condition_kind x.kind) cond cond (λ x. record x { condition = Some (record (condition_of x.condition) { count = (condition_of x.condition).count + 1 }) }) c (λ x. refl) ∙ h in
+    let two : is_condition_kind (kind_at (defuse m n) cond) ≡ true = change_event-keeps (λ x. is_condition_kind x.kind) m cond (λ x. record x { defused = true }) n (λ x. refl) ∙ one in
+    check_cases (λ d. is_condition_kind (kind_at d cond) ≡ true) cond m c
+    (λ pending t. change_event-keeps (λ x. is_condition_kind x.kind) cond cond (λ x. record x { outcome = Some (outcome.Fail t) }) (defuse m n) (λ x. refl) ∙ two)
+    (λ pending. change_event-keeps (λ x. is_condition_kind x.kind) cond cond (λ x. record x { outcome = Some (outcome.Ok (pos 0)) }) n (λ x. refl) ∙ one)
     (λ pending not_met. one)
     h
 
@@ -63,15 +62,15 @@ kind_checked cond m c h =
 -- each member that is left may get a check
 pub record IsJoined {B : Type 0} (s : State B) (cond : EventId) (left : List EventId) (d : Calendar) : Type 0 where
   pub take : MayTake s d
-  pub conditions : LawfulConditions (register cond (callback.Build cond) d) s.control
+  pub conditions : ConditionsBasis (register cond (callback.Build cond) d) s.control
   pub room : (f : EventId) → checks_at d s.control cond f + count_by (is_same f) left ≤ times_member d cond f
   pub some : is_empty (members_of d cond) ≡ false
-  pub kind : is_cond_kind (kind_at d cond) ≡ true
+  pub kind : is_condition_kind (kind_at d cond) ≡ true
   pub unprocessed : is_processed d cond ≡ false
   pub nonzero : cond.0 ≢ 0
 
 pub joined_made : {B : Type 0} (s : State B) (cond : EventId) (left : List EventId) (d : Calendar) → IsJoined s cond left d → cond.0 < length d.events
-joined_made s cond left d h = made_if (λ x. is_cond_kind x.kind) d cond refl h.kind
+joined_made s cond left d h = made_if (λ x. is_condition_kind x.kind) d cond refl h.kind
 
 -- a member that is processed is checked
 joins_checked : {B : Type 0} (s : State B) (cond m : EventId) (left : List EventId) (d : Calendar) → IsJoined s cond (m ∷ left) d → IsJoined s cond left (check cond m d)
@@ -83,7 +82,7 @@ joins_checked s cond m left d h =
     let same : SameConditions d n = same_checked cond m d in
     record {
       take = take_checked s cond m d made h.nonzero h.kind h.take;
-      conditions = subst (λ z. LawfulConditions z k) (check_registered cond m cond build d) (conditions_checked cond m (register cond build d) k made (has_some (event_at d cond).condition h.some) h.conditions);
+      conditions = subst (λ z. ConditionsBasis z k) (check_registered cond m cond build d) (conditions_checked cond m (register cond build d) k made (has_some (event_at d cond).condition h.some) h.conditions);
       room = λ f. rw (same.registered, same.members cond) (omega (arith, h.room f, count_by-cons (is_same f) m left));
       some = ap (λ (ms : List EventId). is_empty ms) (same.members cond) ∙ h.some;
       kind = kind_checked cond m d h.kind;
@@ -93,14 +92,10 @@ joins_checked s cond m left d h =
 
 -- ---- a check is registered before the build
 
-first_more : (p : Callback → Bool) (xs ys : List Callback) → first_passes p xs ≡ true → first_passes p (xs ++ ys) ≡ true
-first_more p [] ys h = absurd (false≢true h)
-first_more p (x ∷ xs) ys h = h
-
 same_swapped : (e f : EventId) → is_same e f ≡ is_same f e
 same_swapped e f = grind (arith, nat_tests)
 
-conditions_joining : (cond m : EventId) (left : List EventId) (d : Calendar) (k : Control) → is_same m cond ≡ false → is_processed d cond ≡ false → ((f : EventId) → checks_at d k cond f + count_by (is_same f) (m ∷ left) ≤ times_member d cond f) → LawfulConditions (register cond (callback.Build cond) d) k → LawfulConditions (register cond (callback.Build cond) (register m (callback.Check cond) d)) k
+conditions_joining : (cond m : EventId) (left : List EventId) (d : Calendar) (k : Control) → is_same m cond ≡ false → is_processed d cond ≡ false → ((f : EventId) → checks_at d k cond f + count_by (is_same f) (m ∷ left) ≤ times_member d cond f) → ConditionsBasis (register cond (callback.Build cond) d) k → ConditionsBasis (register cond (callback.Build cond) (register m (callback.Check cond) d)) k
 conditions_joining cond m left d k apart unprocessed room h =
     let build : Callback = callback.Build cond in
     let x : Callback = callback.Check cond in
@@ -135,7 +130,7 @@ conditions_joining cond m left d k apart unprocessed room h =
             let equal : callbacks_of other new ≡ callbacks_of other old = callbacks_of-register cond other build n ∙ (ap (λ (xs : List Callback). xs ++ (if is_same cond other then build ∷ [] else [])) (callbacks_of-register_other m other x d far) ∙ sym (callbacks_of-register cond other build d)) in
             ap (first_passes (is_build_of other)) equal ∙ w)
         | inr far ↦ (let plain : first_passes (is_build_of other) (callbacks_of other d) ≡ true = ap (first_passes (is_build_of other)) (sym (callbacks_of-register_other cond other build d far)) ∙ w in
-            ap (first_passes (is_build_of other)) (callbacks_of-register_other cond other build n far ∙ callbacks_of-register m other x d) ∙ first_more (is_build_of other) (callbacks_of other d) (if is_same m other then x ∷ [] else []) plain)
+            ap (first_passes (is_build_of other)) (callbacks_of-register_other cond other build n far ∙ callbacks_of-register m other x d) ∙ first_stays (is_build_of other) (callbacks_of other d) (if is_same m other then x ∷ [] else []) plain)
       ]) (h.first other);
       left = h.left;
     }

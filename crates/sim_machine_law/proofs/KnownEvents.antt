@@ -25,10 +25,10 @@ use Rattle.sim_machine.specs.LawfulProcesses.{LawfulProcesses, is_plain_kind, is
 use Rattle.sim_machine.specs.LawfulInterruptions.{is_unheard_kind}
 use Rattle.sim_machine.specs.LawfulBodies.{place_fits, told_fits}
 use Rattle.sim_machine.specs.LawfulChains.{is_trigger_kind, is_triggered_kind}
-use Rattle.sim_machine.proofs.EventLaws.{same_event, is_same-yes}
-use Rattle.sim_machine.proofs.KeptTimes.{found_pending}
-use Rattle.sim_machine.proofs.KeptBodies.{IsBodyWell, bodies_well, find_has, find_passes, places_polled}
-use Rattle.sim_machine.proofs.KeptBodiesPolls.{told_active, own_number}
+use Rattle.sim_machine_law.proofs.EventLaws.{same_event, is_same-yes}
+use Rattle.sim_machine_law.proofs.KeptTimes.{found_pending}
+use Rattle.sim_machine_law.proofs.KeptBodies.{IsBodyWell, bodies_well, find_has, find_passes, places_polled}
+use Rattle.sim_machine_law.proofs.KeptBodiesPolls.{told_active, own_number}
 use Rattle.sim_machine_law.proofs.ChangedCalendars.{HasAsked}
 
 -- an event that was made, and whose kind passes the test

@@ -22,20 +22,21 @@ use Rattle.sim_machine.specs.LawfulTimes.{LawfulTimes}
 use Rattle.sim_machine.specs.LawfulRegistrations.{LawfulRegistrations}
 use Rattle.sim_machine.specs.LawfulProcesses.{is_process_kind}
 use Rattle.sim_machine.specs.LawfulInterruptions.{is_strike, is_interrupt_kind, is_failed_interruption}
-use Rattle.sim_machine.specs.LawfulConditions.{LawfulConditions}
 use Rattle.sim_machine.specs.LawfulChains.{LawfulChains, chains_well}
 use Rattle.sim_machine.specs.Events.{is_resume_of}
-use Rattle.sim_machine.proofs.EventLaws.{change_event-keeps, make-new}
-use Rattle.sim_machine.proofs.TimeLaws.{events_changed}
-use Rattle.sim_machine.proofs.KeptTimes.{new_scheduled}
-use Rattle.sim_machine.proofs.KeptTimesCases.{if_cases}
-use Rattle.sim_machine.proofs.KeptRegistrationsCalendar.{Calm, calm_changed, calm_made, calm_scheduled, calm_self, calm_then}
-use Rattle.sim_machine.proofs.KeptRegistrations.{registrations_calm, registrations_new}
-use Rattle.sim_machine.proofs.KeptProcessesParts.{KeepsLiving, KeepsResumes, living-changed, living-events, living-made, living-same, living-scheduled, living-trans, resumes-registered, resumes-same}
-use Rattle.sim_machine.proofs.KeptInterruptionsParts.{KeepsHearing, StrikesAlone, hearing-changed, hearing-events, hearing-made, hearing-same, hearing-scheduled, hearing-trans, strikes-kept, strikes-registered}
-use Rattle.sim_machine.proofs.KeptConditions.{IsNoConditions, conditions_registered}
-use Rattle.sim_machine.proofs.KeptConditionsEvents.{conditions_event_changed, conditions_made, conditions_scheduled}
-use Rattle.sim_machine.proofs.KeptChains.{chains_later, chains_new}
+use Rattle.sim_machine_law.proofs.EventLaws.{change_event-keeps, make-new}
+use Rattle.sim_machine_law.proofs.TimeLaws.{events_changed}
+use Rattle.sim_machine_law.proofs.KeptTimes.{new_scheduled}
+use Rattle.sim_machine_law.proofs.KeptTimesCases.{if_cases}
+use Rattle.sim_machine_law.proofs.KeptRegistrationsCalendar.{Calm, calm_changed, calm_made, calm_scheduled, calm_self, calm_then}
+use Rattle.sim_machine_law.proofs.KeptRegistrations.{registrations_calm, registrations_new}
+use Rattle.sim_machine_law.proofs.KeptProcessesParts.{KeepsLiving, KeepsResumes, living-changed, living-events, living-made, living-same, living-scheduled, living-trans, resumes-registered, resumes-same}
+use Rattle.sim_machine_law.proofs.KeptInterruptionsParts.{KeepsHearing, StrikesAlone, hearing-changed, hearing-events, hearing-made, hearing-same, hearing-scheduled, hearing-trans, strikes-kept, strikes-registered}
+use Rattle.sim_machine_law.proofs.KeptConditions.{IsNoConditions, conditions_registered}
+use Rattle.sim_machine_law.proofs.KeptConditionsEvents.{conditions_event_changed, conditions_made, conditions_scheduled}
+use Rattle.sim_machine_law.proofs.KeptChains.{chains_later, chains_new}
+use Rattle.sim_machine_law.proofs.ScheduledOnce.{outcomes_changed}
+use Rattle.sim_machine_law.proofs.LawfulBasis.{ConditionsBasis}
 
 -- ---- what is lawful in a calendar stays so
 
@@ -47,7 +48,7 @@ pub record Proceeds (k : Control) (c d : Calendar) : Type 0 where
   pub resumes : KeepsResumes c k d k
   pub hearing : KeepsHearing c d
   pub strikes : StrikesAlone c k → StrikesAlone d k
-  pub conditions : LawfulConditions c k → LawfulConditions d k
+  pub conditions : ConditionsBasis c k → ConditionsBasis d k
   pub chains : LawfulRegistrations c k → LawfulChains c k → LawfulChains d k
 
 pub proceeds-same : (k : Control) (c : Calendar) → Proceeds k c c
@@ -87,7 +88,7 @@ proceeds-cancelled k e c =
     let hearing : KeepsHearing c d = hearing-changed e change c (λ x. refl) (λ x. refl) (λ x h. h) in
     record {
       calm = calm;
-      times = λ h. events_changed c d.events (λ f. change_event-keeps (λ x. not (is_none x.outcome) && not x.processed) e f change c (λ x. refl)) h;
+      times = λ h. events_changed c d.events (λ f. change_event-keeps (λ x. not (is_none x.outcome) && not x.processed) e f change c (λ x. refl)) (outcomes_changed e change c (λ x. refl)) h;
       registrations = λ h. registrations_calm c d k calm refl h;
       living = λ some. living-changed e change c (λ x. refl) (λ x. refl) (λ x h. h);
       resumes = resumes-same c k d k refl refl (λ f. refl) (λ p. refl);

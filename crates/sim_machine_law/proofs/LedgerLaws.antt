@@ -1,117 +1,16 @@
--- What a deed more makes of the users, the items and the level of a resource, and when it keeps the capacities.
-use Rattle.std.proofs.Common.{◌≡◌, ◌≢◌, ℕ, ◌+◌, ◌<◌, ◌≤◌, ℤ, pos, ◌≤ℤ◌, ◌+ℤ◌, ◌-ℤ◌, Bool, true, false, ◌||◌, ◌&&◌, not, List, [], ◌∷◌, ◌++◌, length, refl, sym, subst, ap, ◌∙◌, if◌then◌else◌, arith, length-append, All}
+-- When a deed more keeps to the capacities of all resources.
+use Rattle.std.proofs.Common.{◌≡◌, ℕ, ◌+◌, ◌<◌, ◌≤◌, ℤ, pos, ◌≤ℤ◌, ◌+ℤ◌, ◌-ℤ◌, Bool, true, false, ◌&&◌, List, [], ◌∷◌, ◌++◌, length, refl, sym, subst, ap, if◌then◌else◌, arith}
 use Rattle.std.specs.Prelude.{◌==◌, int_lt, int_le}
-use Rattle.std.specs.List.{list_any, AllPass}
-use Rattle.std.proofs.lemmas.Bool.{and_parts, eqb-true, both_ways, not-true, or_left, or_right}
+use Rattle.std.specs.List.{AllPass}
+use Rattle.std.proofs.lemmas.Bool.{and_parts, eqb-true}
 use Rattle.std.proofs.lemmas.Int.{ints}
 use Rattle.std.proofs.lemmas.Bool.Decides.{nat_tests}
-use Rattle.std.proofs.lemmas.List.Folds.{list_any-append}
-use Rattle.std.proofs.lemmas.List.Elements.{All-nil, All-cons, All-head, All-tail, All-append}
-use Rattle.sim_types.specs.declared.event.EventId.{EventId}
 use Rattle.sim_types.specs.declared.setup.Resource.{Resource}
-use Rattle.sim_machine.specs.State.{User, Item, Deed, Granted, Released, Preempted, Deposited, Taken, Filled, Drained, Facilities}
-use Rattle.sim_machine.specs.Users.{resource_at, ends_use, user_by, users, change_of_level, level_after, takes_item, item_by, items}
+use Rattle.sim_machine.specs.State.{User, Item, Deed, Granted, Deposited, Filled, Drained, Facilities}
+use Rattle.sim_machine.specs.Users.{resource_at, user_by, users, change_of_level, level_after, item_by, items}
 use Rattle.sim_machine.specs.Trying.{write_deed, level}
 use Rattle.sim_machine.specs.LawfulCapacities.{LawfulCapacities, is_in_use}
-use Rattle.sim_machine.specs.Events.{is_same}
-use Rattle.sim_machine.proofs.EventLaws.{is_same-self}
-use Rattle.sim_machine.proofs.CapacityLaws.{users_more}
-
--- ---- users
-
--- what holds of all of two lists holds of all of each
-pub All-first : {X : Type 0} (P : X → Type 0) (xs ys : List X) → All P (xs ++ ys) → All P xs
-All-first P [] ys h = All-nil P
-All-first P (x ∷ xs) ys h = All-cons P x xs (All-head P x (xs ++ ys) h) (All-first P xs ys (All-tail P x (xs ++ ys) h))
-
-pub All-second : {X : Type 0} (P : X → Type 0) (xs ys : List X) → All P (xs ++ ys) → All P ys
-All-second P [] ys h = h
-All-second P (x ∷ xs) ys h = All-second P xs ys (All-tail P x (xs ++ ys) h)
-
-if_fewer : {X : Type 0} (P : X → Type 0) (u : X) (m a b : Bool) → All P (if m && not a then u ∷ [] else []) → All P (if m && not (a || b) then u ∷ [] else [])
-if_fewer P u false a b h = h
-if_fewer P u true true b h = h
-if_fewer P u true false true h = All-nil P
-if_fewer P u true false false h = h
-
-user_by_later : (P : User → Type 0) (res : ℕ) (x d : Deed) (later : List Deed) → All P (user_by res x later) → All P (user_by res x (later ++ d ∷ []))
-user_by_later P res (Granted at u) d later h =
-    subst (λ (b : Bool). All P (if (at == res) && not b then u ∷ [] else [])) (sym (list_any-append (ends_use u.request) later (d ∷ []))) (if_fewer P u (at == res) (list_any (ends_use u.request) later) (list_any (ends_use u.request) (d ∷ [])) h)
-user_by_later P res (Released at r) d later h = h
-user_by_later P res (Preempted at r) d later h = h
-user_by_later P res (Deposited at x) d later h = h
-user_by_later P res (Taken at p) d later h = h
-user_by_later P res (Filled at n) d later h = h
-user_by_later P res (Drained at n) d later h = h
-
--- after a deed the users are of those before, or of those that it makes
-pub users_after : (P : User → Type 0) (res : ℕ) (d : Deed) (ledger : List Deed) → All P (users res ledger) → All P (user_by res d []) → All P (users res (ledger ++ d ∷ []))
-users_after P res d [] h new = All-append P (user_by res d []) [] new (All-nil P)
-users_after P res d (x ∷ later) h new =
-    All-append P (user_by res x (later ++ d ∷ [])) (users res (later ++ d ∷ []))
-    (user_by_later P res x d later (All-first P (user_by res x later) (users res later) h))
-    (users_after P res d later (All-second P (user_by res x later) (users res later) h) new)
-
-if_one : {X : Type 0} (P : X → Type 0) (u : X) (b : Bool) → (b ≡ true → P u) → All P (if b then u ∷ [] else [])
-if_one P u true h = All-cons P u [] (h refl) (All-nil P)
-if_one P u false h = All-nil P
-
--- a grant makes one user of its resource
-pub granted_users : (P : User → Type 0) (res at : ℕ) (u : User) → ((at == res) ≡ true → P u) → All P (user_by res (Granted at u) [])
-granted_users P res at u h = if_one P u ((at == res) && true) (λ b. h (and_parts (at == res) true b).0)
-
--- a release leaves no user of its request, at any resource
-user_without : (n res : ℕ) (r : EventId) (x : Deed) (later : List Deed) → All (λ (u : User). u.request ≢ r) (user_by n x (later ++ Released res r ∷ []))
-user_without n res r (Granted at u) later =
-    let d : Deed = Released res r in
-    let ended : Bool = list_any (ends_use u.request) (later ++ d ∷ []) in
-    if_one (λ (v : User). v.request ≢ r) u ((at == n) && not ended) (λ b same. both_ways ended (not-true ended (and_parts (at == n) (not ended) b).1)
-    (list_any-append (ends_use u.request) later (d ∷ []) ∙ or_right (list_any (ends_use u.request) later) (list_any (ends_use u.request) (d ∷ [])) (or_left (ends_use u.request d) false (ap (λ (e : EventId). is_same e r) same ∙ is_same-self r))))
-user_without n res r _ later = All-nil (λ (u : User). u.request ≢ r)
-
-pub users_without : (n res : ℕ) (r : EventId) (ledger : List Deed) → All (λ (u : User). u.request ≢ r) (users n (ledger ++ Released res r ∷ []))
-users_without n res r [] = All-nil (λ (u : User). u.request ≢ r)
-users_without n res r (x ∷ later) =
-    All-append (λ (u : User). u.request ≢ r) (user_by n x (later ++ Released res r ∷ [])) (users n (later ++ Released res r ∷ [])) (user_without n res r x later) (users_without n res r later)
-
--- a preemption leaves no user of its request, at any resource
-user_preempted : (n res : ℕ) (r : EventId) (x : Deed) (later : List Deed) → All (λ (u : User). u.request ≢ r) (user_by n x (later ++ Preempted res r ∷ []))
-user_preempted n res r (Granted at u) later =
-    let d : Deed = Preempted res r in
-    let ended : Bool = list_any (ends_use u.request) (later ++ d ∷ []) in
-    if_one (λ (v : User). v.request ≢ r) u ((at == n) && not ended) (λ b same. both_ways ended (not-true ended (and_parts (at == n) (not ended) b).1)
-    (list_any-append (ends_use u.request) later (d ∷ []) ∙ or_right (list_any (ends_use u.request) later) (list_any (ends_use u.request) (d ∷ [])) (or_left (ends_use u.request d) false (ap (λ (e : EventId). is_same e r) same ∙ is_same-self r))))
-user_preempted n res r _ later = All-nil (λ (u : User). u.request ≢ r)
-
-pub users_preempted : (n res : ℕ) (r : EventId) (ledger : List Deed) → All (λ (u : User). u.request ≢ r) (users n (ledger ++ Preempted res r ∷ []))
-users_preempted n res r [] = All-nil (λ (u : User). u.request ≢ r)
-users_preempted n res r (x ∷ later) =
-    All-append (λ (u : User). u.request ≢ r) (user_by n x (later ++ Preempted res r ∷ [])) (users n (later ++ Preempted res r ∷ [])) (user_preempted n res r x later) (users_preempted n res r later)
-
--- ---- items
-
-item_of_one : (res at : ℕ) (x : Item) (a b : Bool) → length (if (at == res) && not (a || (b || false)) then x ∷ [] else []) ≤ length (if (at == res) && not a then x ∷ [] else [])
-item_of_one res at x a b = grind (arith, nat_tests)
-
-item_by_more : (res : ℕ) (x d : Deed) (later : List Deed) → length (item_by res x (later ++ d ∷ [])) ≤ length (item_by res x later)
-item_by_more res (Deposited at x) d later = rw (list_any-append (takes_item x.put) later (d ∷ [])) (item_of_one res at x (list_any (takes_item x.put) later) (takes_item x.put d))
-item_by_more res (Granted at u) d later = omega arith
-item_by_more res (Released at r) d later = omega arith
-item_by_more res (Preempted at r) d later = omega arith
-item_by_more res (Taken at p) d later = omega arith
-item_by_more res (Filled at n) d later = omega arith
-item_by_more res (Drained at n) d later = omega arith
-
-pub items_more : (res : ℕ) (d : Deed) (ledger : List Deed) → length (items res (ledger ++ d ∷ [])) ≤ length (items res ledger) + length (item_by res d [])
-items_more res d [] = rw (length-append (item_by res d []) []) (omega arith)
-items_more res d (x ∷ later) =
-    rw (length-append (item_by res x (later ++ d ∷ [])) (items res (later ++ d ∷ [])), length-append (item_by res x later) (items res later)) (omega (arith, item_by_more res x d later, items_more res d later))
-
--- ---- levels
-
-pub level_more : (start : ℤ) (res : ℕ) (d : Deed) (ledger : List Deed) → level_after start res (ledger ++ d ∷ []) ≡ level_after start res ledger +ℤ change_of_level res d
-level_more start res d [] = refl
-level_more start res d (x ∷ later) = level_more (start +ℤ change_of_level res x) res d later
+use Rattle.sim_machine_law.proofs.LedgerSteps.{users_more, users_after, items_more, level_more}
 
 -- ---- capacities
 

@@ -1,28 +1,27 @@
 -- A scope is left: no capacity is exceeded then that was not before. Users go, and levels and items stay.
-use Rattle.std.proofs.Common.{◌≡◌, ℕ, ◌≤◌, ℤ, pos, ◌≤ℤ◌, ◌+ℤ◌, Bool, true, false, ◌||◌, ◌&&◌, not, List, [], ◌∷◌, ◌++◌, filter, length, refl, sym, subst, ap, ◌∙◌, if◌then◌else◌, arith}
-use Rattle.std.specs.Prelude.{◌==◌, fold, nat_lt}
-use Rattle.std.specs.List.{list_any, AllPass}
+use Rattle.std.proofs.Common.{◌≡◌, ℕ, ◌≤◌, ℤ, pos, ◌≤ℤ◌, Bool, true, ◌&&◌, not, List, [], ◌∷◌, ◌++◌, filter, length, refl, sym, subst, arith}
+use Rattle.std.specs.Prelude.{fold, nat_lt}
+use Rattle.std.specs.List.{AllPass}
 use Rattle.std.proofs.lemmas.Int.{ints}
 use Rattle.std.proofs.lemmas.List.Elements.{All-filter, All-same, All-weaker}
-use Rattle.std.proofs.lemmas.List.Folds.{list_any-append}
 use Rattle.sim_types.specs.declared.event.EventId.{EventId}
 use Rattle.sim_types.specs.declared.event.ProcId.{ProcId}
 use Rattle.sim_types.specs.declared.event.Outcome.TheVariants as outcome
 use Rattle.sim_types.specs.declared.setup.Resource.{Resource}
-use Rattle.sim_machine.specs.State.{Calendar, Waiter, User, Deed, Granted, Released, Preempted, Deposited, Taken, Filled, Drained, Facilities, OpenScope, State}
+use Rattle.sim_machine.specs.State.{Calendar, Waiter, User, Deed, Released, Facilities, OpenScope, State}
 use Rattle.sim_machine.specs.Events.{is_same, unregister, is_resume_of}
 use Rattle.sim_machine.specs.Triggering.{normal, trigger}
-use Rattle.sim_machine.specs.Users.{resource_at, users, change_of_level, level_after, takes_item, item_by, items}
+use Rattle.sim_machine.specs.Users.{resource_at, users, level_after, items}
 use Rattle.sim_machine.specs.Trying.{write_deed}
 use Rattle.sim_machine.specs.Requests.{is_user, leave}
 use Rattle.sim_machine.specs.Scopes.{close_scope, scopes_inwards}
 use Rattle.sim_machine.specs.Processes.{event_of, process_at, target_of, drop_process}
 use Rattle.sim_machine.specs.Effect.{calendar}
 use Rattle.sim_machine.specs.LawfulCapacities.{LawfulCapacities, is_in_use, waits_for_fitting}
-use Rattle.sim_machine.proofs.CapacityLaws.{users_more}
-use Rattle.sim_machine.proofs.KeptCapacities.{capacities_later}
-use Rattle.sim_machine.proofs.KeptRegistrationsCalendar.{Later, calm_scheduled, later_self}
-use Rattle.sim_machine.proofs.KeptTimesCases.{if_cases}
+use Rattle.sim_machine_law.proofs.LedgerSteps.{users_more, items_released, level_released}
+use Rattle.sim_machine_law.proofs.KeptCapacities.{capacities_later}
+use Rattle.sim_machine_law.proofs.KeptRegistrationsCalendar.{Later, calm_scheduled, later_self}
+use Rattle.sim_machine_law.proofs.KeptTimesCases.{if_cases}
 use Rattle.sim_machine_law.proofs.DroppedProcess.{scopeless_state, stopped_state}
 use Rattle.sim_machine_law.proofs.LeavingCalendars.{proceeds-left}
 use Rattle.sim_machine_law.proofs.ReleasedUsers.{UsesOther, ledger_cancelled, release_made, released_users, waiters_left}
@@ -35,29 +34,6 @@ record KeepsLedger (a b : List Deed) : Type 0 where
   no_others : (test : User → Bool) (res : ℕ) → AllPass test (users res a) → AllPass test (users res b)
   levels : (start : ℤ) (res : ℕ) → level_after start res b ≡ level_after start res a
   same_items : (res : ℕ) → items res b ≡ items res a
-
-level_released : (start : ℤ) (res at : ℕ) (request : EventId) (ledger : List Deed) → level_after start res (ledger ++ Released at request ∷ []) ≡ level_after start res ledger
-level_released start res at request [] = omega (arith, ints)
-level_released start res at request (d ∷ later) = level_released (start +ℤ change_of_level res d) res at request later
-
-or_none : (a : Bool) → (a || (false || false)) ≡ a
-or_none true = refl
-or_none false = refl
-
-item_by_released : (res at : ℕ) (request : EventId) (d : Deed) (later : List Deed) → item_by res d (later ++ Released at request ∷ []) ≡ item_by res d later
-item_by_released res at request (Deposited n x) later =
-    ap (λ (b : Bool). if (n == res) && not b then x ∷ [] else []) (list_any-append (takes_item x.put) later (Released at request ∷ []) ∙ or_none (list_any (takes_item x.put) later))
-item_by_released res at request (Granted n u) later = refl
-item_by_released res at request (Released n r) later = refl
-item_by_released res at request (Preempted n r) later = refl
-item_by_released res at request (Taken n p) later = refl
-item_by_released res at request (Filled n m) later = refl
-item_by_released res at request (Drained n m) later = refl
-
-items_released : (res at : ℕ) (request : EventId) (ledger : List Deed) → items res (ledger ++ Released at request ∷ []) ≡ items res ledger
-items_released res at request [] = refl
-items_released res at request (d ∷ later) =
-    ap (λ xs. xs ++ items res (later ++ Released at request ∷ [])) (item_by_released res at request d later) ∙ ap (λ xs. item_by res d later ++ xs) (items_released res at request later)
 
 ledger_released : (at : ℕ) (request : EventId) (ledger : List Deed) → KeepsLedger ledger (ledger ++ Released at request ∷ [])
 ledger_released at request ledger =

@@ -1,9 +1,9 @@
 -- A scope is closed: the requests of all others have their scopes still, and where no request has two scopes only the
 -- innermost scope of its process is gone.
-use Rattle.std.proofs.Common.{◌≡◌, ◌≢◌, ℕ, Bool, true, false, ◌||◌, ◌&&◌, not, List, [], ◌∷◌, ◌++◌, Option, Some, None, refl, sym, ap, ◌∙◌, if◌then◌else◌, arith, filter, map, reverse, All, AllPairs, inl, inr, ⊎_elim}
-use Rattle.std.specs.Prelude.{◌==◌, count_by, unwrap_or, is_none}
+use Rattle.std.proofs.Common.{◌≡◌, ◌≢◌, ℕ, Bool, true, false, ◌||◌, ◌&&◌, not, List, [], ◌∷◌, ◌++◌, Option, Some, None, refl, sym, ap, ◌∙◌, if◌then◌else◌, filter, map, reverse, All, AllPairs, inl, inr, ⊎_elim}
+use Rattle.std.specs.Prelude.{◌==◌, unwrap_or, is_none}
 use Rattle.std.specs.List.{list_any}
-use Rattle.std.proofs.lemmas.Bool.{false≢true, and_parts, and_from, both_ways, eqb-true, ne_eqb, not_from_false}
+use Rattle.std.proofs.lemmas.Bool.{false≢true, and_parts, both_ways, eqb-true, ne_eqb, not_from_false}
 use Rattle.std.proofs.lemmas.List.{reverse-append}
 use Rattle.std.proofs.lemmas.List.Elements.{All-weaker, All-head, All-tail, All-filter, filter_passes}
 use Rattle.sim_types.proofs.Permutations.{AllPairs-head, AllPairs-tail}
@@ -13,11 +13,9 @@ use Rattle.sim_machine.specs.State.{OpenScope, Waiter, Want, Slot, Give, Take}
 use Rattle.sim_machine.specs.Events.{is_same, is_process}
 use Rattle.sim_machine.specs.Users.{first_of_list}
 use Rattle.sim_machine.specs.BodyLaw.{without_last}
-use Rattle.sim_machine.specs.LawfulWaiting.{has_scope, request_has_scope}
-use Rattle.sim_machine.proofs.EventLaws.{is_same-yes, is_same-self}
-use Rattle.sim_machine.proofs.KeptTimesCases.{if_cases}
-use Rattle.sim_machine.proofs.KeptConditions.{count_cons, count_failing}
-use Rattle.sim_machine_law.specs.WholeStates.{AreOfTwo}
+use Rattle.sim_machine.specs.LawfulWaiting.{AreOfTwo, has_scope, request_has_scope}
+use Rattle.sim_machine_law.proofs.EventLaws.{is_same-yes, is_same-self}
+use Rattle.sim_machine_law.proofs.KeptTimesCases.{if_cases}
 use Rattle.sim_machine_law.proofs.TriedQueues.{IsOneOf, one_has, all_one_of}
 use Rattle.sim_machine_law.proofs.OpenedScopes.{of_request, is_that_scope, requests_in}
 
@@ -31,15 +29,7 @@ fails_by : (a b : Bool) → (a ≡ true → b ≡ true) → b ≡ false → a �
 fails_by true b h out = absurd (both_ways b out (h refl))
 fails_by false b h out = refl
 
-count_filtered : {X : Type 0} (test stays : X → Bool) (xs : List X) → ((x : X) → test x ≡ true → stays x ≡ true) → count_by test (filter stays xs) ≡ count_by test xs
-count_filtered test stays [] h = refl
-count_filtered test stays (x ∷ xs) h =
-    let rest : count_by test (filter stays xs) ≡ count_by test xs = count_filtered test stays xs h in
-    if_cases (λ zs. count_by test zs ≡ count_by test (x ∷ xs)) (stays x) (x ∷ filter stays xs) (filter stays xs)
-    (λ kept. omega (arith, count_cons test x (filter stays xs), count_cons test x xs, rest))
-    (λ out. rest ∙ sym (count_failing test x xs (fails_by (test x) (stays x) (h x) out)))
-
-any_filtered : {X : Type 0} (test stays : X → Bool) (xs : List X) → ((x : X) → test x ≡ true → stays x ≡ true) → list_any test (filter stays xs) ≡ list_any test xs
+pub any_filtered : {X : Type 0} (test stays : X → Bool) (xs : List X) → ((x : X) → test x ≡ true → stays x ≡ true) → list_any test (filter stays xs) ≡ list_any test xs
 any_filtered test stays [] h = refl
 any_filtered test stays (x ∷ xs) h =
     let rest : list_any test (filter stays xs) ≡ list_any test xs = any_filtered test stays xs h in
@@ -50,10 +40,7 @@ any_filtered test stays (x ∷ xs) h =
 -- their scopes stay
 pub scope_less : (xs : List OpenScope) (closed r : EventId) (q : ProcId) (res : ℕ) → closed.0 ≢ r.0 → has_scope xs r q res ≡ true → has_scope (filter (keeps closed) xs) r q res ≡ true
 scope_less xs closed r q res differ h =
-    let parts = and_parts (count_by (of_request r) xs == 1) (list_any (is_that_scope r q res) xs) h in
-    and_from (count_by (of_request r) (filter (keeps closed) xs) == 1) (list_any (is_that_scope r q res) (filter (keeps closed) xs))
-    (ap (λ (n : ℕ). n == 1) (count_filtered (of_request r) (keeps closed) xs other) ∙ parts.0)
-    (any_filtered (is_that_scope r q res) (keeps closed) xs (λ y h. other y (and_parts (is_same y.request r) (is_process y.process q) (and_parts (is_same y.request r && is_process y.process q) (y.res == res) h).0).0) ∙ parts.1)
+    any_filtered (is_that_scope r q res) (keeps closed) xs (λ y h. other y (and_parts (is_same y.request r) (is_process y.process q) (and_parts (is_same y.request r && is_process y.process q) (y.res == res) h).0).0) ∙ h
   where
     other : (y : OpenScope) → of_request r y ≡ true → keeps closed y ≡ true
     other y h = not_from_false (is_same y.request closed) (ne_eqb y.request.0 closed.0 (λ same. differ (sym same ∙ eqb-true y.request.0 r.0 h)))

@@ -20,20 +20,19 @@ use Rattle.sim_machine.specs.Tellings.{Telling}
 use Rattle.sim_machine.specs.Standing.{one_if, was_made, kind_at, left_of, is_event_of}
 use Rattle.sim_machine.specs.LawfulRegistrations.{LawfulRegistrations}
 use Rattle.sim_machine.specs.LawfulInterruptions.{is_unheard_kind}
-use Rattle.sim_machine.specs.LawfulConditions.{LawfulConditions, is_build_of, counts_well, is_empty, needs_build, first_passes, builds_first}
-use Rattle.sim_machine.specs.Lawful.{Lawful}
-use Rattle.sim_machine.proofs.EventLaws.{same_event, is_same-self, change_event-other, change_event-keeps, change_event-length}
-use Rattle.sim_machine.proofs.CallbackLaws.{counts_one, counts_none, counts_not, count_by-append, count_by-one, callbacks_of-register_same, callbacks_of-register_other, callbacks_at-register}
-use Rattle.sim_machine.proofs.KeptRegistrationsCalendar.{made_below}
-use Rattle.sim_machine.proofs.KeptConditions.{older_same, unmade_event}
-use Rattle.sim_machine.proofs.KeptInterruptionsParts.{list_all-weaker}
-use Rattle.sim_machine_law.specs.WholeStates.{is_cond_kind}
+use Rattle.sim_machine.specs.LawfulConditions.{is_condition_kind, is_build_of, counts_well, is_empty, needs_build, first_passes, builds_first}
+use Rattle.sim_machine_law.proofs.EventLaws.{same_event, is_same-self, change_event-other, change_event-keeps, change_event-length}
+use Rattle.sim_machine_law.proofs.CallbackLaws.{counts_one, counts_none, counts_not, count_by-append, count_by-one, callbacks_of-register_same, callbacks_of-register_other, callbacks_at-register}
+use Rattle.sim_machine_law.proofs.KeptRegistrationsCalendar.{made_below}
+use Rattle.sim_machine_law.proofs.KeptConditions.{older_same, unmade_event}
+use Rattle.sim_machine_law.proofs.KeptInterruptionsParts.{list_all-weaker}
 use Rattle.sim_machine_law.proofs.ReplacedCalendars.{replace_made}
 use Rattle.sim_machine_law.proofs.TakenCalendars.{MayTake, hears, take_replaced}
 use Rattle.sim_machine_law.proofs.TakenChanges.{cond_no_interrupt, take_changed, take_triggered, take_registered}
 use Rattle.sim_machine_law.proofs.CheckedConditions.{SameConditions, same_joined, same_triggered, conditions_recounted, counts, counts_turned}
 use Rattle.sim_machine_law.proofs.JoinedConditions.{IsJoined, joined_made, may_join, all_join}
 use Rattle.sim_machine_law.proofs.NewConditions.{fresh, with_fresh, fresh_event, fresh_length, others_stay, all_processed, all_older, no_member, none_registered, checks_stay, no_checks}
+use Rattle.sim_machine_law.proofs.LawfulBasis.{ConditionsBasis, LawfulBasis}
 
 -- ---- conditions, with the new one
 
@@ -65,7 +64,7 @@ same_alone sort c =
       registered = refl;
     }
 
-conditions_alone : (sort : Sort) (c : Calendar) (k : Control) → LawfulConditions c k → LawfulConditions (succeed (next_event c) (pos 0) (with_fresh sort [] c)) k
+conditions_alone : (sort : Sort) (c : Calendar) (k : Control) → ConditionsBasis c k → ConditionsBasis (succeed (next_event c) (pos 0) (with_fresh sort [] c)) k
 conditions_alone sort c k h =
     let d : Calendar = with_fresh sort [] c in
     let e : EventId = next_event c in
@@ -84,7 +83,7 @@ none_called_of c k h =
     ne_below n = grind (arith, nat_tests)
 
 -- one with members, where its build is registered too
-conditions_with_build : (sort : Sort) (ms : List EventId) (c : Calendar) (k : Control) → list_all (was_made c) ms ≡ true → is_too_wide ms c ≡ false → is_empty ms ≡ false → LawfulRegistrations c k → LawfulConditions c k → LawfulConditions (register (next_event c) (callback.Build (next_event c)) (with_fresh sort ms c)) k
+conditions_with_build : (sort : Sort) (ms : List EventId) (c : Calendar) (k : Control) → list_all (was_made c) ms ≡ true → is_too_wide ms c ≡ false → is_empty ms ≡ false → LawfulRegistrations c k → ConditionsBasis c k → ConditionsBasis (register (next_event c) (callback.Build (next_event c)) (with_fresh sort ms c)) k
 conditions_with_build sort ms c k made narrow some r h =
     let e : EventId = next_event c in
     let d : Calendar = with_fresh sort ms c in
@@ -127,7 +126,7 @@ conditions_with_build sort ms c k made narrow some r h =
 joinable_made : (c : Calendar) (ms : List EventId) → list_all (may_join c) ms ≡ true → list_all (was_made c) ms ≡ true
 joinable_made c ms may = list_all-weaker (may_join c) (was_made c) ms (λ m w. (and_parts (was_made c m) (hears c m) w).0) may
 
-take_fresh : {B : Type 0} (g : Plan B) (tell : Telling B) (sound : B → Type 0) (s : State B) (sort : Sort) (ms : List EventId) → list_all (may_join (calendar s)) ms ≡ true → Lawful g tell sound s → MayTake s (with_fresh sort ms (calendar s))
+take_fresh : {B : Type 0} (g : Plan B) (tell : Telling B) (sound : B → Type 0) (s : State B) (sort : Sort) (ms : List EventId) → list_all (may_join (calendar s)) ms ≡ true → LawfulBasis g tell sound s → MayTake s (with_fresh sort ms (calendar s))
 take_fresh g tell sound s sort ms may h =
     let c : Calendar = calendar s in
     let e : EventId = next_event c in
@@ -147,13 +146,13 @@ take_fresh g tell sound s sort ms may h =
 -- what is known of a condition once it was made and its members have joined it
 pub record IsMadeCondition {B : Type 0} (s : State B) (e : EventId) (d : Calendar) : Type 0 where
   pub take : MayTake s d
-  pub conditions : LawfulConditions d s.control
+  pub conditions : ConditionsBasis d s.control
   pub made : e.0 < length d.events
-  pub kind : is_cond_kind (kind_at d e) ≡ true
+  pub kind : is_condition_kind (kind_at d e) ≡ true
   pub unprocessed : is_processed d e ≡ false
 
 -- its members were made and may be waited for, and it does not weigh too much
-pub condition_made : {B : Type 0} (g : Plan B) (tell : Telling B) (sound : B → Type 0) (s : State B) (sort : Sort) (ms : List EventId) → list_all (may_join (calendar s)) ms ≡ true → is_too_wide ms (calendar s) ≡ false → Lawful g tell sound s → IsMadeCondition s (next_event (calendar s)) (make_condition sort ms (calendar s))
+pub condition_made : {B : Type 0} (g : Plan B) (tell : Telling B) (sound : B → Type 0) (s : State B) (sort : Sort) (ms : List EventId) → list_all (may_join (calendar s)) ms ≡ true → is_too_wide ms (calendar s) ≡ false → LawfulBasis g tell sound s → IsMadeCondition s (next_event (calendar s)) (make_condition sort ms (calendar s))
 condition_made g tell sound s sort [] may narrow h =
     let c : Calendar = calendar s in
     let e : EventId = next_event c in
@@ -161,12 +160,12 @@ condition_made g tell sound s sort [] may narrow h =
     let change : EventOf → EventOf = λ x. record x { outcome = Some (outcome.Ok (pos 0)) } in
     let now = fresh_event sort [] c in
     let long : length d.events ≡ length c.events + 1 = fresh_length sort [] c in
-    let cond_kind : is_cond_kind (kind_at d e) ≡ true = ap (λ (x : EventOf). is_cond_kind x.kind) now in
+    let cond_kind : is_condition_kind (kind_at d e) ≡ true = ap (λ (x : EventOf). is_condition_kind x.kind) now in
     record {
       take = take_triggered s e (outcome.Ok (pos 0)) d (omega (arith, long)) (λ zero. omega (arith, zero, h.processes.named_made)) cond_kind (ap (λ (x : EventOf). is_none x.outcome) now) (take_fresh g tell sound s sort [] may h);
       conditions = conditions_alone sort c s.control h.conditions;
       made = omega (arith, long, change_event-length e change d);
-      kind = change_event-keeps (λ x. is_cond_kind x.kind) e e change d (λ x. refl) ∙ cond_kind;
+      kind = change_event-keeps (λ x. is_condition_kind x.kind) e e change d (λ x. refl) ∙ cond_kind;
       unprocessed = change_event-keeps (λ x. x.processed) e e change d (λ x. refl) ∙ ap (λ (x : EventOf). x.processed) now;
     }
 condition_made g tell sound s sort (m ∷ ms) may narrow h =
@@ -182,7 +181,7 @@ condition_made g tell sound s sort (m ∷ ms) may narrow h =
       conditions = conditions_with_build sort all c k (joinable_made c all may) narrow refl h.registrations h.conditions;
       room = λ f. omega (arith, no_checks c k f h.conditions, ap (λ (xs : List EventId). count_by (is_same f) xs) own);
       some = ap (λ (xs : List EventId). is_empty xs) own;
-      kind = ap (λ (x : EventOf). is_cond_kind x.kind) now;
+      kind = ap (λ (x : EventOf). is_condition_kind x.kind) now;
       unprocessed = ap (λ (x : EventOf). x.processed) now;
       nonzero = λ zero. omega (arith, zero, h.processes.named_made);
     } in

@@ -22,23 +22,23 @@ use Rattle.sim_machine.specs.LawfulTimes.{LawfulTimes}
 use Rattle.sim_machine.specs.LawfulRegistrations.{LawfulRegistrations, awaits_processing}
 use Rattle.sim_machine.specs.LawfulProcesses.{is_process_kind}
 use Rattle.sim_machine.specs.LawfulInterruptions.{is_strike, is_interrupt_kind, is_failed_interruption, strikes_alone}
-use Rattle.sim_machine.specs.LawfulConditions.{LawfulConditions}
 use Rattle.sim_machine.specs.LawfulChains.{LawfulChains}
-use Rattle.sim_machine.specs.Lawful.{Lawful}
-use Rattle.sim_machine.proofs.EventLaws.{change_event-same, change_event-other, change_event-keeps, change_event-length, make-length, make-old, make-new, make-keeps, is_same-self, is_same-yes}
-use Rattle.sim_machine.proofs.CallbackLaws.{callbacks_of-register_same, all_callbacks_of-register_other}
-use Rattle.sim_machine.proofs.TimeLaws.{schedule_lawful, events_changed, make_lawful}
-use Rattle.sim_machine.proofs.KeptTimes.{times_registered}
-use Rattle.sim_machine.proofs.KeptRegistrationsCalendar.{Later, calm_defused, calm_scheduled, later_made, later_self, later_then, processed_made, made_below}
-use Rattle.sim_machine.proofs.KeptRegistrations.{registrations_calm, registrations_made, registrations_register, registrations_scheduled}
-use Rattle.sim_machine.proofs.KeptProcessesParts.{KeepsLiving, KeepsResumes, living-changed, living-events, living-made, living-scheduled, living-trans, resumes-registered, unmade_at}
-use Rattle.sim_machine.proofs.KeptInterruptionsParts.{StrikesAlone, KeepsHearing, alone_from, alone_parts, interruptions-strikes}
-use Rattle.sim_machine.proofs.KeptConditions.{IsNoConditions, conditions_registered}
-use Rattle.sim_machine.proofs.KeptConditionsEvents.{conditions_made, conditions_defused, conditions_scheduled}
-use Rattle.sim_machine.proofs.KeptChains.{chains_later, chains_made, chains_register, chains_scheduled}
-use Rattle.sim_machine.proofs.KeptBodiesEvents.{OldStay, grown_old}
+use Rattle.sim_machine_law.proofs.EventLaws.{change_event-same, change_event-other, change_event-keeps, change_event-length, make-length, make-old, make-new, make-keeps, is_same-self, is_same-yes}
+use Rattle.sim_machine_law.proofs.CallbackLaws.{callbacks_of-register_same, all_callbacks_of-register_other}
+use Rattle.sim_machine_law.proofs.TimeLaws.{schedule_lawful, events_changed, make_lawful}
+use Rattle.sim_machine_law.proofs.KeptTimes.{times_registered}
+use Rattle.sim_machine_law.proofs.KeptRegistrationsCalendar.{Later, calm_defused, calm_scheduled, later_made, later_self, later_then, processed_made, made_below}
+use Rattle.sim_machine_law.proofs.KeptRegistrations.{registrations_calm, registrations_made, registrations_register, registrations_scheduled}
+use Rattle.sim_machine_law.proofs.KeptProcessesParts.{KeepsLiving, KeepsResumes, living-changed, living-events, living-made, living-scheduled, living-trans, resumes-registered, unmade_at}
+use Rattle.sim_machine_law.proofs.KeptInterruptionsParts.{StrikesAlone, KeepsHearing, alone_from, alone_parts, interruptions-strikes}
+use Rattle.sim_machine_law.proofs.KeptConditions.{IsNoConditions, conditions_registered}
+use Rattle.sim_machine_law.proofs.KeptConditionsEvents.{conditions_made, conditions_defused, conditions_scheduled}
+use Rattle.sim_machine_law.proofs.KeptChains.{chains_later, chains_made, chains_register, chains_scheduled}
+use Rattle.sim_machine_law.proofs.KeptBodiesEvents.{OldStay, grown_old}
 use Rattle.sim_machine_law.proofs.ChangedCalendars.{MayReplace}
-use Rattle.sim_machine_law.proofs.ReplacedCalendars.{old_waits}
+use Rattle.sim_machine_law.proofs.ScheduledOnce.{outcomes_changed}
+use Rattle.sim_machine_law.proofs.LawfulBasis.{ConditionsBasis, LawfulBasis}
+use Rattle.sim_machine_law.proofs.KeptWaitingUnits.{old_pending}
 
 -- the new event is to strike, and then it is defused
 abbrev with_strike : ProcId → Calendar → Calendar
@@ -95,7 +95,7 @@ times_interrupted p t c h =
     let d : Calendar = with_strike p c in
     let high : c.time ≤ℤ pos (2 ^ 62) = h.in_limit in
     let made : LawfulTimes d = times_registered d.registered (make kind.Interrupt c) (make_lawful kind.Interrupt c h) in
-    let defused : LawfulTimes (with_defused p c) = events_changed d (with_defused p c).events (λ f. change_event-keeps (λ x. not (is_none x.outcome) && not x.processed) e f (λ x. record x { defused = true }) d (λ x. refl)) made in
+    let defused : LawfulTimes (with_defused p c) = events_changed d (with_defused p c).events (λ f. change_event-keeps (λ x. not (is_none x.outcome) && not x.processed) e f (λ x. record x { defused = true }) d (λ x. refl)) (outcomes_changed e (λ x. record x { defused = true }) d (λ x. refl)) made in
     schedule_lawful e (outcome.Fail t) urgent (pos 0) (with_defused p c) (omega (arith, length_defused p c)) (ap (λ (x : EventOf). is_none x.outcome) (new_defused p c)) (ap (λ (x : EventOf). x.processed) (new_defused p c)) (omega (arith, ints)) (omega (arith, ints, high)) defused
 
 registrations_struck : (p : ProcId) (c : Calendar) (k : Control) → LawfulRegistrations c k → LawfulRegistrations (with_strike p c) k
@@ -115,7 +115,7 @@ chains_interrupted p t c k at h =
     let defused : LawfulChains (with_defused p c) k = chains_later (with_strike p c) (with_defused p c) k (calm_defused e (with_strike p c)).later refl (registrations_struck p c k at) struck in
     chains_scheduled e (outcome.Fail t) urgent (pos 0) (with_defused p c) k (registrations_defused p c k at) defused
 
-pub conditions_interrupted : (p : ProcId) (t : Throw) (c : Calendar) (k : Control) → LawfulConditions c k → LawfulConditions (make_interruption p t c) k
+pub conditions_interrupted : (p : ProcId) (t : Throw) (c : Calendar) (k : Control) → ConditionsBasis c k → ConditionsBasis (make_interruption p t c) k
 conditions_interrupted p t c k h =
     let e : EventId = next_event c in
     let no : IsNoConditions (callback.Strike p) = record { no_check = λ cond. refl; no_build = λ cond. refl } in
@@ -205,7 +205,7 @@ strikes_interrupted p t c k at h =
 -- ---- all parts
 
 -- an interruption of a process may be made, be the process alive or not
-pub replace_interrupted : {B : Type 0} (g : Plan B) (tell : Telling B) (sound : B → Type 0) (s : State B) (p : ProcId) (t : Throw) → Lawful g tell sound s → MayReplace s (make_interruption p t (calendar s))
+pub replace_interrupted : {B : Type 0} (g : Plan B) (tell : Telling B) (sound : B → Type 0) (s : State B) (p : ProcId) (t : Throw) → LawfulBasis g tell sound s → MayReplace s (make_interruption p t (calendar s))
 replace_interrupted g tell sound s p t l =
     let c : Calendar = calendar s in
     let d : Calendar = make_interruption p t c in
@@ -218,7 +218,7 @@ replace_interrupted g tell sound s p t l =
       hearing = hearing_interrupted p t c;
       strikes = strikes_interrupted p t c s.control l.registrations (interruptions-strikes s l.interruptions);
       grown = grown_old c d old;
-      pending = old_waits c d old;
+      pending = old_pending c d old;
       later = later_interrupted p t c;
       conditions = conditions_interrupted p t c s.control l.conditions;
       chains = chains_interrupted p t c s.control l.registrations l.chains;

@@ -15,10 +15,11 @@ use Rattle.sim_machine.specs.Conditions.{condition_of, members_of, most_weight, 
 use Rattle.sim_machine.specs.Triggering.{make}
 use Rattle.sim_machine.specs.Standing.{was_made}
 use Rattle.sim_machine.specs.LawfulRegistrations.{awaits_processing}
-use Rattle.sim_machine.specs.LawfulConditions.{LawfulConditions, members_are_older, checks_at, times_member}
-use Rattle.sim_machine.proofs.EventLaws.{same_event, is_same-yes, change_event-same, change_event-other, change_event-keeps, change_event-length, make-length, make-new, make-keeps}
-use Rattle.sim_machine.proofs.KeptRegistrationsCalendar.{made_below}
-use Rattle.sim_machine.proofs.KeptConditions.{older_everywhere, unmade_event}
+use Rattle.sim_machine.specs.LawfulConditions.{members_are_older, checks_at, times_member}
+use Rattle.sim_machine_law.proofs.EventLaws.{same_event, is_same-yes, change_event-same, change_event-other, change_event-keeps, change_event-length, make-length, make-new, make-keeps}
+use Rattle.sim_machine_law.proofs.KeptRegistrationsCalendar.{made_below}
+use Rattle.sim_machine_law.proofs.KeptConditions.{older_everywhere, unmade_event}
+use Rattle.sim_machine_law.proofs.LawfulBasis.{ConditionsBasis}
 
 -- what a condition of these members is as it is made
 abbrev pub fresh : Sort → List EventId → ConditionOf
@@ -56,7 +57,7 @@ sum_same f g test (x ∷ xs) same h =
     omega (arith, sum_by-cons f x xs, sum_by-cons g x xs, same x both.0, sum_same f g test xs same both.1)
 
 -- older events weigh what they weighed
-weight_stays : (sort : Sort) (ms : List EventId) (c : Calendar) (k : Control) → LawfulConditions c k → (n : ℕ) (f : EventId) → f.0 < length c.events → weight_within n (with_fresh sort ms c) f ≡ weight_within n c f
+weight_stays : (sort : Sort) (ms : List EventId) (c : Calendar) (k : Control) → ConditionsBasis c k → (n : ℕ) (f : EventId) → f.0 < length c.events → weight_within n (with_fresh sort ms c) f ≡ weight_within n c f
 weight_stays sort ms c k h zero f made = refl
 weight_stays sort ms c k h (suc n) f made =
     let d : Calendar = with_fresh sort ms c in
@@ -69,7 +70,7 @@ weight_stays sort ms c k h (suc n) f made =
 below_most : (n m : ℕ) → nat_lt m n ≡ false → nat_le n m ≡ true
 below_most n m h = grind (arith, nat_tests)
 
-older_fresh : (sort : Sort) (ms : List EventId) (c : Calendar) (k : Control) → list_all (was_made c) ms ≡ true → is_too_wide ms c ≡ false → LawfulConditions c k → members_are_older (with_fresh sort ms c) (next_event c) ≡ true
+older_fresh : (sort : Sort) (ms : List EventId) (c : Calendar) (k : Control) → list_all (was_made c) ms ≡ true → is_too_wide ms c ≡ false → ConditionsBasis c k → members_are_older (with_fresh sort ms c) (next_event c) ≡ true
 older_fresh sort ms c k made narrow h =
     let d : Calendar = with_fresh sort ms c in
     let e : EventId = next_event c in
@@ -81,14 +82,14 @@ older_fresh sort ms c k made narrow h =
     (ap (list_all (λ (m : EventId). nat_lt m.0 e.0)) own ∙ made)
     (ap (λ (w : ℕ). nat_le w most_weight) weight ∙ below_most (weight_of ms c) most_weight narrow)
 
-older_still : (sort : Sort) (ms : List EventId) (c : Calendar) (k : Control) (f : EventId) → LawfulConditions c k → f.0 < length c.events → members_are_older (with_fresh sort ms c) f ≡ true
+older_still : (sort : Sort) (ms : List EventId) (c : Calendar) (k : Control) (f : EventId) → ConditionsBasis c k → f.0 < length c.events → members_are_older (with_fresh sort ms c) f ≡ true
 older_still sort ms c k f h made =
     let d : Calendar = with_fresh sort ms c in
     let same : members_of d f ≡ members_of c f = others_stay (λ x. (condition_of x.condition).members) sort ms c f refl (λ e. omega (arith, e, made)) in
     ap (λ (xs : List EventId). list_all (λ (m : EventId). nat_lt m.0 f.0) xs && nat_le (weight_within (most_weight + 1) d f) most_weight) same
     ∙ (ap (λ (w : ℕ). list_all (λ (m : EventId). nat_lt m.0 f.0) (members_of c f) && nat_le w most_weight) (weight_stays sort ms c k h (most_weight + 1) f made) ∙ older_everywhere c k f h)
 
-pub all_older : (sort : Sort) (ms : List EventId) (c : Calendar) (k : Control) → list_all (was_made c) ms ≡ true → is_too_wide ms c ≡ false → LawfulConditions c k → (f : EventId) → was_made (with_fresh sort ms c) f ≡ true → members_are_older (with_fresh sort ms c) f ≡ true
+pub all_older : (sort : Sort) (ms : List EventId) (c : Calendar) (k : Control) → list_all (was_made c) ms ≡ true → is_too_wide ms c ≡ false → ConditionsBasis c k → (f : EventId) → was_made (with_fresh sort ms c) f ≡ true → members_are_older (with_fresh sort ms c) f ≡ true
 all_older sort ms c k made narrow h f was =
     let d : Calendar = with_fresh sort ms c in
     elim (cases_eq f.0 (length c.events)) [
@@ -113,12 +114,12 @@ none_registered c e (r ∷ rs) unmade h =
 
 -- ---- the checks, as they were
 
-pub checks_stay : (sort : Sort) (ms : List EventId) (c : Calendar) (k : Control) (other f : EventId) → LawfulConditions c k → checks_at c k other f ≤ times_member (with_fresh sort ms c) other f
+pub checks_stay : (sort : Sort) (ms : List EventId) (c : Calendar) (k : Control) (other f : EventId) → ConditionsBasis c k → checks_at c k other f ≤ times_member (with_fresh sort ms c) other f
 checks_stay sort ms c k other f h =
     elim (cases_eq other.0 (length c.events)) [
       | inl same ↦ omega (arith, h.checks other f, ap (λ (xs : List EventId). count_by (is_same f) xs) (no_member c other (omega (arith, same))))
       | inr differ ↦ omega (arith, h.checks other f, ap (λ (xs : List EventId). count_by (is_same f) xs) (others_stay (λ x. (condition_of x.condition).members) sort ms c other refl differ))
     ]
 
-pub no_checks : (c : Calendar) (k : Control) (f : EventId) → LawfulConditions c k → checks_at c k (next_event c) f ≡ 0
+pub no_checks : (c : Calendar) (k : Control) (f : EventId) → ConditionsBasis c k → checks_at c k (next_event c) f ≡ 0
 no_checks c k f h = omega (arith, h.checks (next_event c) f, ap (λ (xs : List EventId). count_by (is_same f) xs) (no_member c (next_event c) (omega arith)))

@@ -10,7 +10,7 @@ use Rattle.sim_types.specs.declared.event.Outcome.TheVariants as outcome
 use Rattle.sim_types.specs.declared.event.Signal.TheVariants as signal
 use Rattle.sim_types.specs.declared.op.Op.{Op}
 use Rattle.sim_types.specs.declared.op.Op.TheVariants as op
-use Rattle.sim_machine.specs.State.{Active, OpenScope, ProcessOf, State, Plan}
+use Rattle.sim_machine.specs.State.{OpenScope, ProcessOf, State, Plan}
 use Rattle.sim_machine.specs.Events.{is_process, unregister, is_resume_of, without_first}
 use Rattle.sim_machine.specs.Triggering.{trigger}
 use Rattle.sim_machine.specs.Scopes.{on_events, close_scope, scopes_inwards, leave_all}
@@ -18,13 +18,10 @@ use Rattle.sim_machine.specs.Processes.{process_at, is_alive, with_body, target_
 use Rattle.sim_machine.specs.Effect.{raise}
 use Rattle.sim_machine.specs.Steps.{polled}
 use Rattle.sim_machine.specs.Tellings.{Telling, CodeFacts}
-use Rattle.sim_machine.specs.BodyLaw.{IsLawfulPoll}
-use Rattle.sim_machine.specs.Lawful.{Lawful}
-use Rattle.sim_machine.proofs.KeptProcessesParts.{is_process-yes}
-use Rattle.sim_machine.proofs.KeptTimesCases.{if_cases}
-use Rattle.sim_machine.proofs.KeptWaitingPolls.{alive_changed}
-use Rattle.sim_machine_law.specs.WholeStates.{AreScopesApart}
-use Rattle.sim_machine_law.proofs.ChangedCalendars.{HasAsked}
+use Rattle.sim_machine_law.proofs.KeptProcessesParts.{is_process-yes}
+use Rattle.sim_machine_law.proofs.KeptTimesCases.{if_cases}
+use Rattle.sim_machine_law.proofs.KeptWaitingPolls.{alive_changed}
+use Rattle.sim_machine_law.proofs.ChangedCalendars.{AsksFor, HasAsked}
 use Rattle.sim_machine_law.proofs.DroppedBodies.{bodies_dropped}
 use Rattle.sim_machine_law.proofs.DroppedProcess.{MayDrop, IsScopeless, scopeless, scopeless_state, stopped_state, times_dropped, registrations_dropped_process, processes_dropped, interruptions_dropped, conditions_dropped_process, chains_dropped_process}
 use Rattle.sim_machine_law.proofs.DroppedWaiting.{waiting_dropped}
@@ -32,9 +29,10 @@ use Rattle.sim_machine_law.proofs.EndedProcesses.{is_other}
 use Rattle.sim_machine_law.proofs.LeftCapacities.{capacities_dropped}
 use Rattle.sim_machine_law.proofs.ReplacedCalendars.{replace_same}
 use Rattle.sim_machine_law.proofs.ToldAnswers.{lawful_done, lawful_raised}
+use Rattle.sim_machine_law.proofs.LawfulBasis.{AreScopesApart, LawfulBasis}
 
--- p runs and drops q; that no two open scopes are of one request is not part of lawful waiting
-pub lawful-dropped : {B : Type 0} (g : Plan B) (tell : Telling B) (sound : B → Type 0) (s : State B) (e : EventId) (left : List Callback) (p : ProcId) (x : Signal) (q : ProcId) (value : ℤ) → AreScopesApart s → MayDrop s e left p x q → Lawful g tell sound s → Lawful g tell sound (drop_process q value s)
+-- p runs and drops q, where no two open scopes are of one request
+pub lawful-dropped : {B : Type 0} (g : Plan B) (tell : Telling B) (sound : B → Type 0) (s : State B) (e : EventId) (left : List Callback) (p : ProcId) (x : Signal) (q : ProcId) (value : ℤ) → AreScopesApart s → MayDrop s e left p x q → LawfulBasis g tell sound s → LawfulBasis g tell sound (drop_process q value s)
 lawful-dropped g tell sound s e left p x q value distinct may h =
     record {
       times = times_dropped g tell sound s e left p x q value may h;
@@ -108,21 +106,22 @@ found_other {B} p q (x ∷ xs) apart =
     let fails : t x ≡ false = ap (λ (n : ProcId). is_process n p) is_q ∙ apart in
     rw fails later)
 
-pub lawful-polled_drop : {B : Type 0} (g : Plan B) (tell : Telling B) (sound : B → Type 0) (s : State B) (f : CodeFacts) (e : EventId) (left : List Callback) (p : ProcId) (x : Signal) (y : ProcessOf B) (b : B) (q : ProcId) (value : ℤ) → AreScopesApart s → s.control ≡ Active e left p x → process_at p s ≡ Some y → sound b → Lawful g tell sound s → IsLawfulPoll f tell y.body x (op.Drop q value) b → Lawful g tell sound (polled g p (op.Drop q value) b s)
-lawful-polled_drop {B} g tell sound s f e left p x y b q value distinct active found sb h poll =
-    let o : Op = op.Drop q value in
-    let r : State B = with_body p b s in
-    let t : State B = drop_process q value s in
-    let done : State B = told signal.Done (drop_process q value r) in
-    let has_asked : HasAsked g tell sound s f e left p x y b o = record { active = active; found = found; is_sound = sb; lawful = h; poll = poll; scopes = poll.scopes } in
-    let alive_is : is_alive q r ≡ is_alive q s = alive_changed p q (λ z. record z { body = b }) s (λ z. refl) in
-    if_cases (λ u. Lawful g tell sound u) (not (is_alive q r)) (raise 4 r) (if is_process q p then raise 5 r else done) (λ ended. lawful_raised g tell sound s f e left p x y b o 4 has_asked refl refl)
-    (λ alive. if_cases (λ u. Lawful g tell sound u) (is_process q p) (raise 5 r) done (λ same. lawful_raised g tell sound s f e left p x y b o 5 has_asked refl refl)
-    (λ other.
-    let may : MayDrop s e left p x q = record { active = active; other = other; alive = sym alive_is ∙ not-false (is_alive q r) alive } in
-    let k : IsScopeless s e left p x q = scopeless g.setup.events s e left p x q may h.processes in
-    let dropped : Lawful g tell sound t = lawful-dropped g tell sound s e left p x q value distinct may h in
-    let still : process_at p t ≡ Some y = found_other p q (scopeless_state q s).processes other ∙ (ap (λ (zs : List (ProcessOf B)). find (λ (z : ProcessOf B). is_process z.id p) zs) k.leaves.processes ∙ found) in
-    let then_asked : HasAsked g tell sound t f e (without_first (is_resume_of q) left) p x y b o = record { active = k.control; found = still; is_sound = sb; lawful = dropped; poll = poll; scopes = poll.scopes } in
-    subst (λ (u : State B). Lawful g tell sound (told signal.Done u)) (sym (drop_then_body s p q b value k.leaves.processes))
-    (lawful_done g tell sound t f e (without_first (is_resume_of q) left) p x y b o (λ c. c) then_asked (replace_same g tell sound t dropped) refl refl)))
+module _ {B : Type 0} (g : Plan B) (tell : Telling B) (sound : B → Type 0) (s : State B) (f : CodeFacts) (e : EventId) (left : List Callback) (p : ProcId) (x : Signal) (y : ProcessOf B) (b : B) where
+  pub lawful-polled_drop : (q : ProcId) (value : ℤ) → AreScopesApart s → AsksFor g tell sound s f e left p x y b (op.Drop q value) → LawfulBasis g tell sound (polled g p (op.Drop q value) b s)
+  lawful-polled_drop q value distinct asks =
+      let o : Op = op.Drop q value in
+      let r : State B = with_body p b s in
+      let t : State B = drop_process q value s in
+      let done : State B = told signal.Done (drop_process q value r) in
+      let has_asked : HasAsked g tell sound s f e left p x y b o = record { active = asks.active; found = asks.found; is_sound = asks.is_sound; lawful = asks.lawful; poll = asks.poll; scopes = asks.poll.scopes } in
+      let alive_is : is_alive q r ≡ is_alive q s = alive_changed p q (λ z. record z { body = b }) s (λ z. refl) in
+      if_cases (λ u. LawfulBasis g tell sound u) (not (is_alive q r)) (raise 4 r) (if is_process q p then raise 5 r else done) (λ ended. lawful_raised g tell sound s f e left p x y b o 4 has_asked refl refl)
+      (λ alive. if_cases (λ u. LawfulBasis g tell sound u) (is_process q p) (raise 5 r) done (λ same. lawful_raised g tell sound s f e left p x y b o 5 has_asked refl refl)
+      (λ other.
+      let may : MayDrop s e left p x q = record { active = asks.active; other = other; alive = sym alive_is ∙ not-false (is_alive q r) alive } in
+      let k : IsScopeless s e left p x q = scopeless g.setup.events s e left p x q may asks.lawful.processes in
+      let dropped : LawfulBasis g tell sound t = lawful-dropped g tell sound s e left p x q value distinct may asks.lawful in
+      let still : process_at p t ≡ Some y = found_other p q (scopeless_state q s).processes other ∙ (ap (λ (zs : List (ProcessOf B)). find (λ (z : ProcessOf B). is_process z.id p) zs) k.leaves.processes ∙ asks.found) in
+      let then_asked : HasAsked g tell sound t f e (without_first (is_resume_of q) left) p x y b o = record { active = k.control; found = still; is_sound = asks.is_sound; lawful = dropped; poll = asks.poll; scopes = asks.poll.scopes } in
+      subst (λ (u : State B). LawfulBasis g tell sound (told signal.Done u)) (sym (drop_then_body s p q b value k.leaves.processes))
+      (lawful_done g tell sound t f e (without_first (is_resume_of q) left) p x y b o (λ c. c) then_asked (replace_same g tell sound t dropped) refl refl)))

@@ -1,6 +1,6 @@
 -- A process that asks for a request keeps the state lawful: the request is made and waits in a scope that is opened for it,
 -- and its queue is tried; or it is refused.
-use Rattle.std.proofs.Common.{◌≡◌, ◌≢◌, ℕ, ◌+◌, ◌<◌, ◌≤◌, ℤ, Bool, true, false, ◌&&◌, not, List, [], ◌∷◌, ◌++◌, length, length-append, Option, Some, refl, sym, subst, ap, ◌∙◌, arith, if◌then◌else◌, map, filter, All, append-nil}
+use Rattle.std.proofs.Common.{◌≡◌, ◌≢◌, ℕ, ◌+◌, ◌<◌, ◌≤◌, ℤ, Bool, true, false, ◌&&◌, List, [], ◌∷◌, ◌++◌, length, length-append, Option, refl, sym, subst, ap, ◌∙◌, arith, if◌then◌else◌, map, filter, All, append-nil}
 use Rattle.std.specs.Prelude.{nat_lt, slice_index_or}
 use Rattle.std.proofs.lemmas.Bool.{and_parts, and_from, both_ways, ne_eqb, lt-ltb, ltb-true}
 use Rattle.std.proofs.lemmas.List.Elements.{All-weaker, All-push, All-map}
@@ -17,53 +17,52 @@ use Rattle.sim_types.specs.declared.op.Op.{Op}
 use Rattle.sim_types.specs.declared.op.Op.TheVariants as op
 use Rattle.sim_types.specs.declared.setup.Resource.{Resource}
 use Rattle.sim_machine.specs.State.{EventOf, Calendar, Slot, Waiter, User, OpenScope, ProcessOf, Control, Active, State, Plan}
-use Rattle.sim_machine.specs.Events.{is_same, is_process, is_pending, next_event}
+use Rattle.sim_machine.specs.Events.{is_same, is_process, next_event}
 use Rattle.sim_machine.specs.Users.{resource_at, users}
 use Rattle.sim_machine.specs.Requests.{request_key, make_request, is_own_victim}
 use Rattle.sim_machine.specs.Scopes.{on_facilities, on_events, open_scope}
-use Rattle.sim_machine.specs.Processes.{process_at, is_alive, with_body, told_more}
+use Rattle.sim_machine.specs.Processes.{is_alive, with_body, told_more}
 use Rattle.sim_machine.specs.Effect.{calendar, raise, tell_made}
 use Rattle.sim_machine.specs.Steps.{polled}
 use Rattle.sim_machine.specs.Tellings.{Telling, CodeFacts}
 use Rattle.sim_machine.specs.MayAsk.{most_scopes, takes_requests, has_resource}
 use Rattle.sim_machine.specs.MayFollow.{may_be_told, is_enter}
-use Rattle.sim_machine.specs.BodyLaw.{IsLawfulPoll, scopes_told}
+use Rattle.sim_machine.specs.BodyLaw.{scopes_told}
 use Rattle.sim_machine.specs.Setups.{FitsCode}
 use Rattle.sim_machine.specs.Standing.{was_made, kind_at}
-use Rattle.sim_machine.specs.LawfulWaiting.{waits_well, is_request_kind, request_has_scope, has_scope, is_scope_well, entered_by, requests_of, KnowsItsScopes}
+use Rattle.sim_machine.specs.LawfulWaiting.{AreOfTwo, waits_well, is_request_kind, request_has_scope, has_scope, is_scope_well, entered_by, requests_of, KnowsItsScopes}
 use Rattle.sim_machine.specs.LawfulCapacities.{waits_for_fitting}
-use Rattle.sim_machine.specs.Lawful.{Lawful}
-use Rattle.sim_machine.proofs.EventLaws.{make-new, is_same-self}
-use Rattle.sim_machine.proofs.KeptTimesCases.{if_cases}
-use Rattle.sim_machine.proofs.KeptRegistrationsCalendar.{below_made, made_below}
-use Rattle.sim_machine.proofs.KeptRegistrations.{registrations_told}
-use Rattle.sim_machine.proofs.KeptProcessesParts.{is_process-self}
-use Rattle.sim_machine.proofs.KeptProcessesChanges.{processes-bodies, processes-same, processes-told}
-use Rattle.sim_machine.proofs.KeptInterruptionsChanges.{interruptions-bodies, interruptions-same, interruptions-told}
-use Rattle.sim_machine.proofs.KeptWaitingPolls.{IsWaitingPoll, own_scopes, alive_changed}
-use Rattle.sim_machine.proofs.KeptWaitingUnits.{waiting_raise}
-use Rattle.sim_machine.proofs.KeptConditions.{conditions_told}
-use Rattle.sim_machine.proofs.KeptBodies.{four_parts, four_from, is_process-sym}
-use Rattle.sim_machine.proofs.KeptBodiesEvents.{grown_itself}
-use Rattle.sim_machine.proofs.KeptBodiesPolls.{IsBodyPoll, bodies_going_on}
-use Rattle.sim_machine.proofs.KeptBodiesUnits.{bodies_raise}
-use Rattle.sim_machine.proofs.KeptChains.{chains_told}
-use Rattle.sim_machine_law.specs.WholeStates.{AreOfTwo, AreScopesApart}
-use Rattle.sim_machine_law.proofs.ChangedCalendars.{HasAsked, body_asked, scopes_asked_for}
-use Rattle.sim_machine_law.proofs.ToldScopes.{entered_elsewhere, knows_alone}
+use Rattle.sim_machine_law.proofs.EventLaws.{make-new, is_same-self}
+use Rattle.sim_machine_law.proofs.KeptTimesCases.{if_cases}
+use Rattle.sim_machine_law.proofs.KeptRegistrationsCalendar.{below_made, made_below}
+use Rattle.sim_machine_law.proofs.KeptRegistrations.{registrations_told}
+use Rattle.sim_machine_law.proofs.KeptProcessesParts.{is_process-swap, is_process-self}
+use Rattle.sim_machine_law.proofs.KeptProcessesChanges.{processes-bodies, processes-same, processes-told}
+use Rattle.sim_machine_law.proofs.KeptInterruptionsChanges.{interruptions-bodies, interruptions-same, interruptions-told}
+use Rattle.sim_machine_law.proofs.KeptWaitingPolls.{entered_other, IsWaitingPoll, own_scopes, alive_changed}
+use Rattle.sim_machine_law.proofs.KeptWaitingUnits.{waiting_raise}
+use Rattle.sim_machine_law.proofs.KeptConditions.{conditions_told}
+use Rattle.sim_machine_law.proofs.KeptBodies.{four_parts, four_from}
+use Rattle.sim_machine_law.proofs.KeptBodiesEvents.{grown_itself}
+use Rattle.sim_machine_law.proofs.KeptBodiesPolls.{IsBodyPoll, bodies_going_on}
+use Rattle.sim_machine_law.proofs.KeptBodiesUnits.{bodies_raise}
+use Rattle.sim_machine_law.proofs.KeptChains.{chains_told}
+use Rattle.sim_machine_law.proofs.ChangedCalendars.{AsksFor, HasAsked, body_asked, scopes_asked_for}
+use Rattle.sim_machine_law.proofs.ToldScopes.{knows_alone}
 use Rattle.sim_machine_law.proofs.ToldAnswers.{fits_made}
 use Rattle.sim_machine_law.proofs.ChangedQueues.{capacities_of_queue}
 use Rattle.sim_machine_law.proofs.TriedWaiters.{lawful_tried_put}
 use Rattle.sim_machine_law.proofs.JoinedQueues.{with_new, lawful_new, new_made, new_waits, waits_for_older, try_get_calls_nobody}
 use Rattle.sim_machine_law.proofs.OpenedScopes.{of_request, scope_more, scope_opened, request_scope_more, requests_more}
 use Rattle.sim_machine_law.proofs.PolledMove.{has_resource_below, has_resource_of}
+use Rattle.sim_machine_law.proofs.LawfulBasis.{AreScopesApart, LawfulBasis}
 
 -- ---- it is refused
 
-lawful_refused : {B : Type 0} (g : Plan B) (tell : Telling B) (sound : B → Type 0) (s : State B) (f : CodeFacts) (e : EventId) (left : List Callback) (p : ProcId) (x : Signal) (y : ProcessOf B) (b : B) (o : Op) (n : ℕ) → HasAsked g tell sound s f e left p x y b o → may_be_told (tell.last b) (signal.Raised n) ≡ true → Lawful g tell sound (raise n (with_body p b s))
+lawful_refused : {B : Type 0} (g : Plan B) (tell : Telling B) (sound : B → Type 0) (s : State B) (f : CodeFacts) (e : EventId) (left : List Callback) (p : ProcId) (x : Signal) (y : ProcessOf B) (b : B) (o : Op) (n : ℕ) → HasAsked g tell sound s f e left p x y b o → may_be_told (tell.last b) (signal.Raised n) ≡ true → LawfulBasis g tell sound (raise n (with_body p b s))
 lawful_refused g tell sound s f e left p x y b o n asked fits =
     let c : Calendar = calendar s in
-    let h : Lawful g tell sound s = asked.lawful in
+    let h : LawfulBasis g tell sound s = asked.lawful in
     record {
       times = h.times;
       registrations = registrations_told (signal.Raised n) c s.control h.registrations;
@@ -111,10 +110,10 @@ knows_entered g tell s t e left p x y b r res z h enters few opened on w true is
 knows_entered g tell s t e left p x y b r res z h enters few opened on w false is =
     let new : OpenScope = record { process = p; request = r; res = res } in
     let v : Bool = is_enter (tell.last z.body) in
-    let apart : is_process p z.id ≡ false = is_process-sym p z.id ∙ is in
+    let apart : is_process p z.id ≡ false = is_process-swap p z.id ∙ is in
     let all : requests_of z.id t ≡ requests_of z.id s = ap (λ (xs : List OpenScope). map (λ (a : OpenScope). a.request) (filter (λ (a : OpenScope). is_process a.process z.id) xs)) opened ∙ (requests_more s.scopes new z.id ∙ (ap (λ (c : Bool). requests_of z.id s ++ (if c then r ∷ [] else [])) apart ∙ append-nil (requests_of z.id s))) in
-    let before : entered_by s.control z.id v ≡ [] = ap (λ (k : Control). entered_by k z.id v) h.active ∙ entered_elsewhere e left p x z.id v apart in
-    let after : entered_by t.control z.id v ≡ [] = ap (λ (k : Control). entered_by k z.id v) on ∙ entered_elsewhere e left p (signal.Made r) z.id v apart in
+    let before : entered_by s.control z.id v ≡ [] = ap (λ (k : Control). entered_by k z.id v) h.active ∙ entered_other e left p x z.id v apart in
+    let after : entered_by t.control z.id v ≡ [] = ap (λ (k : Control). entered_by k z.id v) on ∙ entered_other e left p (signal.Made r) z.id v apart in
     let own : requests_of z.id s ≡ tell.scopes z.body = w.0 ∙ (ap (λ (es : List EventId). tell.scopes z.body ++ es) before ∙ append-nil (tell.scopes z.body)) in
     knows_alone tell t z after (all ∙ own) (subst (λ (es : List EventId). length es ≤ most_scopes) (sym all) w.1)
 
@@ -131,17 +130,17 @@ entered p b res key s =
       };
     })))
 
-lawful_entered : {B : Type 0} (g : Plan B) (tell : Telling B) (sound : B → Type 0) (s : State B) (f : CodeFacts) (e : EventId) (left : List Callback) (p : ProcId) (x : Signal) (y : ProcessOf B) (b : B) (res : ℕ) (priority : ℤ) (preempts : Bool) (key : RequestKey) → FitsCode f g.setup → HasAsked g tell sound s f e left p x y b (op.Enter res priority preempts) → Lawful g tell sound (entered p b res key s)
+lawful_entered : {B : Type 0} (g : Plan B) (tell : Telling B) (sound : B → Type 0) (s : State B) (f : CodeFacts) (e : EventId) (left : List Callback) (p : ProcId) (x : Signal) (y : ProcessOf B) (b : B) (res : ℕ) (priority : ℤ) (preempts : Bool) (key : RequestKey) → FitsCode f g.setup → HasAsked g tell sound s f e left p x y b (op.Enter res priority preempts) → LawfulBasis g tell sound (entered p b res key s)
 lawful_entered {B} g tell sound s f e left p x y b res priority preempts key fits asked =
     let o : Op = op.Enter res priority preempts in
     let rs : List Resource = g.setup.resources in
-    let l : Lawful g tell sound s = asked.lawful in
+    let l : LawfulBasis g tell sound s = asked.lawful in
     let c : Calendar = calendar s in
     let r : EventId = next_event c in
     let again : Callback = callback.TryGet res in
     let d : Calendar = with_new kind.Request again c in
     let u : State B = on_events (with_new kind.Request again) s in
-    let m : Lawful g tell sound u = lawful_new g tell sound s kind.Request again refl (try_get_calls_nobody res) l in
+    let m : LawfulBasis g tell sound u = lawful_new g tell sound s kind.Request again refl (try_get_calls_nobody res) l in
     let t : State B = entered p b res key s in
     let ws : List Waiter = s.facilities.waiters in
     let w : Waiter = record { event = r; res = res; want = Slot p key } in
@@ -169,8 +168,7 @@ lawful_entered {B} g tell sound s f e left p x y b res priority preempts key fit
       waiting = record {
         waiters = All-push (λ v. waits_well d v ≡ true) ws w m.waiting.waiters (new_waits kind.Request again c w refl refl);
         once = all_pairs_push (λ a v. a.event ≢ v.event) ws w l.waiting.once (All-weaker (λ v. v.event.0 ≢ r.0) (λ v. v.event ≢ r) (λ v h same. h (ap (λ (n : EventId). n.0) same)) ws older);
-        cancelled = m.waiting.cancelled;
-        requests = All-push (λ v. request_has_scope (s.scopes ++ z ∷ []) v v.want ≡ true) ws w (λ n v at. request_scope_more s.scopes z (slice_index_or ws n v) (slice_index_or ws n v).want (λ same. older n v at (sym same)) (l.waiting.requests n v at)) (scope_opened s.scopes r p res (scopes_older rs s l.waiting.scopes));
+        requests = All-push (λ v. request_has_scope (s.scopes ++ z ∷ []) v v.want ≡ true) ws w (λ n v at. request_scope_more s.scopes z (slice_index_or ws n v) (slice_index_or ws n v).want (l.waiting.requests n v at)) (scope_opened s.scopes r p res);
         using = λ n. using_more n;
         scopes = All-push (λ a. is_scope_well rs t a ≡ true) s.scopes z
             (All-weaker (λ a. is_scope_well rs u a ≡ true) (λ a. is_scope_well rs t a ≡ true) (λ a h. ap (λ (v : Bool). v && was_made d a.request && is_request_kind (kind_at d a.request) && nat_lt a.res (length rs) && takes_requests (resource_at rs a.res).kind) (alive a.process) ∙ h) s.scopes m.waiting.scopes)
@@ -186,28 +184,25 @@ lawful_entered {B} g tell sound s f e left p x y b res priority preempts key fit
   where
     using_more : (n : ℕ) → All (λ (v : User). has_scope (s.scopes ++ record { process = p; request = next_event (calendar s); res = res } ∷ []) v.request v.process n ≡ true) (users n s.facilities.ledger)
     using_more n =
-        let c : Calendar = calendar s in
-        let r : EventId = next_event c in
-        let z : OpenScope = record { process = p; request = r; res = res } in
+        let z : OpenScope = record { process = p; request = next_event (calendar s); res = res } in
         let us : List User = users n s.facilities.ledger in
-        λ i v at. scope_more s.scopes z (slice_index_or us i v).request (slice_index_or us i v).process n
-        (λ same. omega (arith, sym same, made_below c (slice_index_or us i v).request (and_parts (was_made c (slice_index_or us i v).request) (not (is_pending c (slice_index_or us i v).request)) (asked.lawful.capacities.in_use n i v at)).0))
-        (asked.lawful.waiting.using n i v at)
+        λ i v at. scope_more s.scopes z (slice_index_or us i v).request (slice_index_or us i v).process n (asked.lawful.waiting.using n i v at)
 
-pub lawful-polled_enter : {B : Type 0} (g : Plan B) (tell : Telling B) (sound : B → Type 0) (s : State B) (f : CodeFacts) (e : EventId) (left : List Callback) (p : ProcId) (x : Signal) (y : ProcessOf B) (b : B) (res : ℕ) (priority : ℤ) (preempts : Bool) → FitsCode f g.setup → s.control ≡ Active e left p x → process_at p s ≡ Some y → sound b → Lawful g tell sound s → IsLawfulPoll f tell y.body x (op.Enter res priority preempts) b → Lawful g tell sound (polled g p (op.Enter res priority preempts) b s)
-lawful-polled_enter {B} g tell sound s f e left p x y b res priority preempts fits active found sb h poll =
-    let o : Op = op.Enter res priority preempts in
-    let rs : List Resource = g.setup.resources in
-    let r : State B = with_body p b s in
-    let n : EventId = next_event (calendar s) in
-    let asked : HasAsked g tell sound s f e left p x y b o = record { active = active; found = found; is_sound = sb; lawful = h; poll = poll; scopes = poll.scopes } in
-    let key : RequestKey = request_key (resource_at rs res).kind priority preempts s.facilities in
-    if_cases (Lawful g tell sound) (is_own_victim rs res p priority preempts s.facilities) (raise 5 r) (tell_made n (open_scope p n res (on_facilities (make_request rs res p priority preempts) r)))
-    (λ own. lawful_refused g tell sound s f e left p x y b o 5 asked (ap (λ (a : Option Op). may_be_told a (signal.Raised 5)) poll.last))
-    (λ other. (lawful_tried_put g tell sound (entered p b res key s) res (lawful_entered g tell sound s f e left p x y b res priority preempts key fits asked)).lawful)
+module _ {B : Type 0} (g : Plan B) (tell : Telling B) (sound : B → Type 0) (s : State B) (f : CodeFacts) (e : EventId) (left : List Callback) (p : ProcId) (x : Signal) (y : ProcessOf B) (b : B) where
+  pub lawful-polled_enter : (res : ℕ) (priority : ℤ) (preempts : Bool) → FitsCode f g.setup → AsksFor g tell sound s f e left p x y b (op.Enter res priority preempts) → LawfulBasis g tell sound (polled g p (op.Enter res priority preempts) b s)
+  lawful-polled_enter res priority preempts fits asks =
+      let o : Op = op.Enter res priority preempts in
+      let rs : List Resource = g.setup.resources in
+      let r : State B = with_body p b s in
+      let n : EventId = next_event (calendar s) in
+      let asked : HasAsked g tell sound s f e left p x y b o = record { active = asks.active; found = asks.found; is_sound = asks.is_sound; lawful = asks.lawful; poll = asks.poll; scopes = asks.poll.scopes } in
+      let key : RequestKey = request_key (resource_at rs res).kind priority preempts s.facilities in
+      if_cases (LawfulBasis g tell sound) (is_own_victim rs res p priority preempts s.facilities) (raise 5 r) (tell_made n (open_scope p n res (on_facilities (make_request rs res p priority preempts) r)))
+      (λ own. lawful_refused g tell sound s f e left p x y b o 5 asked (ap (λ (a : Option Op). may_be_told a (signal.Raised 5)) asks.poll.last))
+      (λ other. (lawful_tried_put g tell sound (entered p b res key s) res (lawful_entered g tell sound s f e left p x y b res priority preempts key fits asked)).lawful)
 
 -- and no request has two scopes, where none had before
-pub scopes_apart-polled_enter : {B : Type 0} (g : Plan B) (tell : Telling B) (sound : B → Type 0) (s : State B) (p : ProcId) (b : B) (res : ℕ) (priority : ℤ) (preempts : Bool) → Lawful g tell sound s → AreScopesApart s → AreScopesApart (polled g p (op.Enter res priority preempts) b s)
+pub scopes_apart-polled_enter : {B : Type 0} (g : Plan B) (tell : Telling B) (sound : B → Type 0) (s : State B) (p : ProcId) (b : B) (res : ℕ) (priority : ℤ) (preempts : Bool) → LawfulBasis g tell sound s → AreScopesApart s → AreScopesApart (polled g p (op.Enter res priority preempts) b s)
 scopes_apart-polled_enter {B} g tell sound s p b res priority preempts l apart =
     let rs : List Resource = g.setup.resources in
     let r : State B = with_body p b s in

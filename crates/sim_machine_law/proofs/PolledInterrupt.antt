@@ -1,5 +1,5 @@
 -- A process interrupts another: an interruption of it is made, or an error is raised, and the one that runs goes on.
-use Rattle.std.proofs.Common.{◌≡◌, ℤ, not, List, Some, refl, if◌then◌else◌}
+use Rattle.std.proofs.Common.{ℤ, not, List, refl, if◌then◌else◌}
 use Rattle.sim_types.specs.declared.event.EventId.{EventId}
 use Rattle.sim_types.specs.declared.event.ProcId.{ProcId}
 use Rattle.sim_types.specs.declared.event.Signal.{Signal}
@@ -8,28 +8,28 @@ use Rattle.sim_types.specs.declared.event.Callback.{Callback}
 use Rattle.sim_types.specs.declared.event.Signal.TheVariants as signal
 use Rattle.sim_types.specs.declared.op.Op.{Op}
 use Rattle.sim_types.specs.declared.op.Op.TheVariants as op
-use Rattle.sim_machine.specs.State.{ProcessOf, Active, State, Plan}
+use Rattle.sim_machine.specs.State.{ProcessOf, State, Plan}
 use Rattle.sim_machine.specs.Events.{is_process}
 use Rattle.sim_machine.specs.Triggering.{make_interruption}
 use Rattle.sim_machine.specs.Scopes.{on_events}
-use Rattle.sim_machine.specs.Processes.{process_at, is_alive, with_body, tell as told}
+use Rattle.sim_machine.specs.Processes.{is_alive, with_body, tell as told}
 use Rattle.sim_machine.specs.Effect.{raise}
 use Rattle.sim_machine.specs.Steps.{polled}
 use Rattle.sim_machine.specs.Tellings.{Telling, CodeFacts}
-use Rattle.sim_machine.specs.BodyLaw.{IsLawfulPoll}
-use Rattle.sim_machine.specs.Lawful.{Lawful}
-use Rattle.sim_machine.proofs.KeptTimesCases.{if_cases}
-use Rattle.sim_machine_law.proofs.ChangedCalendars.{HasAsked}
+use Rattle.sim_machine_law.proofs.KeptTimesCases.{if_cases}
+use Rattle.sim_machine_law.proofs.ChangedCalendars.{AsksFor, HasAsked}
 use Rattle.sim_machine_law.proofs.MadeInterruption.{replace_interrupted}
 use Rattle.sim_machine_law.proofs.ToldAnswers.{lawful_done, lawful_raised}
+use Rattle.sim_machine_law.proofs.LawfulBasis.{LawfulBasis}
 
-pub lawful-polled_interrupt : {B : Type 0} (g : Plan B) (tell : Telling B) (sound : B → Type 0) (s : State B) (f : CodeFacts) (e : EventId) (left : List Callback) (p : ProcId) (x : Signal) (y : ProcessOf B) (b : B) (q : ProcId) (cause : ℤ) → s.control ≡ Active e left p x → process_at p s ≡ Some y → sound b → Lawful g tell sound s → IsLawfulPoll f tell y.body x (op.Interrupt q cause) b → Lawful g tell sound (polled g p (op.Interrupt q cause) b s)
-lawful-polled_interrupt {B} g tell sound s f e left p x y b q cause active found sb h poll =
-    let o : Op = op.Interrupt q cause in
-    let r : State B = with_body p b s in
-    let t : Throw = record { kind = 1; value = cause } in
-    let done : State B = told signal.Done (on_events (make_interruption q t) r) in
-    let has_asked : HasAsked g tell sound s f e left p x y b o = record { active = active; found = found; is_sound = sb; lawful = h; poll = poll; scopes = poll.scopes } in
-    if_cases (λ u. Lawful g tell sound u) (not (is_alive q r)) (raise 4 r) (if is_process q p then raise 5 r else done) (λ ended. lawful_raised g tell sound s f e left p x y b o 4 has_asked refl refl)
-    (λ alive. if_cases (λ u. Lawful g tell sound u) (is_process q p) (raise 5 r) done (λ same. lawful_raised g tell sound s f e left p x y b o 5 has_asked refl refl)
-    (λ other. lawful_done g tell sound s f e left p x y b o (make_interruption q t) has_asked (replace_interrupted g tell sound s q t h) refl refl))
+module _ {B : Type 0} (g : Plan B) (tell : Telling B) (sound : B → Type 0) (s : State B) (f : CodeFacts) (e : EventId) (left : List Callback) (p : ProcId) (x : Signal) (y : ProcessOf B) (b : B) where
+  pub lawful-polled_interrupt : (q : ProcId) (cause : ℤ) → AsksFor g tell sound s f e left p x y b (op.Interrupt q cause) → LawfulBasis g tell sound (polled g p (op.Interrupt q cause) b s)
+  lawful-polled_interrupt q cause asks =
+      let o : Op = op.Interrupt q cause in
+      let r : State B = with_body p b s in
+      let t : Throw = record { kind = 1; value = cause } in
+      let done : State B = told signal.Done (on_events (make_interruption q t) r) in
+      let has_asked : HasAsked g tell sound s f e left p x y b o = record { active = asks.active; found = asks.found; is_sound = asks.is_sound; lawful = asks.lawful; poll = asks.poll; scopes = asks.poll.scopes } in
+      if_cases (λ u. LawfulBasis g tell sound u) (not (is_alive q r)) (raise 4 r) (if is_process q p then raise 5 r else done) (λ ended. lawful_raised g tell sound s f e left p x y b o 4 has_asked refl refl)
+      (λ alive. if_cases (λ u. LawfulBasis g tell sound u) (is_process q p) (raise 5 r) done (λ same. lawful_raised g tell sound s f e left p x y b o 5 has_asked refl refl)
+      (λ other. lawful_done g tell sound s f e left p x y b o (make_interruption q t) has_asked (replace_interrupted g tell sound s q t asks.lawful) refl refl))

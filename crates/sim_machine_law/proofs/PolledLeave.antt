@@ -1,6 +1,6 @@
 -- A process that leaves its innermost scope keeps the state lawful, where no request has two scopes.
 use Rattle.std.proofs.Common.{◌≡◌, ◌≢◌, ℕ, ◌<◌, ◌≤◌, Bool, true, false, ◌&&◌, List, [], ◌∷◌, ◌++◌, length, Option, Some, None, refl, sym, subst, ap, ◌∙◌, arith, if◌then◌else◌, filter, map, reverse, All, append-nil}
-use Rattle.std.specs.Prelude.{◌==◌, nat_lt, slice_index_or, count_by, is_none}
+use Rattle.std.specs.Prelude.{◌==◌, nat_lt, slice_index_or, is_none}
 use Rattle.std.specs.List.{list_any}
 use Rattle.std.proofs.lemmas.Bool.{false≢true, and_parts, ltb-true, eqb-true}
 use Rattle.std.proofs.lemmas.List.Elements.{All-weaker, All-filter, All-map, filter_passes}
@@ -27,26 +27,25 @@ use Rattle.sim_machine.specs.MayAsk.{most_scopes, takes_requests}
 use Rattle.sim_machine.specs.MayFollow.{may_be_told, is_enter}
 use Rattle.sim_machine.specs.BodyLaw.{IsLawfulPoll, scopes_told, without_last}
 use Rattle.sim_machine.specs.Standing.{was_made, kind_at}
-use Rattle.sim_machine.specs.LawfulWaiting.{LawfulWaiting, is_request_kind, has_scope, is_scope_well, entered_by, requests_of, KnowsItsScopes}
-use Rattle.sim_machine.specs.Lawful.{Lawful}
-use Rattle.sim_machine.proofs.EventLaws.{same_event, is_same-yes}
-use Rattle.sim_machine.proofs.KeptRegistrations.{registrations_told}
-use Rattle.sim_machine.proofs.KeptProcessesParts.{is_process-yes, is_process-self}
-use Rattle.sim_machine.proofs.KeptProcessesChanges.{processes-bodies, processes-same, processes-told}
-use Rattle.sim_machine.proofs.KeptInterruptionsChanges.{interruptions-bodies, interruptions-same, interruptions-told}
-use Rattle.sim_machine.proofs.KeptWaitingPolls.{own_scopes, alive_changed}
-use Rattle.sim_machine.proofs.KeptConditions.{conditions_told}
-use Rattle.sim_machine.proofs.KeptBodies.{is_process-sym}
-use Rattle.sim_machine.proofs.KeptBodiesEvents.{grown_itself}
-use Rattle.sim_machine.proofs.KeptBodiesPolls.{IsBodyPoll, bodies_going_on}
-use Rattle.sim_machine.proofs.KeptChains.{chains_told}
-use Rattle.sim_machine_law.specs.WholeStates.{AreOfTwo, AreScopesApart}
-use Rattle.sim_machine_law.proofs.ToldScopes.{entered_elsewhere, knows_alone}
+use Rattle.sim_machine.specs.LawfulWaiting.{AreOfTwo, is_request_kind, has_scope, is_scope_well, entered_by, requests_of, KnowsItsScopes}
+use Rattle.sim_machine_law.proofs.EventLaws.{same_event, is_same-yes}
+use Rattle.sim_machine_law.proofs.KeptRegistrations.{registrations_told}
+use Rattle.sim_machine_law.proofs.KeptProcessesParts.{is_process-swap, is_process-yes, is_process-self}
+use Rattle.sim_machine_law.proofs.KeptProcessesChanges.{processes-bodies, processes-same, processes-told}
+use Rattle.sim_machine_law.proofs.KeptInterruptionsChanges.{interruptions-bodies, interruptions-same, interruptions-told}
+use Rattle.sim_machine_law.proofs.KeptWaitingPolls.{entered_other, own_scopes, alive_changed}
+use Rattle.sim_machine_law.proofs.KeptConditions.{conditions_told}
+use Rattle.sim_machine_law.proofs.KeptBodiesEvents.{grown_itself}
+use Rattle.sim_machine_law.proofs.KeptBodiesPolls.{IsBodyPoll, bodies_going_on}
+use Rattle.sim_machine_law.proofs.KeptChains.{chains_told}
+use Rattle.sim_machine_law.proofs.ToldScopes.{knows_alone}
 use Rattle.sim_machine_law.proofs.TriedQueues.{IsOneOf, one_has, all_one_of}
 use Rattle.sim_machine_law.proofs.PolledCancel.{any_gives, lawful_cancelled}
 use Rattle.sim_machine_law.proofs.PolledRelease.{IsReleasedWell, lawful_released}
 use Rattle.sim_machine_law.proofs.OpenedScopes.{requests_in, is_that_scope}
 use Rattle.sim_machine_law.proofs.LeftScopes.{keeps, request_scope_less, scope_less, one_of_filter, same_scope, innermost_one, requests_elsewhere, requests_left}
+use Rattle.sim_machine_law.proofs.LawfulBasis.{AreScopesApart, LawfulBasis, WaitingBasis}
+use Rattle.sim_machine_law.proofs.ChangedCalendars.{AsksFor}
 
 length_without : (es : List EventId) → length (without_last es) ≤ length es
 length_without [] = omega arith
@@ -60,9 +59,9 @@ first_there (x ∷ xs) y h = false≢true (ap (λ o. is_none o) h)
 -- ---- the request is left
 
 -- its scope is the one that its user stands in, so it uses no other resource
-uses_there : {B : Type 0} (g : Plan B) (tell : Telling B) (sound : B → Type 0) (s : State B) (z : OpenScope) (n : ℕ) → Lawful g tell sound s → AreScopesApart s → IsOneOf s.scopes z → All (λ (u : User). u.request ≡ z.request → n ≡ z.res) (users n s.facilities.ledger)
+uses_there : {B : Type 0} (g : Plan B) (tell : Telling B) (sound : B → Type 0) (s : State B) (z : OpenScope) (n : ℕ) → LawfulBasis g tell sound s → AreScopesApart s → IsOneOf s.scopes z → All (λ (u : User). u.request ≡ z.request → n ≡ z.res) (users n s.facilities.ledger)
 uses_there g tell sound s z n l apart one =
-    All-weaker (λ (u : User). has_scope s.scopes u.request u.process n ≡ true) (λ (u : User). u.request ≡ z.request → n ≡ z.res) (λ u h same. at u same (and_parts (count_by (λ x. is_same x.request u.request) s.scopes == 1) (list_any (is_that_scope u.request u.process n) s.scopes) h).1) (users n s.facilities.ledger) (l.waiting.using n)
+    All-weaker (λ (u : User). has_scope s.scopes u.request u.process n ≡ true) (λ (u : User). u.request ≡ z.request → n ≡ z.res) (λ u h same. at u same h) (users n s.facilities.ledger) (l.waiting.using n)
   where
     here : (u : User) (x : OpenScope) → u.request ≡ z.request → IsOneOf s.scopes x → is_that_scope u.request u.process n x ≡ true → n ≡ z.res
     here u x same at that =
@@ -75,11 +74,11 @@ uses_there g tell sound s z n l apart one =
 
 -- the facilities once it was left: nothing waits for it, and it is no user
 pub record IsLeftWell {B : Type 0} (g : Plan B) (tell : Telling B) (sound : B → Type 0) (s : State B) (r : EventId) (f : Facilities) : Type 0 where
-  pub lawful : Lawful g tell sound (record s { facilities = f })
+  pub lawful : LawfulBasis g tell sound (record s { facilities = f })
   pub waits_not : All (λ w. w.event.0 ≢ r.0) f.waiters
   pub uses_not : (n : ℕ) → All (λ (u : User). u.request ≢ r) (users n f.ledger)
 
-pub left_well : {B : Type 0} (g : Plan B) (tell : Telling B) (sound : B → Type 0) (s : State B) (z : OpenScope) → Lawful g tell sound s → AreScopesApart s → IsOneOf s.scopes z → IsLeftWell g tell sound s z.request (leave z.res z.request s.facilities)
+pub left_well : {B : Type 0} (g : Plan B) (tell : Telling B) (sound : B → Type 0) (s : State B) (z : OpenScope) → LawfulBasis g tell sound s → AreScopesApart s → IsOneOf s.scopes z → IsLeftWell g tell sound s z.request (leave z.res z.request s.facilities)
 left_well {B} g tell sound s z l apart one =
     let r : EventId = z.request in
     let c = lawful_cancelled g tell sound s r l in
@@ -94,7 +93,7 @@ left_well {B} g tell sound s z l apart one =
 -- ---- the scope is closed
 
 -- what the processes know of their scopes
-knows_left : {B : Type 0} (g : Plan B) (tell : Telling B) (s t : State B) (e : EventId) (left : List Callback) (p : ProcId) (x : Signal) (y : ProcessOf B) (b : B) (z : OpenScope) (a : ProcessOf B) → s.control ≡ Active e left p x → process_at p s ≡ Some y → LawfulWaiting g tell s → AreScopesApart s → first_of_list (scopes_inwards p s) ≡ Some z → z.process ≡ p → tell.scopes b ≡ without_last (scopes_told (tell.scopes y.body) (tell.last y.body) x) → t.scopes ≡ filter (keeps z.request) s.scopes → t.control ≡ Active e left p signal.Done → KnowsItsScopes tell s a → (v : Bool) → is_process a.id p ≡ v → KnowsItsScopes tell t (if v then record a { body = b } else a)
+knows_left : {B : Type 0} (g : Plan B) (tell : Telling B) (s t : State B) (e : EventId) (left : List Callback) (p : ProcId) (x : Signal) (y : ProcessOf B) (b : B) (z : OpenScope) (a : ProcessOf B) → s.control ≡ Active e left p x → process_at p s ≡ Some y → WaitingBasis g tell s → AreScopesApart s → first_of_list (scopes_inwards p s) ≡ Some z → z.process ≡ p → tell.scopes b ≡ without_last (scopes_told (tell.scopes y.body) (tell.last y.body) x) → t.scopes ≡ filter (keeps z.request) s.scopes → t.control ≡ Active e left p signal.Done → KnowsItsScopes tell s a → (v : Bool) → is_process a.id p ≡ v → KnowsItsScopes tell t (if v then record a { body = b } else a)
 knows_left g tell s t e left p x y b z a active found h apart first of asked closed on w true is =
     let same : a.id ≡ p = is_process-yes a.id p is in
     let own : (requests_of a.id s ≡ scopes_told (tell.scopes y.body) (tell.last y.body) x) × (length (requests_of a.id s) ≤ most_scopes) = own_scopes g tell s e left p x y active found h a.id is in
@@ -109,15 +108,15 @@ knows_left g tell s t e left p x y b z a active found h apart first of asked clo
     shorter es few = omega (arith, few, length_without es)
 knows_left g tell s t e left p x y b z a active found h apart first of asked closed on w false is =
     let v : Bool = is_enter (tell.last a.body) in
-    let other : is_process p a.id ≡ false = is_process-sym p a.id ∙ is in
+    let other : is_process p a.id ≡ false = is_process-swap p a.id ∙ is in
     let one : IsOneOf s.scopes z = one_of_filter (λ n. is_process n.process p) s.scopes z (innermost_one (filter (λ n. is_process n.process p) s.scopes) z first) in
     let all : requests_of a.id t ≡ requests_of a.id s = ap (λ (xs : List OpenScope). requests_in a.id xs) closed ∙ requests_elsewhere s.scopes z a.id apart one (ap (λ (q : ProcId). is_process q a.id) of ∙ other) in
-    let before : entered_by s.control a.id v ≡ [] = ap (λ (k : Control). entered_by k a.id v) active ∙ entered_elsewhere e left p x a.id v other in
-    let after : entered_by t.control a.id v ≡ [] = ap (λ (k : Control). entered_by k a.id v) on ∙ entered_elsewhere e left p signal.Done a.id v other in
+    let before : entered_by s.control a.id v ≡ [] = ap (λ (k : Control). entered_by k a.id v) active ∙ entered_other e left p x a.id v other in
+    let after : entered_by t.control a.id v ≡ [] = ap (λ (k : Control). entered_by k a.id v) on ∙ entered_other e left p signal.Done a.id v other in
     let own : requests_of a.id s ≡ tell.scopes a.body = w.0 ∙ (ap (λ (es : List EventId). tell.scopes a.body ++ es) before ∙ append-nil (tell.scopes a.body)) in
     knows_alone tell t a after (all ∙ own) (subst (λ (es : List EventId). length es ≤ most_scopes) (sym all) w.1)
 
-lawful_closed : {B : Type 0} (g : Plan B) (tell : Telling B) (sound : B → Type 0) (s : State B) (f : CodeFacts) (e : EventId) (left : List Callback) (p : ProcId) (x : Signal) (y : ProcessOf B) (b : B) (z : OpenScope) → AreScopesApart s → s.control ≡ Active e left p x → process_at p s ≡ Some y → sound b → Lawful g tell sound s → IsLawfulPoll f tell y.body x op.Leave b → first_of_list (scopes_inwards p s) ≡ Some z → Lawful g tell sound (told signal.Done (close_scope (with_body p b s) z))
+lawful_closed : {B : Type 0} (g : Plan B) (tell : Telling B) (sound : B → Type 0) (s : State B) (f : CodeFacts) (e : EventId) (left : List Callback) (p : ProcId) (x : Signal) (y : ProcessOf B) (b : B) (z : OpenScope) → AreScopesApart s → s.control ≡ Active e left p x → process_at p s ≡ Some y → sound b → LawfulBasis g tell sound s → IsLawfulPoll f tell y.body x op.Leave b → first_of_list (scopes_inwards p s) ≡ Some z → LawfulBasis g tell sound (told signal.Done (close_scope (with_body p b s) z))
 lawful_closed {B} g tell sound s f e left p x y b z apart active found sb l poll first =
     let rs : List Resource = g.setup.resources in
     let r : EventId = z.request in
@@ -127,7 +126,7 @@ lawful_closed {B} g tell sound s f e left p x y b z apart active found sb l poll
     let of : z.process ≡ p = is_process-yes z.process p (one_has (λ n. is_process n.process p ≡ true) own z (filter_passes (λ n. is_process n.process p) s.scopes) in_own) in
     let k : IsLeftWell g tell sound s r (leave z.res r s.facilities) = left_well g tell sound s z l apart one in
     let u : State B = on_facilities (leave z.res r) s in
-    let m : Lawful g tell sound u = k.lawful in
+    let m : LawfulBasis g tell sound u = k.lawful in
     let d : Calendar = calendar u in
     let before : State B = close_scope (with_body p b s) z in
     let t : State B = told signal.Done before in
@@ -143,7 +142,6 @@ lawful_closed {B} g tell sound s f e left p x y b z apart active found sb l poll
       waiting = record {
         waiters = m.waiting.waiters;
         once = m.waiting.once;
-        cancelled = m.waiting.cancelled;
         requests = λ n w at. request_scope_less s.scopes r (slice_index_or u.facilities.waiters n w) (slice_index_or u.facilities.waiters n w).want (λ same. k.waits_not n w at (sym same)) (m.waiting.requests n w at);
         using = λ n i v at. scope_less s.scopes r (slice_index_or (users n u.facilities.ledger) i v).request (slice_index_or (users n u.facilities.ledger) i v).process n (λ same. k.uses_not n i v at (sym (same_event r (slice_index_or (users n u.facilities.ledger) i v).request same))) (m.waiting.using n i v at);
         scopes = All-filter (keeps r) (λ a. is_scope_well rs t a ≡ true) s.scopes
@@ -166,21 +164,14 @@ last_there (y ∷ ys) h some none = first_there (reverse ys) y (sym (ap first_of
 innermost_there : {X : Type 0} (test : X → Bool) (h : X → EventId) (xs : List X) → 0 < length (map h (filter test xs)) → first_of_list (reverse (filter test xs)) ≡ None → ⊥
 innermost_there test h xs some none = last_there (filter test xs) h some none
 
-lawful_closes : {B : Type 0} (g : Plan B) (tell : Telling B) (sound : B → Type 0) (s : State B) (f : CodeFacts) (e : EventId) (left : List Callback) (p : ProcId) (x : Signal) (y : ProcessOf B) (b : B) (o : Option OpenScope) → AreScopesApart s → s.control ≡ Active e left p x → process_at p s ≡ Some y → sound b → Lawful g tell sound s → IsLawfulPoll f tell y.body x op.Leave b → first_of_list (scopes_inwards p s) ≡ o → Lawful g tell sound (told signal.Done (close_if_any o (with_body p b s)))
+lawful_closes : {B : Type 0} (g : Plan B) (tell : Telling B) (sound : B → Type 0) (s : State B) (f : CodeFacts) (e : EventId) (left : List Callback) (p : ProcId) (x : Signal) (y : ProcessOf B) (b : B) (o : Option OpenScope) → AreScopesApart s → s.control ≡ Active e left p x → process_at p s ≡ Some y → sound b → LawfulBasis g tell sound s → IsLawfulPoll f tell y.body x op.Leave b → first_of_list (scopes_inwards p s) ≡ o → LawfulBasis g tell sound (told signal.Done (close_if_any o (with_body p b s)))
 lawful_closes g tell sound s f e left p x y b (Some z) apart active found sb h poll first = lawful_closed g tell sound s f e left p x y b z apart active found sb h poll first
 lawful_closes g tell sound s f e left p x y b None apart active found sb h poll first =
     let own : (requests_of p s ≡ scopes_told (tell.scopes y.body) (tell.last y.body) x) × (length (requests_of p s) ≤ most_scopes) = own_scopes g tell s e left p x y active found h.waiting p (is_process-self p) in
     let some : 0 < length (requests_of p s) = subst (λ (es : List EventId). 0 < length es) (sym own.0) (ltb-true 0 (length (scopes_told (tell.scopes y.body) (tell.last y.body) x)) poll.asks) in
     absurd (innermost_there (λ n. is_process n.process p) (λ n. n.request) s.scopes some first)
 
-pub lawful-polled_leave : {B : Type 0} (g : Plan B) (tell : Telling B) (sound : B → Type 0) (s : State B) (f : CodeFacts) (e : EventId) (left : List Callback) (p : ProcId) (x : Signal) (y : ProcessOf B) (b : B) → AreScopesApart s → s.control ≡ Active e left p x → process_at p s ≡ Some y → sound b → Lawful g tell sound s → IsLawfulPoll f tell y.body x op.Leave b → Lawful g tell sound (polled g p op.Leave b s)
-lawful-polled_leave g tell sound s f e left p x y b apart active found sb h poll =
-    lawful_closes g tell sound s f e left p x y b (first_of_list (scopes_inwards p s)) apart active found sb h poll refl
-
-closed_apart : {B : Type 0} (s : State B) (o : Option OpenScope) → AreScopesApart s → AreScopesApart (close_if_any o s)
-closed_apart s None apart = apart
-closed_apart s (Some z) apart = AllPairs-filter AreOfTwo (keeps z.request) s.scopes apart
-
--- and no request has two scopes still
-pub scopes_apart-polled_leave : {B : Type 0} (g : Plan B) (s : State B) (p : ProcId) (b : B) → AreScopesApart s → AreScopesApart (polled g p op.Leave b s)
-scopes_apart-polled_leave g s p b apart = closed_apart (with_body p b s) (first_of_list (scopes_inwards p s)) apart
+module _ {B : Type 0} (g : Plan B) (tell : Telling B) (sound : B → Type 0) (s : State B) (f : CodeFacts) (e : EventId) (left : List Callback) (p : ProcId) (x : Signal) (y : ProcessOf B) (b : B) where
+  pub lawful-polled_leave : AreScopesApart s → AsksFor g tell sound s f e left p x y b op.Leave → LawfulBasis g tell sound (polled g p op.Leave b s)
+  lawful-polled_leave apart asks =
+      lawful_closes g tell sound s f e left p x y b (first_of_list (scopes_inwards p s)) apart asks.active asks.found asks.is_sound asks.lawful asks.poll refl

@@ -24,18 +24,18 @@ use Rattle.sim_machine.specs.MayFollow.{makes_kind}
 use Rattle.sim_machine.specs.BodyLaw.{IsLawfulBody, IsLawfulPoll, may_begin, may_start}
 use Rattle.sim_machine.specs.Setups.{FitsCode}
 use Rattle.sim_machine.specs.LawfulProcesses.{is_living_well}
-use Rattle.sim_machine.specs.Lawful.{Lawful}
-use Rattle.sim_machine.proofs.KeptBodies.{find_has, find_passes}
-use Rattle.sim_machine.proofs.KeptBodiesPolls.{own_number}
-use Rattle.sim_machine.proofs.KeptLawful.{lawful-made_process}
-use Rattle.sim_machine.proofs.KeptProcessesParts.{LivesWell, is_process-yes, is_process-no, lives_well}
-use Rattle.sim_machine.proofs.KeptProcessesStart.{length-joined, event-joined}
-use Rattle.sim_machine.proofs.StartedPlaces.{NamedPlain, named_plain_of}
+use Rattle.sim_machine_law.proofs.KeptBodies.{find_has, find_passes}
+use Rattle.sim_machine_law.proofs.KeptBodiesPolls.{own_number}
+use Rattle.sim_machine_law.proofs.KeptLawful.{lawful-made_process}
+use Rattle.sim_machine_law.proofs.KeptProcessesParts.{LivesWell, is_process-yes, is_process-no, lives_well}
+use Rattle.sim_machine_law.proofs.KeptProcessesStart.{length-joined, event-joined}
+use Rattle.sim_machine_law.proofs.StartedPlaces.{NamedPlain, named_plain_of}
 use Rattle.sim_machine_law.proofs.SpawnedPlaces.{MaySpawn, spawned_starts, spawned_placed}
 use Rattle.sim_machine_law.proofs.ChangedCalendars.{HasAsked}
 use Rattle.sim_machine_law.proofs.KnownEvents.{places_fit}
 use Rattle.sim_machine_law.proofs.ReplacedCalendars.{replace_same}
 use Rattle.sim_machine_law.proofs.ToldAnswers.{lawful_made}
+use Rattle.sim_machine_law.proofs.LawfulBasis.{LawfulBasis}
 
 -- ---- a process more changes nothing of the one that runs
 
@@ -67,7 +67,7 @@ spawned_is {B} g s p b k args made =
 
 -- ---- it is told of the new process
 
-pub lawful-polled_spawn : {B : Type 0} (g : Plan B) (tell : Telling B) (sound : B → Type 0) (turn : B → ℤ → Signal → Op → B → Type 0) (s : State B) (f : CodeFacts) (e : EventId) (left : List Callback) (p : ProcId) (x : Signal) (y : ProcessOf B) (b : B) (k : ℕ) (args : List ℤ) → IsLawfulBody f tell sound g.start turn → FitsCode f g.setup → s.control ≡ Active e left p x → process_at p s ≡ Some y → sound b → Lawful g tell sound s → IsLawfulPoll f tell y.body x (op.Spawn k args) b → Lawful g tell sound (polled g p (op.Spawn k args) b s)
+pub lawful-polled_spawn : {B : Type 0} (g : Plan B) (tell : Telling B) (sound : B → Type 0) (turn : B → ℤ → Signal → Op → B → Type 0) (s : State B) (f : CodeFacts) (e : EventId) (left : List Callback) (p : ProcId) (x : Signal) (y : ProcessOf B) (b : B) (k : ℕ) (args : List ℤ) → IsLawfulBody f tell sound g.start turn → FitsCode f g.setup → s.control ≡ Active e left p x → process_at p s ≡ Some y → sound b → LawfulBasis g tell sound s → IsLawfulPoll f tell y.body x (op.Spawn k args) b → LawfulBasis g tell sound (polled g p (op.Spawn k args) b s)
 lawful-polled_spawn {B} g tell sound turn s f e left p x y b k args law setup active found sb h poll =
     let c : Calendar = calendar s in
     let q : ProcId = record { 0 = (next_event c).0 } in
@@ -84,11 +84,11 @@ lawful-polled_spawn {B} g tell sound turn s f e left p x y b k args law setup ac
     let asks = and_parts (nat_lt k (length f.params)) (arguments_fit f (tell.own b) (tell.places b) (slice_index_or f.params k []) args) poll.asks in
     let begins : IsTrue (may_begin f k args) = and_from (nat_lt k (length f.params)) (may_start (slice_index_or f.params k []) args) asks.0 (spawned_starts f (tell.own b) (tell.places b) (slice_index_or f.params k []) args asks.1) in
     let begun = law.starts k args q begins in
-    let made : Lawful g tell sound t = lawful-made_process g tell sound s f k args begins begun (spawned_placed f tell c (tell.own b) (tell.places b) k args q (g.start k args q) may asks.1 begun) (law.begins k args q begins) h in
+    let made : LawfulBasis g tell sound t = lawful-made_process g tell sound s f k args begins begun (spawned_placed f tell c (tell.own b) (tell.places b) k args q (g.start k args q) may asks.1 begun) (law.begins k args q begins) h in
     let still : process_at p t ≡ Some y = found_before (λ (z : ProcessOf B). is_process z.id p) s.processes _ y found in
     let low : p.0 < length c.events = subst (λ (r : ProcId). r.0 < length c.events) at_p lives.made in
     let d : Calendar = calendar t in
     let then_asked : HasAsked g tell sound t f e left p x y b spawns = record { active = active; found = still; is_sound = sb; lawful = made; poll = poll; scopes = poll.scopes } in
-    subst (λ (u : State B). Lawful g tell sound u) (sym (spawned_is g s p b k args low))
+    subst (λ (u : State B). LawfulBasis g tell sound u) (sym (spawned_is g s p b k args low))
     (lawful_made g tell sound t f e left p x y b spawns (next_event c) (λ a. a) then_asked (replace_same g tell sound t made) refl refl
     (ap (λ (z : EventOf). makes_kind (Some spawns) z.kind) (event-joined c)) (omega (arith, length-joined c)) (ap (λ (z : EventOf). z.processed) (event-joined c)))

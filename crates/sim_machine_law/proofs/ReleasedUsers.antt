@@ -1,29 +1,27 @@
 -- A scope is left: its request waits and uses no longer, and who else waits or uses stays.
-use Rattle.std.proofs.Common.{◌≡◌, ℕ, Bool, true, false, ◌||◌, ◌&&◌, not, List, [], ◌∷◌, ◌++◌, filter, refl, sym, subst, ap, ◌∙◌, if◌then◌else◌, All}
-use Rattle.std.specs.Prelude.{◌==◌}
+use Rattle.std.proofs.Common.{◌≡◌, ℕ, Bool, false, not, List, [], ◌∷◌, ◌++◌, filter, refl, sym, subst, ap, ◌∙◌, All}
 use Rattle.std.specs.List.{list_any}
-use Rattle.std.proofs.lemmas.Bool.{or_parts}
-use Rattle.std.proofs.lemmas.List.Elements.{All-nil, All-cons, All-head, All-append}
-use Rattle.std.proofs.lemmas.List.Folds.{list_any-append}
+use Rattle.std.proofs.lemmas.Bool.{or_parts, not-true}
+use Rattle.std.proofs.lemmas.List.Elements.{All-filter, filter_passes}
 use Rattle.sim_types.specs.declared.event.EventId.{EventId}
 use Rattle.sim_types.specs.declared.event.EventKind.TheVariants as kind
 use Rattle.sim_types.specs.declared.event.Callback.TheVariants as callback
-use Rattle.sim_machine.specs.State.{Waiter, User, Deed, Granted, Released, Preempted, Deposited, Taken, Filled, Drained, Facilities}
+use Rattle.sim_machine.specs.State.{Waiter, User, Deed, Released, Facilities}
 use Rattle.sim_machine.specs.Events.{is_same, cancel_event, next_event, register}
 use Rattle.sim_machine.specs.Triggering.{make}
-use Rattle.sim_machine.specs.Users.{ends_use, user_by, users}
+use Rattle.sim_machine.specs.Users.{users}
 use Rattle.sim_machine.specs.Trying.{on_calendar, write_deed, unqueue}
 use Rattle.sim_machine.specs.Requests.{cancel, waits, is_user, end_use, leave}
-use Rattle.sim_machine.proofs.KeptTimesCases.{if_cases}
-use Rattle.sim_machine_law.proofs.LedgerLaws.{All-first, All-second}
+use Rattle.sim_machine_law.proofs.KeptTimesCases.{if_cases}
+use Rattle.sim_machine_law.proofs.UsersOfDeeds.{users_released}
 
 -- ---- waiters
 
-none_taken : {X : Type 0} (t : X → Bool) (xs : List X) → list_any t xs ≡ false → filter (λ x. not (t x)) xs ≡ xs
+pub none_taken : {X : Type 0} (t : X → Bool) (xs : List X) → list_any t xs ≡ false → filter (λ x. not (t x)) xs ≡ xs
 none_taken t [] h = refl
 none_taken t (x ∷ xs) h = let parts = or_parts (t x) (list_any t xs) h in rw parts.0 (ap (λ ys. x ∷ ys) (none_taken t xs parts.1))
 
-waiters_cancelled : (request : EventId) (f : Facilities) → (cancel request f).waiters ≡ filter (λ (w : Waiter). not (is_same w.event request)) f.waiters
+pub waiters_cancelled : (request : EventId) (f : Facilities) → (cancel request f).waiters ≡ filter (λ (w : Waiter). not (is_same w.event request)) f.waiters
 waiters_cancelled request f =
     if_cases (λ u. u.waiters ≡ filter (λ (w : Waiter). not (is_same w.event request)) f.waiters) (waits request f) (on_calendar (cancel_event request) (unqueue request f)) f
     (λ a. refl) (λ a. sym (none_taken (λ (w : Waiter). is_same w.event request) f.waiters a))
@@ -44,28 +42,11 @@ waiters_left res request f = waiters_used res request (release_made res request 
 abbrev pub UsesOther : (User → Type 0) → EventId → User → Type 0
 UsesOther P request u = P u × (is_same u.request request ≡ false)
 
-if_other : (P : User → Type 0) (request : EventId) (u : User) (m a b : Bool) → is_same u.request request ≡ b → All P (if m && not a then u ∷ [] else []) → All (UsesOther P request) (if m && not (a || (b || false)) then u ∷ [] else [])
-if_other P request u false a b is h = All-nil (UsesOther P request)
-if_other P request u true true b is h = All-nil (UsesOther P request)
-if_other P request u true false true is h = All-nil (UsesOther P request)
-if_other P request u true false false is h = All-cons (UsesOther P request) u [] (All-head P u [] h, is) (All-nil (UsesOther P request))
-
-user_by_released : (P : User → Type 0) (at res : ℕ) (request : EventId) (d : Deed) (later : List Deed) → All P (user_by at d later) → All (UsesOther P request) (user_by at d (later ++ Released res request ∷ []))
-user_by_released P at res request (Granted n u) later h =
-    subst (λ (b : Bool). All (UsesOther P request) (if (n == at) && not b then u ∷ [] else [])) (sym (list_any-append (ends_use u.request) later (Released res request ∷ [])))
-    (if_other P request u (n == at) (list_any (ends_use u.request) later) (is_same u.request request) refl h)
-user_by_released P at res request (Released n r) later h = All-nil (UsesOther P request)
-user_by_released P at res request (Preempted n r) later h = All-nil (UsesOther P request)
-user_by_released P at res request (Deposited n x) later h = All-nil (UsesOther P request)
-user_by_released P at res request (Taken n p) later h = All-nil (UsesOther P request)
-user_by_released P at res request (Filled n m) later h = All-nil (UsesOther P request)
-user_by_released P at res request (Drained n m) later h = All-nil (UsesOther P request)
-
 pub released_users : (P : User → Type 0) (at res : ℕ) (request : EventId) (ledger : List Deed) → All P (users at ledger) → All (UsesOther P request) (users at (ledger ++ Released res request ∷ []))
-released_users P at res request [] h = All-nil (UsesOther P request)
-released_users P at res request (d ∷ later) h =
-    All-append (UsesOther P request) (user_by at d (later ++ Released res request ∷ [])) (users at (later ++ Released res request ∷ []))
-    (user_by_released P at res request d later (All-first P (user_by at d later) (users at later) h)) (released_users P at res request later (All-second P (user_by at d later) (users at later) h))
+released_users P at res request ledger h =
+    let other : User → Bool = λ u. not (is_same u.request request) in
+    subst (All (UsesOther P request)) (sym (users_released at res request ledger))
+    (λ n u below. (All-filter other P (users at ledger) h n u below, not-true (is_same _ request) (filter_passes other (users at ledger) n u below)))
 
 pub ledger_cancelled : (request : EventId) (f : Facilities) → (cancel request f).ledger ≡ f.ledger
 ledger_cancelled request f = if_cases (λ u. u.ledger ≡ f.ledger) (waits request f) (on_calendar (cancel_event request) (unqueue request f)) f (λ a. refl) (λ a. refl)

@@ -1,6 +1,6 @@
 -- The calendar of a lawful state may be replaced by itself, by one with an event more, a timeout more, or a registration
 -- more, and by one where a pending event was triggered.
-use Rattle.std.proofs.Common.{◌≡◌, ◌≢◌, ℕ, ◌<◌, ◌^◌, ℤ, pos, ◌≤ℤ◌, ◌+ℤ◌, Bool, true, false, not, length, Option, Some, None, refl, sym, ap, ◌∙◌, arith}
+use Rattle.std.proofs.Common.{◌≡◌, ◌≢◌, ◌<◌, ◌^◌, ℤ, pos, ◌≤ℤ◌, ◌+ℤ◌, true, false, not, length, Option, Some, None, refl, sym, ap, ◌∙◌, arith}
 use Rattle.std.specs.Prelude.{is_none}
 use Rattle.std.proofs.lemmas.Bool.{false≢true, both_ways, ltb-true}
 use Rattle.sim_types.specs.declared.event.EventId.{EventId}
@@ -20,25 +20,27 @@ use Rattle.sim_machine.specs.LawfulProcesses.{is_process_kind}
 use Rattle.sim_machine.specs.LawfulInterruptions.{is_strike, is_interrupt_kind, is_failed_interruption}
 use Rattle.sim_machine.specs.LawfulWaiting.{waits_well, may_wait_kind}
 use Rattle.sim_machine.specs.LawfulChains.{is_triggered_kind, chains_well}
-use Rattle.sim_machine.specs.Lawful.{Lawful}
-use Rattle.sim_machine.proofs.EventLaws.{same_event, change_event-other, make-new}
-use Rattle.sim_machine.proofs.TimeLaws.{make_lawful, timeout_lawful}
-use Rattle.sim_machine.proofs.KeptTimes.{times_registered, times_triggered}
-use Rattle.sim_machine.proofs.KeptTimesCases.{if_cases}
-use Rattle.sim_machine.proofs.KeptRegistrationsCalendar.{pending_unprocessed, later_self, later_made, calm_scheduled}
-use Rattle.sim_machine.proofs.KeptRegistrations.{registrations_register, registrations_made, registrations_scheduled, registrations_timeout}
-use Rattle.sim_machine.proofs.KeptProcessesParts.{living-same, living-events, living-made, living-scheduled, living-trans, resumes-same, resumes-registered}
-use Rattle.sim_machine.proofs.KeptInterruptionsParts.{KeepsHearing, interruptions-strikes, hearing-same, hearing-events, hearing-made, hearing-scheduled, hearing-trans, strikes-kept, strikes-registered}
-use Rattle.sim_machine.proofs.KeptWaiting.{waits_pending}
-use Rattle.sim_machine.proofs.KeptCapacities.{later_timeout}
-use Rattle.sim_machine.proofs.KeptConditions.{IsNoConditions, conditions_registered}
-use Rattle.sim_machine.proofs.KeptConditionsEvents.{conditions_made, conditions_scheduled}
-use Rattle.sim_machine.proofs.KeptBodies.{four_parts}
-use Rattle.sim_machine.proofs.KeptBodiesEvents.{OldStay, grown_itself, grown_old, grown_scheduled, old_itself, old_made, old_timeout}
-use Rattle.sim_machine.proofs.KeptChains.{chains_register, chains_made, chains_scheduled, chains_timeout}
+use Rattle.sim_machine_law.proofs.EventLaws.{same_event, change_event-other, make-new}
+use Rattle.sim_machine_law.proofs.TimeLaws.{make_lawful, timeout_lawful}
+use Rattle.sim_machine_law.proofs.KeptTimes.{times_registered, times_triggered}
+use Rattle.sim_machine_law.proofs.KeptTimesCases.{if_cases}
+use Rattle.sim_machine_law.proofs.KeptRegistrationsCalendar.{pending_unprocessed, later_self, later_made, calm_scheduled}
+use Rattle.sim_machine_law.proofs.KeptRegistrations.{registrations_register, registrations_made, registrations_scheduled, registrations_timeout}
+use Rattle.sim_machine_law.proofs.KeptProcessesParts.{living-same, living-events, living-made, living-scheduled, living-trans, resumes-same, resumes-registered}
+use Rattle.sim_machine_law.proofs.KeptInterruptionsParts.{KeepsHearing, interruptions-strikes, hearing-same, hearing-events, hearing-made, hearing-scheduled, hearing-trans, strikes-kept, strikes-registered}
+use Rattle.sim_machine_law.proofs.KeptWaiting.{waits_pending}
+use Rattle.sim_machine_law.proofs.KeptCapacities.{later_timeout}
+use Rattle.sim_machine_law.proofs.KeptConditions.{IsNoConditions, conditions_registered}
+use Rattle.sim_machine_law.proofs.KeptConditionsEvents.{conditions_made, conditions_scheduled}
+use Rattle.sim_machine_law.proofs.KeptBodies.{four_parts}
+use Rattle.sim_machine_law.proofs.KeptBodiesEvents.{OldStay, grown_itself, grown_old, grown_scheduled, old_itself, old_made, old_timeout}
+use Rattle.sim_machine_law.proofs.KeptChains.{chains_register, chains_made, chains_scheduled, chains_timeout}
 use Rattle.sim_machine_law.proofs.ChangedCalendars.{MayReplace}
+use Rattle.sim_machine_law.proofs.LawfulBasis.{LawfulBasis}
+use Rattle.sim_machine_law.proofs.KeptWaitingUnits.{old_pending}
+use Rattle.sim_machine_law.proofs.ChangedQueues.{processed_zero}
 
-pub replace_same : {B : Type 0} (g : Plan B) (tell : Telling B) (sound : B → Type 0) (s : State B) → Lawful g tell sound s → MayReplace s (calendar s)
+pub replace_same : {B : Type 0} (g : Plan B) (tell : Telling B) (sound : B → Type 0) (s : State B) → LawfulBasis g tell sound s → MayReplace s (calendar s)
 replace_same g tell sound s l =
     let c : Calendar = calendar s in
     record {
@@ -57,15 +59,11 @@ replace_same g tell sound s l =
 
 -- ---- an event is made
 
-waiter_made : (c : Calendar) (w : Waiter) → waits_well c w ≡ true → w.event.0 < length c.events
+pub waiter_made : (c : Calendar) (w : Waiter) → waits_well c w ≡ true → w.event.0 < length c.events
 waiter_made c w h = ltb-true w.event.0 (length c.events) (four_parts (was_made c w.event) (is_pending c w.event) (not (event_at c w.event).cancelled) (may_wait_kind (kind_at c w.event)) h).0
 
--- what waits is pending still, where old events stay as they were
-pub old_waits : (c d : Calendar) → OldStay c d → (w : Waiter) → waits_well c w ≡ true → is_pending d w.event ≡ true
-old_waits c d old w h = ap (λ (x : EventOf). is_none x.outcome) (old.same w.event (waiter_made c w h)) ∙ waits_pending c w h
-
 -- it is no interruption
-pub replace_made : {B : Type 0} (g : Plan B) (tell : Telling B) (sound : B → Type 0) (s : State B) (k : EventKind) → is_interrupt_kind k ≡ false → Lawful g tell sound s → MayReplace s (make k (calendar s))
+pub replace_made : {B : Type 0} (g : Plan B) (tell : Telling B) (sound : B → Type 0) (s : State B) (k : EventKind) → is_interrupt_kind k ≡ false → LawfulBasis g tell sound s → MayReplace s (make k (calendar s))
 replace_made g tell sound s k other l =
     let c : Calendar = calendar s in
     let d : Calendar = make k c in
@@ -79,14 +77,14 @@ replace_made g tell sound s k other l =
       hearing = hearing;
       strikes = strikes-kept c s.control d s.control hearing (λ f. refl) (interruptions-strikes s l.interruptions);
       grown = grown_old c d old;
-      pending = old_waits c d old;
+      pending = old_pending c d old;
       later = later_made k c;
       conditions = conditions_made k c s.control l.conditions;
       chains = chains_made k c s.control l.registrations l.chains;
     }
 
 -- a timeout is made, up to the last time
-pub replace_timeout : {B : Type 0} (g : Plan B) (tell : Telling B) (sound : B → Type 0) (s : State B) (delay value : ℤ) → pos 0 ≤ℤ delay → ((calendar s).time +ℤ delay) ≤ℤ pos (2 ^ 62) → Lawful g tell sound s → MayReplace s (make_timeout delay value (calendar s))
+pub replace_timeout : {B : Type 0} (g : Plan B) (tell : Telling B) (sound : B → Type 0) (s : State B) (delay value : ℤ) → pos 0 ≤ℤ delay → ((calendar s).time +ℤ delay) ≤ℤ pos (2 ^ 62) → LawfulBasis g tell sound s → MayReplace s (make_timeout delay value (calendar s))
 replace_timeout g tell sound s delay value low high l =
     let c : Calendar = calendar s in
     let e : EventId = next_event c in
@@ -103,7 +101,7 @@ replace_timeout g tell sound s delay value low high l =
       hearing = hearing;
       strikes = strikes-kept c s.control d s.control hearing (λ f. refl) (interruptions-strikes s l.interruptions);
       grown = grown_old c d old;
-      pending = old_waits c d old;
+      pending = old_pending c d old;
       later = later_timeout delay value c;
       conditions = conditions_scheduled e (outcome.Ok value) normal delay made s.control (conditions_made kind.Timeout c s.control l.conditions);
       chains = chains_timeout delay value c s.control l.registrations l.chains;
@@ -121,19 +119,13 @@ triggered_no_interrupt kind.Plain h = refl
 triggered_no_interrupt kind.Timeout h = refl
 triggered_no_interrupt _ h = absurd (false≢true h)
 
-triggered_no_waiter : (k : EventKind) → is_triggered_kind k ≡ true → may_wait_kind k ≡ false
+pub triggered_no_waiter : (k : EventKind) → is_triggered_kind k ≡ true → may_wait_kind k ≡ false
 triggered_no_waiter kind.Plain h = refl
 triggered_no_waiter kind.Timeout h = refl
 triggered_no_waiter _ h = absurd (false≢true h)
 
--- event 0 is not pending
-nonzero : {B : Type 0} (g : Plan B) (tell : Telling B) (sound : B → Type 0) (s : State B) (e : EventId) → Lawful g tell sound s → is_processed (calendar s) e ≡ false → e.0 ≢ 0
-nonzero g tell sound s e l unprocessed zero =
-    let at : ℕ → Bool = λ n. is_processed (calendar s) (record { 0 = n }) in
-    both_ways (is_processed (calendar s) e) unprocessed (ap at zero ∙ l.processes.zero_processed)
-
 -- it is plain or a timeout
-pub replace_triggered : {B : Type 0} (g : Plan B) (tell : Telling B) (sound : B → Type 0) (s : State B) (e : EventId) (x : Outcome) → e.0 < length (calendar s).events → is_triggered_kind (kind_at (calendar s) e) ≡ true → is_pending (calendar s) e ≡ true → Lawful g tell sound s → MayReplace s (trigger e x (calendar s))
+pub replace_triggered : {B : Type 0} (g : Plan B) (tell : Telling B) (sound : B → Type 0) (s : State B) (e : EventId) (x : Outcome) → e.0 < length (calendar s).events → is_triggered_kind (kind_at (calendar s) e) ≡ true → is_pending (calendar s) e ≡ true → LawfulBasis g tell sound s → MayReplace s (trigger e x (calendar s))
 replace_triggered g tell sound s e x made kinds pending l =
     let c : Calendar = calendar s in
     let d : Calendar = trigger e x c in
@@ -145,7 +137,7 @@ replace_triggered g tell sound s e x made kinds pending l =
     record {
       times = times_triggered e x c made pending unprocessed l.times;
       registrations = registrations_scheduled e x normal (pos 0) c s.control l.registrations;
-      living = living-scheduled e x normal (pos 0) c (triggered_no_process (kind_at c e) kinds) (nonzero g tell sound s e l unprocessed);
+      living = living-scheduled e x normal (pos 0) c (triggered_no_process (kind_at c e) kinds) (processed_zero g tell sound s e l unprocessed);
       resumes = resumes-same c s.control d s.control refl refl (λ f. refl) (λ p. refl);
       hearing = hearing;
       strikes = strikes-kept c s.control d s.control hearing (λ f. refl) (interruptions-strikes s l.interruptions);
@@ -157,7 +149,7 @@ replace_triggered g tell sound s e x made kinds pending l =
     }
 
 -- an outcome is passed on to it, if it is pending
-pub replace_passed_on : {B : Type 0} (g : Plan B) (tell : Telling B) (sound : B → Type 0) (s : State B) (o : Option Outcome) (y : EventId) → y.0 < length (calendar s).events → is_triggered_kind (kind_at (calendar s) y) ≡ true → Lawful g tell sound s → MayReplace s (pass_on o y (calendar s))
+pub replace_passed_on : {B : Type 0} (g : Plan B) (tell : Telling B) (sound : B → Type 0) (s : State B) (o : Option Outcome) (y : EventId) → y.0 < length (calendar s).events → is_triggered_kind (kind_at (calendar s) y) ≡ true → LawfulBasis g tell sound s → MayReplace s (pass_on o y (calendar s))
 replace_passed_on g tell sound s None y made kinds l = replace_same g tell sound s l
 replace_passed_on g tell sound s (Some x) y made kinds l =
     if_cases (MayReplace s) (is_pending (calendar s) y) (trigger y x (calendar s)) (calendar s) (λ pending. replace_triggered g tell sound s y x made kinds pending l) (λ turned. replace_same g tell sound s l)
@@ -165,7 +157,7 @@ replace_passed_on g tell sound s (Some x) y made kinds l =
 -- ---- one callback more is registered
 
 -- it resumes nobody, strikes nobody, is no condition's, passes on well, and stands at an event that is no interruption
-pub replace_registered : {B : Type 0} (g : Plan B) (tell : Telling B) (sound : B → Type 0) (s : State B) (e : EventId) (x : Callback) → e.0 < length (calendar s).events → is_processed (calendar s) e ≡ false → is_interrupt_kind (kind_at (calendar s) e) ≡ false → ((p : ProcId) → is_resume_of p x ≡ false) → is_strike x ≡ false → IsNoConditions x → chains_well (calendar s) e x ≡ true → Lawful g tell sound s → MayReplace s (register e x (calendar s))
+pub replace_registered : {B : Type 0} (g : Plan B) (tell : Telling B) (sound : B → Type 0) (s : State B) (e : EventId) (x : Callback) → e.0 < length (calendar s).events → is_processed (calendar s) e ≡ false → is_interrupt_kind (kind_at (calendar s) e) ≡ false → ((p : ProcId) → is_resume_of p x ≡ false) → is_strike x ≡ false → IsNoConditions x → chains_well (calendar s) e x ≡ true → LawfulBasis g tell sound s → MayReplace s (register e x (calendar s))
 replace_registered g tell sound s e x made unprocessed kinds resumes strikes no_condition well l =
     let c : Calendar = calendar s in
     let d : Calendar = register e x c in

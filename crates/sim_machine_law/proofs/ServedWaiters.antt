@@ -1,6 +1,6 @@
 -- A waiter that is served leaves its queue, its event succeeds, and a deed is written; a user that is preempted is
 -- interrupted. Both leave a lawful state, and all others wait on.
-use Rattle.std.proofs.Common.{◌≡◌, ◌≢◌, ℕ, ◌<◌, ℤ, pos, Bool, true, false, ◌&&◌, not, List, [], length, Option, Some, None, refl, sym, subst, ap, ◌∙◌, arith, filter, All}
+use Rattle.std.proofs.Common.{◌≡◌, ◌≢◌, ℕ, ◌<◌, ℤ, pos, Bool, true, false, ◌&&◌, not, List, [], length, Some, refl, sym, subst, ap, ◌∙◌, arith, filter, All}
 use Rattle.std.specs.Prelude.{◌==◌, is_none}
 use Rattle.std.proofs.lemmas.Bool.{false≢true, and_from, both_ways, ne_eqb, not-true}
 use Rattle.std.proofs.lemmas.Bool.Decides.{nat_tests}
@@ -26,14 +26,15 @@ use Rattle.sim_machine.specs.LawfulProcesses.{is_process_kind}
 use Rattle.sim_machine.specs.LawfulInterruptions.{is_interrupt_kind}
 use Rattle.sim_machine.specs.LawfulWaiting.{waits_well, may_wait_kind, has_scope}
 use Rattle.sim_machine.specs.LawfulCapacities.{is_in_use}
-use Rattle.sim_machine.specs.Lawful.{Lawful}
-use Rattle.sim_machine.proofs.EventLaws.{same_event, change_event-same, change_event-length}
-use Rattle.sim_machine.proofs.KeptRegistrationsCalendar.{Calm, below_made, made_below, calm_self, calm_then, calm_made, calm_defused, calm_scheduled}
-use Rattle.sim_machine.proofs.KeptBodies.{four_parts}
+use Rattle.sim_machine_law.proofs.LawfulBasis.{LawfulBasis}
+use Rattle.sim_machine_law.proofs.EventLaws.{same_event, change_event-same, change_event-length}
+use Rattle.sim_machine_law.proofs.KeptRegistrationsCalendar.{Calm, below_made, made_below, calm_self, calm_then, calm_made, calm_defused, calm_scheduled}
+use Rattle.sim_machine_law.proofs.KeptBodies.{four_parts}
 use Rattle.sim_machine_law.proofs.MadeInterruption.{replace_interrupted}
 use Rattle.sim_machine_law.proofs.ChangedFacilities.{lawful_on_events}
 use Rattle.sim_machine_law.proofs.ChangedQueues.{lawful_unqueued, lawful_triggered, lawful_deed}
-use Rattle.sim_machine_law.proofs.LedgerLaws.{FitsLedger, users_after, capacities_deed, plain_fits}
+use Rattle.sim_machine_law.proofs.LedgerSteps.{users_after}
+use Rattle.sim_machine_law.proofs.LedgerLaws.{FitsLedger, capacities_deed, plain_fits}
 use Rattle.sim_machine_law.proofs.TriedQueues.{IsOneOf, one_has, one_filtered}
 
 -- ---- events that may wait
@@ -58,11 +59,11 @@ unqueued_apart e ws =
 
 -- facilities that leave the state lawful, where all that wait for another event than w's wait on
 pub record IsServedWell {B : Type 0} (g : Plan B) (tell : Telling B) (sound : B → Type 0) (s : State B) (w : Waiter) (f : Facilities) : Type 0 where
-  pub lawful : Lawful g tell sound (record s { facilities = f })
+  pub lawful : LawfulBasis g tell sound (record s { facilities = f })
   pub calm : Calm s.facilities.calendar f.calendar
   pub others : (v : Waiter) → v.event ≢ w.event → IsOneOf s.facilities.waiters v → IsOneOf f.waiters v
 
-pub served_none : {B : Type 0} (g : Plan B) (tell : Telling B) (sound : B → Type 0) (s : State B) (w : Waiter) → Lawful g tell sound s → IsServedWell g tell sound s w s.facilities
+pub served_none : {B : Type 0} (g : Plan B) (tell : Telling B) (sound : B → Type 0) (s : State B) (w : Waiter) → LawfulBasis g tell sound s → IsServedWell g tell sound s w s.facilities
 served_none g tell sound s w l = record { lawful = l; calm = calm_self s.facilities.calendar s.facilities.calendar refl; others = λ v differ one. one }
 
 -- ---- one is served
@@ -71,7 +72,7 @@ served_none g tell sound s w l = record { lawful = l; calm = calm_self s.facilit
 abbrev pub IsUserOf : {B : Type 0} → State B → Waiter → ℕ → User → Type 0
 IsUserOf s w res u = (u.request ≡ w.event) × (has_scope s.scopes u.request u.process res ≡ true)
 
-pub lawful_served : {B : Type 0} (g : Plan B) (tell : Telling B) (sound : B → Type 0) (s : State B) (w : Waiter) (value : ℤ) (deed : Deed) → Lawful g tell sound s → IsOneOf s.facilities.waiters w → FitsLedger g.setup.resources s.facilities.ledger deed → ((res : ℕ) → All (IsUserOf s w res) (user_by res deed [])) → IsServedWell g tell sound s w (serve w value deed s.facilities)
+pub lawful_served : {B : Type 0} (g : Plan B) (tell : Telling B) (sound : B → Type 0) (s : State B) (w : Waiter) (value : ℤ) (deed : Deed) → LawfulBasis g tell sound s → IsOneOf s.facilities.waiters w → FitsLedger g.setup.resources s.facilities.ledger deed → ((res : ℕ) → All (IsUserOf s w res) (user_by res deed [])) → IsServedWell g tell sound s w (serve w value deed s.facilities)
 lawful_served {B} g tell sound s w value deed l one fits new =
     let rs : List Resource = g.setup.resources in
     let c : Calendar = calendar s in
@@ -83,10 +84,10 @@ lawful_served {B} g tell sound s w value deed l one fits new =
     let r : State B = on_facilities (unqueue e) s in
     let d : Calendar = trigger e (outcome.Ok value) c in
     let t : State B = on_events (trigger e (outcome.Ok value)) r in
-    let left : Lawful g tell sound r = lawful_unqueued g tell sound s e l in
-    let turned : Lawful g tell sound t = lawful_triggered g tell sound r e (outcome.Ok value) left made parts.1 (waiter_no_process (kind_at c e) parts.3) (waiter_no_interrupt (kind_at c e) parts.3) (unqueued_apart e s.facilities.waiters) in
+    let left : LawfulBasis g tell sound r = lawful_unqueued g tell sound s e l in
+    let turned : LawfulBasis g tell sound t = lawful_triggered g tell sound r e (outcome.Ok value) left made parts.1 (waiter_no_process (kind_at c e) parts.3) (waiter_no_interrupt (kind_at c e) parts.3) (unqueued_apart e s.facilities.waiters) in
     let using : (res : ℕ) → All (λ (u : User). is_in_use d u ≡ true) (user_by res deed []) = λ res. All-weaker (IsUserOf s w res) (λ (u : User). is_in_use d u ≡ true) (λ u h. subst (λ (n : EventId). (was_made d n && not (is_pending d n)) ≡ true) (sym h.0) (granted made)) (user_by res deed []) (new res) in
-    let all : Lawful g tell sound (on_facilities (write_deed deed) t) = lawful_deed g tell sound t deed turned
+    let all : LawfulBasis g tell sound (on_facilities (write_deed deed) t) = lawful_deed g tell sound t deed turned
     (λ res. users_after (λ (u : User). has_scope s.scopes u.request u.process res ≡ true) res deed s.facilities.ledger (l.waiting.using res) (All-weaker (IsUserOf s w res) (λ (u : User). has_scope s.scopes u.request u.process res ≡ true) (λ u h. h.1) (user_by res deed []) (new res)))
     (capacities_deed rs t.facilities deed fits using turned.capacities) in
     record {
@@ -115,18 +116,18 @@ calm_interrupted p t c =
     let d : Calendar = defuse e b in
     calm_then c a (make_interruption p t c) (calm_made kind.Interrupt c) (calm_then a b (make_interruption p t c) (calm_self a b refl) (calm_then b d (make_interruption p t c) (calm_defused e b) (calm_scheduled e (outcome.Fail t) urgent (pos 0) d)))
 
-pub lawful_preempted : {B : Type 0} (g : Plan B) (tell : Telling B) (sound : B → Type 0) (s : State B) (w : Waiter) (res : ℕ) (o : Option User) → Lawful g tell sound s → IsServedWell g tell sound s w (preempt res o s.facilities)
-lawful_preempted g tell sound s w res None l = served_none g tell sound s w l
-lawful_preempted {B} g tell sound s w res (Some u) l =
-    let rs : List Resource = g.setup.resources in
-    let deed : Deed = Preempted res u.request in
-    let thrown : Throw = record { kind = 2; value = u.since } in
-    let t : State B = on_facilities (write_deed deed) s in
-    let written : Lawful g tell sound t = lawful_deed g tell sound s deed l
-    (λ n. users_after (λ (v : User). has_scope s.scopes v.request v.process n ≡ true) n deed s.facilities.ledger (l.waiting.using n) (All-nil (λ (v : User). has_scope s.scopes v.request v.process n ≡ true)))
-    (capacities_deed rs s.facilities deed (plain_fits rs s.facilities deed (λ n. refl) (λ n. refl) (λ n. refl) l.capacities) (λ n. All-nil (λ (v : User). is_in_use (calendar s) v ≡ true)) l.capacities) in
-    record {
-      lawful = lawful_on_events g tell sound t (make_interruption u.process thrown) written (replace_interrupted g tell sound t u.process thrown written) (calm_interrupted u.process thrown (calendar s));
-      calm = calm_interrupted u.process thrown (calendar s);
-      others = λ v differ one. one;
-    }
+module _ {B : Type 0} (g : Plan B) (tell : Telling B) (sound : B → Type 0) where
+  pub lawful_preempted : (s : State B) (w : Waiter) (res : ℕ) (u : User) → LawfulBasis g tell sound s → IsServedWell g tell sound s w (preempt res u s.facilities)
+  lawful_preempted s w res u l =
+      let rs : List Resource = g.setup.resources in
+      let deed : Deed = Preempted res u.request in
+      let thrown : Throw = record { kind = 2; value = u.since } in
+      let t : State B = on_facilities (write_deed deed) s in
+      let written : LawfulBasis g tell sound t = lawful_deed g tell sound s deed l
+      (λ n. users_after (λ (v : User). has_scope s.scopes v.request v.process n ≡ true) n deed s.facilities.ledger (l.waiting.using n) (All-nil (λ (v : User). has_scope s.scopes v.request v.process n ≡ true)))
+      (capacities_deed rs s.facilities deed (plain_fits rs s.facilities deed (λ n. refl) (λ n. refl) (λ n. refl) l.capacities) (λ n. All-nil (λ (v : User). is_in_use (calendar s) v ≡ true)) l.capacities) in
+      record {
+        lawful = lawful_on_events g tell sound t (make_interruption u.process thrown) written (replace_interrupted g tell sound t u.process thrown written) (calm_interrupted u.process thrown (calendar s));
+        calm = calm_interrupted u.process thrown (calendar s);
+        others = λ v differ one. one;
+      }

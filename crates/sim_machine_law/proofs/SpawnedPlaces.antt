@@ -19,10 +19,10 @@ use Rattle.sim_machine.specs.MayAsk.{is_zero, is_named, is_in_place, argument_fi
 use Rattle.sim_machine.specs.BodyLaw.{IsLawfulStart, holds_argument, may_start}
 use Rattle.sim_machine.specs.LawfulProcesses.{is_process_kind, is_plain_kind}
 use Rattle.sim_machine.specs.LawfulBodies.{place_fits}
-use Rattle.sim_machine.proofs.EventLaws.{same_event}
-use Rattle.sim_machine.proofs.KeptBodiesUnits.{places_begun}
-use Rattle.sim_machine.proofs.KeptRegistrations.{named_within}
-use Rattle.sim_machine.proofs.StartedPlaces.{NamedPlain}
+use Rattle.sim_machine_law.proofs.EventLaws.{same_event}
+use Rattle.sim_machine_law.proofs.KeptBodiesUnits.{places_begun}
+use Rattle.sim_machine_law.proofs.KeptRegistrations.{named_within}
+use Rattle.sim_machine_law.proofs.StartedPlaces.{plain_fits, NamedPlain}
 
 -- ---- a process may begin with what fits
 
@@ -71,11 +71,6 @@ place_shared c (y ∷ ys) k e x fits stands same at =
     same_place_fits c x y (sym (is_class-yes k x.class same) ∙ sym (is_class-yes y.class k found.0)) (at ∙ sym (same_event y.event e (eqb-true y.event.0 e.0 found.1))) parts.0)
     (λ there. place_shared c ys k e x parts.1 there same at)
     (or_cases (is_class y.class k && is_same y.event e) (is_in_place ys k e) stands)
-
-plain_fits : (d : Class) (k : EventKind) → is_class class.Event d ≡ true → is_plain_kind k ≡ true → kind_fits d k ≡ true
-plain_fits class.Event kind.Plain h w = refl
-plain_fits class.Event _ h w = absurd (false≢true w)
-plain_fits _ k h w = absurd (false≢true h)
 
 process_fits : (d : Class) (k : EventKind) → is_class class.Proc d ≡ true → is_process_kind k ≡ true → kind_fits d k ≡ true
 process_fits class.Proc kind.Process h w = refl

@@ -13,9 +13,9 @@ use Rattle.sim_machine.specs.Processes.{process_at, is_alive, target_of}
 use Rattle.sim_machine.specs.Effect.{calendar}
 use Rattle.sim_machine.specs.Standing.{left_of, is_event_of, all_callbacks_of, callbacks_in_all}
 use Rattle.sim_machine.specs.LawfulProcesses.{LawfulProcesses, is_active, is_waiting_well}
-use Rattle.sim_machine.proofs.CallbackLaws.{count_by-append}
-use Rattle.sim_machine.proofs.KeptBodies.{find_has, find_passes}
-use Rattle.sim_machine.proofs.KeptProcessesParts.{WaitsOnce, waits_once, is_process-yes, is_process-swap}
+use Rattle.sim_machine_law.proofs.CallbackLaws.{count_by-append}
+use Rattle.sim_machine_law.proofs.KeptBodies.{find_has, find_passes}
+use Rattle.sim_machine_law.proofs.KeptProcessesParts.{WaitsOnce, waits_once, is_process-yes, is_process-swap}
 use Rattle.sim_machine_law.proofs.TakenOut.{bears, callbacks-counted, count-taken, at-unregister, in_all-unregister}
 
 -- ---- a live process is found

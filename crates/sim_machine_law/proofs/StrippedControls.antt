@@ -14,15 +14,16 @@ use Rattle.sim_machine.specs.Events.{is_same, is_process, without_first, unregis
 use Rattle.sim_machine.specs.Standing.{all_callbacks_of, callbacks_in_all}
 use Rattle.sim_machine.specs.LawfulRegistrations.{LawfulRegistrations}
 use Rattle.sim_machine.specs.LawfulInterruptions.{is_strike}
-use Rattle.sim_machine.specs.LawfulConditions.{LawfulConditions, is_build_of, first_passes}
+use Rattle.sim_machine.specs.LawfulConditions.{is_build_of, first_passes}
 use Rattle.sim_machine.specs.LawfulChains.{LawfulChains, chains_well}
-use Rattle.sim_machine.proofs.CallbackLaws.{count_by-append, length_counts}
-use Rattle.sim_machine.proofs.KeptRegistrations.{registrations_control}
-use Rattle.sim_machine.proofs.KeptInterruptionsParts.{StrikesAlone, alone_parts, alone_from}
-use Rattle.sim_machine.proofs.KeptConditions.{conditions_controlled}
-use Rattle.sim_machine.proofs.KeptChains.{chains_control}
+use Rattle.sim_machine_law.proofs.CallbackLaws.{count_by-append, length_counts}
+use Rattle.sim_machine_law.proofs.KeptRegistrations.{registrations_control}
+use Rattle.sim_machine_law.proofs.KeptInterruptionsParts.{StrikesAlone, alone_parts, alone_from}
+use Rattle.sim_machine_law.proofs.KeptConditions.{conditions_controlled}
+use Rattle.sim_machine_law.proofs.KeptChains.{chains_control}
 use Rattle.sim_machine_law.proofs.TakenOut.{All-without_first, bears, callbacks-counted, count-apart, count-less, count-taken, registrations_taken, strikes_taken, conditions_taken, chains_taken, resumes_only}
 use Rattle.sim_machine_law.proofs.StoppedWaiting.{Resumed, resumes_other, others-unregister, others_at-unregister}
+use Rattle.sim_machine_law.proofs.LawfulBasis.{ConditionsBasis}
 
 -- the control of a run of p, with the first resumption of q taken out of the calls left
 abbrev pub without_resume : EventId → List Callback → ProcId → Signal → ProcId → Control
@@ -137,7 +138,7 @@ weaker_last false false b a d keeps h = absurd (false≢true h)
 first_of_calls : (m n : ℕ) (b a d : Bool) → m ≡ n → (a ≡ true → d ≡ true) → ((n == 0) || (n == 1) && b && a) ≡ true → ((m == 0) || (m == 1) && b && d) ≡ true
 first_of_calls m n b a d same keeps h = rw same (weaker_last (n == 0) (n == 1) b a d keeps h)
 
-pub conditions_dropped : (c : Calendar) (e : EventId) (left : List Callback) (p q : ProcId) (x : Signal) (target : EventId) → LawfulConditions c (Active e left p x) → LawfulConditions (without_waiting target q c) (without_resume e left p x q)
+pub conditions_dropped : (c : Calendar) (e : EventId) (left : List Callback) (p q : ProcId) (x : Signal) (target : EventId) → ConditionsBasis c (Active e left p x) → ConditionsBasis (without_waiting target q c) (without_resume e left p x q)
 conditions_dropped c e left p q x target h =
     let d : Calendar = without_waiting target q c in
     let u : Callback → Bool = is_resume_of q in

@@ -23,26 +23,25 @@ use Rattle.sim_machine.specs.LawfulTimes.{LawfulTimes}
 use Rattle.sim_machine.specs.LawfulRegistrations.{LawfulRegistrations}
 use Rattle.sim_machine.specs.LawfulInterruptions.{LawfulInterruptions, is_unheard_kind, is_failed_interruption, has_heard_members}
 use Rattle.sim_machine.specs.LawfulWaiting.{waits_well, entered_by}
-use Rattle.sim_machine.specs.LawfulConditions.{LawfulConditions}
 use Rattle.sim_machine.specs.LawfulChains.{LawfulChains, chains_well}
 use Rattle.sim_machine.specs.LawfulBodies.{told_fits, is_told_well}
-use Rattle.sim_machine.specs.Lawful.{Lawful}
-use Rattle.sim_machine.proofs.KeptRegistrationsCalendar.{Later}
-use Rattle.sim_machine.proofs.KeptRegistrations.{registrations_told, registrations_control}
-use Rattle.sim_machine.proofs.KeptProcessesParts.{KeepsLiving, KeepsResumes, resumes-called}
-use Rattle.sim_machine.proofs.KeptProcesses.{processes-events, processes-control}
-use Rattle.sim_machine.proofs.KeptProcessesChanges.{processes-bodies, processes-told}
-use Rattle.sim_machine.proofs.KeptInterruptionsParts.{StrikesAlone, AllMade, all_made, interruptions-registered, interruptions-calling, failed_after, members_after, passes_at}
-use Rattle.sim_machine.proofs.KeptInterruptions.{interruptions-called}
-use Rattle.sim_machine.proofs.KeptInterruptionsChanges.{interruptions-bodies, interruptions-told}
-use Rattle.sim_machine.proofs.KeptWaitingPolls.{waiting_unpolled}
-use Rattle.sim_machine.proofs.KeptCapacities.{capacities_later}
-use Rattle.sim_machine.proofs.KeptConditions.{conditions_told}
-use Rattle.sim_machine.proofs.KeptBodiesEvents.{Grown}
-use Rattle.sim_machine.proofs.KeptBodiesPolls.{bodies_moved, bodies_going_on}
-use Rattle.sim_machine.proofs.KeptChains.{chains_told, chains_control}
+use Rattle.sim_machine_law.proofs.KeptRegistrationsCalendar.{Later}
+use Rattle.sim_machine_law.proofs.KeptRegistrations.{registrations_told, registrations_control}
+use Rattle.sim_machine_law.proofs.KeptProcessesParts.{KeepsLiving, KeepsResumes, resumes-called}
+use Rattle.sim_machine_law.proofs.KeptProcesses.{processes-events, processes-control}
+use Rattle.sim_machine_law.proofs.KeptProcessesChanges.{processes-bodies, processes-told}
+use Rattle.sim_machine_law.proofs.KeptInterruptionsParts.{StrikesAlone, AllMade, all_made, interruptions-registered, interruptions-calling, failed_after, members_after, passes_at}
+use Rattle.sim_machine_law.proofs.KeptInterruptions.{interruptions-called}
+use Rattle.sim_machine_law.proofs.KeptInterruptionsChanges.{interruptions-bodies, interruptions-told}
+use Rattle.sim_machine_law.proofs.KeptWaitingPolls.{waiting_unpolled}
+use Rattle.sim_machine_law.proofs.KeptCapacities.{capacities_later}
+use Rattle.sim_machine_law.proofs.KeptConditions.{conditions_told}
+use Rattle.sim_machine_law.proofs.KeptBodiesEvents.{Grown}
+use Rattle.sim_machine_law.proofs.KeptBodiesPolls.{bodies_moved, bodies_going_on}
+use Rattle.sim_machine_law.proofs.KeptChains.{chains_told, chains_control}
 use Rattle.sim_machine_law.proofs.ToldScopes.{waiting_told}
 use Rattle.sim_machine_law.proofs.ChangedCalendars.{MayReplace, HasAsked, body_asked, scopes_asked_for}
+use Rattle.sim_machine_law.proofs.LawfulBasis.{ConditionsBasis, LawfulBasis}
 
 -- whether this is an event that one may wait for
 abbrev pub hears : Calendar → EventId → Bool
@@ -72,7 +71,7 @@ pub heard_members : (c : Calendar) (x : EventOf) → has_heard_members c x ≡ l
 heard_members c x = heard_of c x.condition x
 
 -- a calendar that may replace the state's may take its place
-pub take_replaced : {B : Type 0} (g : Plan B) (tell : Telling B) (sound : B → Type 0) (s : State B) (d : Calendar) → Lawful g tell sound s → MayReplace s d → MayTake s d
+pub take_replaced : {B : Type 0} (g : Plan B) (tell : Telling B) (sound : B → Type 0) (s : State B) (d : Calendar) → LawfulBasis g tell sound s → MayReplace s d → MayTake s d
 take_replaced g tell sound s d l k =
     let c : Calendar = calendar s in
     record {
@@ -91,7 +90,7 @@ take_replaced g tell sound s d l k =
 
 -- ---- the state with that calendar
 
-interruptions_taken : {B : Type 0} (g : Plan B) (tell : Telling B) (sound : B → Type 0) (s : State B) (d : Calendar) → Lawful g tell sound s → MayTake s d → LawfulInterruptions (on_events (λ c. d) s)
+interruptions_taken : {B : Type 0} (g : Plan B) (tell : Telling B) (sound : B → Type 0) (s : State B) (d : Calendar) → LawfulBasis g tell sound s → MayTake s d → LawfulInterruptions (on_events (λ c. d) s)
 interruptions_taken g tell sound s d l k =
     let c : Calendar = calendar s in
     let made : AllMade s = all_made g tell sound s l in
@@ -104,12 +103,12 @@ interruptions_taken g tell sound s d l k =
     }
 
 -- the process goes on and is told n, and the calendar is changed so
-pub lawful_taken_told : {B : Type 0} (g : Plan B) (tell : Telling B) (sound : B → Type 0) (s : State B) (f : CodeFacts) (e : EventId) (left : List Callback) (p : ProcId) (x : Signal) (y : ProcessOf B) (b : B) (o : Op) (n : Signal) (change : Calendar → Calendar) → HasAsked g tell sound s f e left p x y b o → MayTake s (change (calendar s)) → LawfulConditions (change (calendar s)) s.control → is_enter (tell.last b) ≡ false → told_fits tell (change (calendar s)) b n ≡ true → Lawful g tell sound (told n (on_events change (with_body p b s)))
+pub lawful_taken_told : {B : Type 0} (g : Plan B) (tell : Telling B) (sound : B → Type 0) (s : State B) (f : CodeFacts) (e : EventId) (left : List Callback) (p : ProcId) (x : Signal) (y : ProcessOf B) (b : B) (o : Op) (n : Signal) (change : Calendar → Calendar) → HasAsked g tell sound s f e left p x y b o → MayTake s (change (calendar s)) → ConditionsBasis (change (calendar s)) s.control → is_enter (tell.last b) ≡ false → told_fits tell (change (calendar s)) b n ≡ true → LawfulBasis g tell sound (told n (on_events change (with_body p b s)))
 lawful_taken_told {B} g tell sound s f e left p x y b o n change h k conditions not_enters fits =
     let d : Calendar = change (calendar s) in
     let r : State B = with_body p b s in
     let t : State B = on_events change r in
-    let l : Lawful g tell sound s = h.lawful in
+    let l : LawfulBasis g tell sound s = h.lawful in
     record {
       times = k.times;
       registrations = registrations_told n d s.control k.registrations;
@@ -123,7 +122,7 @@ lawful_taken_told {B} g tell sound s f e left p x y b o n change h k conditions 
     }
 
 -- a callback of e was called that resumes nobody, and the calendar is changed so
-pub lawful_taken_called : {B : Type 0} (g : Plan B) (tell : Telling B) (sound : B → Type 0) (s : State B) (e : EventId) (x : Callback) (left : List Callback) (change : Calendar → Calendar) → s.control ≡ Calling e (x ∷ left) → ((p : ProcId) → is_resume_of p x ≡ false) → Lawful g tell sound s → MayTake s (change (calendar s)) → LawfulConditions (change (calendar s)) (Calling e left) → Lawful g tell sound (control_to (Calling e left) (on_events change s))
+pub lawful_taken_called : {B : Type 0} (g : Plan B) (tell : Telling B) (sound : B → Type 0) (s : State B) (e : EventId) (x : Callback) (left : List Callback) (change : Calendar → Calendar) → s.control ≡ Calling e (x ∷ left) → ((p : ProcId) → is_resume_of p x ≡ false) → LawfulBasis g tell sound s → MayTake s (change (calendar s)) → ConditionsBasis (change (calendar s)) (Calling e left) → LawfulBasis g tell sound (control_to (Calling e left) (on_events change s))
 lawful_taken_called {B} g tell sound s e x left change calling others l k conditions =
     let d : Calendar = change (calendar s) in
     let t : State B = on_events change s in

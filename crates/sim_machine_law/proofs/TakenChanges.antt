@@ -1,7 +1,7 @@
 -- The changes of which the units of conditions are made, one by one, leave a calendar that may take the place of the
 -- state's: one event is changed, or triggered, and a callback is registered.
 use Rattle.std.proofs.Common.{◌≡◌, ◌≢◌, ◌<◌, Bool, true, false, ◌&&◌, ◌||◌, not, length, Option, Some, refl, sym, ap, ◌∙◌}
-use Rattle.std.specs.Prelude.{is_none, pos, ◌==◌}
+use Rattle.std.specs.Prelude.{is_none, is_some, pos, ◌==◌}
 use Rattle.std.specs.List.{list_all}
 use Rattle.std.proofs.lemmas.Bool.{false≢true, both_ways}
 use Rattle.sim_types.specs.declared.event.EventId.{EventId}
@@ -19,28 +19,29 @@ use Rattle.sim_machine.specs.LawfulProcesses.{is_process_kind}
 use Rattle.sim_machine.specs.LawfulInterruptions.{is_strike, is_interrupt_kind, is_unheard_kind, is_failed_interruption}
 use Rattle.sim_machine.specs.LawfulWaiting.{waits_well, may_wait_kind}
 use Rattle.sim_machine.specs.LawfulChains.{chains_well}
-use Rattle.sim_machine.proofs.EventLaws.{same_event, change_event-other, change_event-keeps}
-use Rattle.sim_machine.proofs.TimeLaws.{events_changed}
-use Rattle.sim_machine.proofs.KeptTimes.{times_registered, times_triggered}
-use Rattle.sim_machine.proofs.KeptRegistrationsCalendar.{Calm, pending_unprocessed, later_self, later_then, made_below, calm_changed, calm_scheduled}
-use Rattle.sim_machine.proofs.KeptRegistrations.{registrations_calm, registrations_register, registrations_scheduled}
-use Rattle.sim_machine.proofs.KeptProcessesParts.{KeepsResumes, living-changed, living-events, living-scheduled, living-trans, resumes-registered}
-use Rattle.sim_machine.proofs.KeptInterruptionsParts.{list_all-weaker, change_event-passes, strikes-registered}
-use Rattle.sim_machine.proofs.KeptBodies.{four_parts}
-use Rattle.sim_machine.proofs.KeptBodiesEvents.{grown_joined, grown_changed, grown_scheduled}
-use Rattle.sim_machine.proofs.KeptChains.{chains_register, chains_later, chains_scheduled}
-use Rattle.sim_machine_law.specs.WholeStates.{is_cond_kind}
+use Rattle.sim_machine_law.proofs.EventLaws.{same_event, change_event-other, change_event-keeps}
+use Rattle.sim_machine_law.proofs.TimeLaws.{events_changed}
+use Rattle.sim_machine_law.proofs.KeptTimes.{times_registered, times_triggered}
+use Rattle.sim_machine_law.proofs.KeptRegistrationsCalendar.{Calm, pending_unprocessed, later_self, later_then, made_below, calm_changed, calm_scheduled}
+use Rattle.sim_machine_law.proofs.KeptRegistrations.{registrations_calm, registrations_register, registrations_scheduled}
+use Rattle.sim_machine_law.proofs.KeptProcessesParts.{KeepsResumes, living-changed, living-events, living-scheduled, living-trans, resumes-registered}
+use Rattle.sim_machine_law.proofs.KeptInterruptionsParts.{list_all-weaker, change_event-passes, strikes-registered}
+use Rattle.sim_machine_law.proofs.KeptBodies.{four_parts}
+use Rattle.sim_machine_law.proofs.KeptBodiesEvents.{grown_joined, grown_changed, grown_scheduled}
+use Rattle.sim_machine_law.proofs.KeptChains.{chains_register, chains_later, chains_scheduled}
 use Rattle.sim_machine_law.proofs.TakenCalendars.{MayTake, hears}
+use Rattle.sim_machine_law.proofs.ScheduledOnce.{outcomes_changed}
+use Rattle.sim_machine.specs.LawfulConditions.{is_condition_kind}
 
-pub cond_no_process : (k : EventKind) → is_cond_kind k ≡ true → is_process_kind k ≡ false
+pub cond_no_process : (k : EventKind) → is_condition_kind k ≡ true → is_process_kind k ≡ false
 cond_no_process kind.Cond h = refl
 cond_no_process _ h = absurd (false≢true h)
 
-pub cond_no_interrupt : (k : EventKind) → is_cond_kind k ≡ true → is_interrupt_kind k ≡ false
+pub cond_no_interrupt : (k : EventKind) → is_condition_kind k ≡ true → is_interrupt_kind k ≡ false
 cond_no_interrupt kind.Cond h = refl
 cond_no_interrupt _ h = absurd (false≢true h)
 
-cond_no_waiter : (k : EventKind) → is_cond_kind k ≡ true → may_wait_kind k ≡ false
+pub cond_no_waiter : (k : EventKind) → is_condition_kind k ≡ true → may_wait_kind k ≡ false
 cond_no_waiter kind.Cond h = refl
 cond_no_waiter _ h = absurd (false≢true h)
 
@@ -70,7 +71,7 @@ take_changed s e change d q heard h =
     let calm : Calm d n = quiet_calm e change d q in
     let kinds : (f : EventId) → kind_at n f ≡ kind_at d f = λ f. change_event-keeps (λ x. x.kind) e f change d q.kind in
     record {
-      times = events_changed d n.events (λ f. change_event-keeps (λ x. not (is_none x.outcome) && not x.processed) e f change d (triggered_same change q)) h.times;
+      times = events_changed d n.events (λ f. change_event-keeps (λ x. not (is_none x.outcome) && not x.processed) e f change d (triggered_same change q)) (outcomes_changed e change d (λ x. ap is_some (q.outcome x))) h.times;
       registrations = registrations_calm d n s.control calm refl h.registrations;
       living = living-trans c d n h.living (living-changed e change d q.kind q.outcome (λ x w. q.processed x ∙ w));
       resumes = record { active = h.resumes.active; in_all = h.resumes.in_all; at = h.resumes.at };
@@ -102,7 +103,7 @@ take_condition s e change d members h =
 
 -- ---- a condition that is pending is triggered
 
-pub take_triggered : {B : Type 0} (s : State B) (e : EventId) (x : Outcome) (d : Calendar) → e.0 < length d.events → e.0 ≢ 0 → is_cond_kind (kind_at d e) ≡ true → is_pending d e ≡ true → MayTake s d → MayTake s (trigger e x d)
+pub take_triggered : {B : Type 0} (s : State B) (e : EventId) (x : Outcome) (d : Calendar) → e.0 < length d.events → e.0 ≢ 0 → is_condition_kind (kind_at d e) ≡ true → is_pending d e ≡ true → MayTake s d → MayTake s (trigger e x d)
 take_triggered s e x d made nonzero kinds pending h =
     let c : Calendar = s.facilities.calendar in
     let n : Calendar = trigger e x d in

@@ -1,6 +1,6 @@
 -- The first callback of an event that passes a test is taken out: what counts as before, and what is lawful as before where it
 -- is a resumption.
-use Rattle.std.proofs.Common.{◌≡◌, ◌+◌, ◌<◌, ◌≤◌, Bool, true, false, ◌&&◌, ◌||◌, not, List, [], ◌∷◌, map, filter, refl, sym, ap, ◌∙◌, arith, All, if◌then◌else◌}
+use Rattle.std.proofs.Common.{◌≡◌, ◌+◌, ◌<◌, ◌≤◌, Bool, true, false, ◌&&◌, not, List, [], ◌∷◌, map, filter, refl, sym, ap, ◌∙◌, arith, All, if◌then◌else◌}
 use Rattle.std.specs.Prelude.{count_by, nat_lt}
 use Rattle.std.proofs.lemmas.Bool.{cond_both, and_parts, both_ways, false≢true}
 use Rattle.std.proofs.lemmas.List.Elements.{All-cons, All-head, All-tail}
@@ -14,10 +14,12 @@ use Rattle.sim_machine.specs.Events.{is_same, without_first, callbacks_of, unreg
 use Rattle.sim_machine.specs.Standing.{one_if, left_of, is_event_of, all_callbacks_of, callbacks_in_all}
 use Rattle.sim_machine.specs.LawfulRegistrations.{LawfulRegistrations, awaits_processing}
 use Rattle.sim_machine.specs.LawfulInterruptions.{is_strike}
-use Rattle.sim_machine.specs.LawfulConditions.{LawfulConditions, is_build_of, first_passes, checks_at, needs_build}
+use Rattle.sim_machine.specs.LawfulConditions.{is_build_of, first_passes, checks_at, needs_build}
 use Rattle.sim_machine.specs.LawfulChains.{LawfulChains, chains_well}
-use Rattle.sim_machine.proofs.CallbackLaws.{counts_one, counts_none, count_by-cons, count_by-append, length_counts}
-use Rattle.sim_machine.proofs.KeptInterruptionsParts.{StrikesAlone, alone_parts, alone_from}
+use Rattle.sim_machine_law.proofs.CallbackLaws.{counts_one, counts_none, count_by-cons, count_by-append, length_counts}
+use Rattle.sim_machine_law.proofs.KeptInterruptionsParts.{StrikesAlone, alone_parts, alone_from}
+use Rattle.sim_machine_law.proofs.LawfulBasis.{ConditionsBasis}
+use Rattle.sim_machine_law.proofs.KeptConditions.{weaker_or}
 
 -- ---- lists
 
@@ -131,12 +133,7 @@ strikes_taken e p c k h =
           alone_from d k f before.0 (omega (arith, counted, before.1, count_by-le-length is_strike calls, length_counts calls, length_counts (all_callbacks_of c k f), at-unregister_less every (is_resume_of p) e f c k));
     }
 
--- the second part of a choice may be weaker
-pub weaker_or : (a p q : Bool) → (p ≡ true → q ≡ true) → (a || p) ≡ true → (a || q) ≡ true
-weaker_or true p q h w = refl
-weaker_or false p q h w = h w
-
-pub conditions_taken : (e : EventId) (p : ProcId) (c : Calendar) (k : Control) → LawfulConditions c k → LawfulConditions (unregister e (is_resume_of p) c) k
+pub conditions_taken : (e : EventId) (p : ProcId) (c : Calendar) (k : Control) → ConditionsBasis c k → ConditionsBasis (unregister e (is_resume_of p) c) k
 conditions_taken e p c k h =
     let d : Calendar = unregister e (is_resume_of p) c in
     let checks : (cond f : EventId) → checks_at d k cond f ≡ checks_at c k cond f = λ cond f. at-unregister (is_check_of cond) (is_resume_of p) e f c k (λ x w. resumes_only p x (is_check_of cond) (λ q. refl) w) in

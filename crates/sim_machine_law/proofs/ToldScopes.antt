@@ -1,5 +1,5 @@
 -- The open scopes of all processes once one of them was polled, did not ask to enter, and is told something.
-use Rattle.std.proofs.Common.{◌≡◌, ℕ, ◌≤◌, Bool, true, false, List, [], ◌∷◌, ◌++◌, length, sym, ap, refl, ◌∙◌, if◌then◌else◌, append-nil}
+use Rattle.std.proofs.Common.{◌≡◌, ℕ, ◌≤◌, Bool, true, false, List, [], ◌++◌, length, sym, ap, refl, ◌∙◌, if◌then◌else◌, append-nil}
 use Rattle.std.proofs.lemmas.List.Elements.{All-weaker, All-map}
 use Rattle.sim_types.specs.declared.event.EventId.{EventId}
 use Rattle.sim_types.specs.declared.event.ProcId.{ProcId}
@@ -14,28 +14,20 @@ use Rattle.sim_machine.specs.Tellings.{Telling}
 use Rattle.sim_machine.specs.MayFollow.{is_enter}
 use Rattle.sim_machine.specs.MayAsk.{most_scopes}
 use Rattle.sim_machine.specs.BodyLaw.{scopes_told}
-use Rattle.sim_machine.specs.LawfulWaiting.{LawfulWaiting, waits_well, entered_by, requests_of, KnowsItsScopes}
-use Rattle.sim_machine.proofs.KeptBodies.{is_process-sym}
-use Rattle.sim_machine.proofs.KeptBodiesEvents.{Grown}
-use Rattle.sim_machine.proofs.KeptWaiting.{moved, waiting_moved}
-use Rattle.sim_machine.proofs.KeptWaitingPolls.{IsWaitingPoll, own_scopes, alive_changed, holds_of_all}
+use Rattle.sim_machine.specs.LawfulWaiting.{waits_well, entered_by, requests_of, KnowsItsScopes}
+use Rattle.sim_machine_law.proofs.KeptBodiesEvents.{Grown}
+use Rattle.sim_machine_law.proofs.KeptWaiting.{moved, waiting_moved}
+use Rattle.sim_machine_law.proofs.KeptWaitingPolls.{entered_other, IsWaitingPoll, own_scopes, alive_changed, holds_of_all}
+use Rattle.sim_machine_law.proofs.LawfulBasis.{WaitingBasis}
+use Rattle.sim_machine_law.proofs.KeptProcessesParts.{is_process-swap}
 
 -- who did not enter is told of no scope
-entered_not : (k : Control) (q : ProcId) → entered_by k q false ≡ []
+pub entered_not : (k : Control) (q : ProcId) → entered_by k q false ≡ []
 entered_not Idle q = refl
 entered_not (Calling e left) q = refl
 entered_not (Active e left p (signal.Made r)) q = refl
 entered_not (Active e left p _) q = refl
 entered_not (Over why e left) q = refl
-
-none_of : (b : Bool) (r : EventId) → b ≡ false → (if b then r ∷ [] else []) ≡ []
-none_of b r h = rw h refl
-
--- and neither is another process than the active one
-pub entered_elsewhere : (e : EventId) (left : List Callback) (p : ProcId) (x : Signal) (q : ProcId) (v : Bool) → is_process p q ≡ false → entered_by (Active e left p x) q v ≡ []
-entered_elsewhere e left p (signal.Made r) q true h = none_of (is_process p q) r h
-entered_elsewhere e left p (signal.Made r) q false h = refl
-entered_elsewhere e left p _ q v h = refl
 
 pub knows_alone : {B : Type 0} (tell : Telling B) (t : State B) (z : ProcessOf B) → entered_by t.control z.id (is_enter (tell.last z.body)) ≡ [] → requests_of z.id t ≡ tell.scopes z.body → length (requests_of z.id t) ≤ most_scopes → KnowsItsScopes tell t z
 knows_alone tell t z none own few =
@@ -48,14 +40,14 @@ knows_told g tell s t e left p x n y b z h not_enters scopes on w true is =
     knows_alone tell t (record z { body = b }) none (scopes z.id ∙ (own.0 ∙ sym h.scopes)) (rw (scopes z.id) own.1)
 knows_told g tell s t e left p x n y b z h not_enters scopes on w false is =
     let v : Bool = is_enter (tell.last z.body) in
-    let apart : is_process p z.id ≡ false = is_process-sym p z.id ∙ is in
-    let before : entered_by s.control z.id v ≡ [] = ap (λ (k : Control). entered_by k z.id v) h.active ∙ entered_elsewhere e left p x z.id v apart in
-    let after : entered_by t.control z.id v ≡ [] = ap (λ (k : Control). entered_by k z.id v) on ∙ entered_elsewhere e left p n z.id v apart in
+    let apart : is_process p z.id ≡ false = is_process-swap p z.id ∙ is in
+    let before : entered_by s.control z.id v ≡ [] = ap (λ (k : Control). entered_by k z.id v) h.active ∙ entered_other e left p x z.id v apart in
+    let after : entered_by t.control z.id v ≡ [] = ap (λ (k : Control). entered_by k z.id v) on ∙ entered_other e left p n z.id v apart in
     let own : requests_of z.id s ≡ tell.scopes z.body = w.0 ∙ (ap (λ (es : List EventId). tell.scopes z.body ++ es) before ∙ append-nil (tell.scopes z.body)) in
     knows_alone tell t z after (scopes z.id ∙ own) (rw (scopes z.id) w.1)
 
 -- the body of p is replaced, no scope is opened or closed, and p is told something, be it an event that was made
-pub waiting_told : {B : Type 0} (g : Plan B) (tell : Telling B) (s : State B) (e : EventId) (left : List Callback) (p : ProcId) (x n : Signal) (y : ProcessOf B) (b : B) (d : Calendar) (processed drawn : ℕ) (lines : List Line) → IsWaitingPoll g tell s e left p x y b → is_enter (tell.last b) ≡ false → Grown s.facilities.calendar d → ((w : Waiter) → waits_well s.facilities.calendar w ≡ true → is_pending d w.event ≡ true) → LawfulWaiting g tell (moved s d (with_body p b s).processes (told_more n s.control) processed drawn lines)
+pub waiting_told : {B : Type 0} (g : Plan B) (tell : Telling B) (s : State B) (e : EventId) (left : List Callback) (p : ProcId) (x n : Signal) (y : ProcessOf B) (b : B) (d : Calendar) (processed drawn : ℕ) (lines : List Line) → IsWaitingPoll g tell s e left p x y b → is_enter (tell.last b) ≡ false → Grown s.facilities.calendar d → ((w : Waiter) → waits_well s.facilities.calendar w ≡ true → is_pending d w.event ≡ true) → WaitingBasis g tell (moved s d (with_body p b s).processes (told_more n s.control) processed drawn lines)
 waiting_told {B} g tell s e left p x n y b d processed drawn lines h not_enters grown pending =
     let f : ProcessOf B → ProcessOf B = λ z. if is_process z.id p then record z { body = b } else z in
     let k : Control = told_more n s.control in

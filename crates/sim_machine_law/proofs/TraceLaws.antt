@@ -10,8 +10,9 @@ use Rattle.sim_machine.specs.Effect.{calendar}
 use Rattle.sim_machine.specs.Steps.{TurnFunction}
 use Rattle.sim_machine.specs.Units.{Course, unit_of}
 use Rattle.sim_machine.specs.Runs.{after_units, opening_course, run, end_of, end_word, trace_of}
-use Rattle.sim_machine.proofs.LineLaws.{AddsAtMostOne, unit_adds}
-use Rattle.sim_machine.proofs.UnitLaws.{ended_stays_on}
+use Rattle.sim_machine_law.proofs.LineLaws.{unit_adds}
+use Rattle.sim_machine_law.specs.Courses.{AddsAtMostOne}
+use Rattle.sim_machine_law.proofs.UnitLaws.{ended_stays_on}
 
 pub next_lines : {B : Type 0} (g : Plan B) (turn : TurnFunction B) (journal : List Arrival) (n : ℕ) → AddsAtMostOne (run g turn journal n).state.lines (run g turn journal (n + 1)).state.lines
 next_lines g turn journal n =

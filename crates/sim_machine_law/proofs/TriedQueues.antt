@@ -1,8 +1,9 @@
 -- The queue that a try goes along: each of its waiters is one of those that wait, and each stands there once.
-use Rattle.std.proofs.Common.{◌≡◌, ◌≢◌, ℕ, ◌∙◌, Bool, true, ◌&&◌, not, List, [], ◌∷◌, refl, sym, ap, filter, All, AllPairs, ◌⊎◌, inl, inr}
+use Rattle.std.proofs.Common.{zero, suc, arith, ◌≡◌, ◌≢◌, ℕ, ◌∙◌, Bool, true, ◌&&◌, not, List, [], ◌∷◌, refl, sym, ap, filter, All, AllPairs, ◌⊎◌, inl, inr}
 use Rattle.std.specs.Prelude.{◌==◌}
+use Rattle.std.specs.List.{Contains}
 use Rattle.std.proofs.lemmas.Bool.{both_ways}
-use Rattle.std.proofs.lemmas.List.Elements.{All-nil, All-cons, All-head, All-tail, All-weaker, All-filter}
+use Rattle.std.proofs.lemmas.List.Elements.{All-contains, All-nil, All-cons, All-head, All-tail, All-weaker, All-filter}
 use Rattle.std.proofs.lemmas.List.Kept.{AllPairs-cons, AllPairs-filter}
 use Rattle.sim_types.proofs.Permutations.{AllPairs-head, AllPairs-tail}
 use Rattle.sim_types.specs.declared.setup.Resource.{Resource}
@@ -10,7 +11,7 @@ use Rattle.sim_types.specs.declared.setup.ResourceKind.{ResourceKind}
 use Rattle.sim_types.specs.declared.setup.ResourceKind.TheVariants as resource
 use Rattle.sim_machine.specs.Keys.{is_served_first}
 use Rattle.sim_machine.specs.State.{Waiter}
-use Rattle.sim_machine.proofs.KeptTimesCases.{if_cases}
+use Rattle.sim_machine_law.proofs.KeptTimesCases.{if_cases}
 use Rattle.sim_machine.specs.Users.{resource_at, wants_to_put, key_of, insert_waiter, sorted_waiters, in_order, put_queue, get_queue}
 
 -- ---- elements
@@ -38,13 +39,22 @@ pub all_one_of : {X : Type 0} (xs : List X) → All (IsOneOf xs) xs
 all_one_of {X} [] = All-nil (IsOneOf {X = X} [])
 all_one_of (x ∷ xs) = All-cons (IsOneOf (x ∷ xs)) x xs (inl refl) (All-weaker (IsOneOf xs) (IsOneOf (x ∷ xs)) (λ y h. inr h) xs (all_one_of xs))
 
+-- the same in the words of lists
+pub contains_one : {X : Type 0} (xs : List X) (x : X) → IsOneOf xs x → Contains xs x
+contains_one [] x h = absurd h
+contains_one (y ∷ ys) x (inl same) = (zero, omega arith, same)
+contains_one (y ∷ ys) x (inr later) = let h = contains_one ys x later in (suc h.0, omega (arith, h.1), h.2)
+
+pub one_of_contained : {X : Type 0} (xs : List X) (x : X) → Contains xs x → IsOneOf xs x
+one_of_contained {X} xs x h = All-contains (IsOneOf xs) xs x (all_one_of xs) h
+
 -- ---- queues
 
 -- two wait for different events
 abbrev pub AreApart : Waiter → Waiter → Type 0
 AreApart w v = w.event ≢ v.event
 
-all_inserted : (P : Waiter → Type 0) (w : Waiter) (vs : List Waiter) → P w → All P vs → All P (insert_waiter w vs)
+pub all_inserted : (P : Waiter → Type 0) (w : Waiter) (vs : List Waiter) → P w → All P vs → All P (insert_waiter w vs)
 all_inserted P w [] p h = All-cons P w [] p h
 all_inserted P w (v ∷ vs) p h =
     if_cases (All P) (is_served_first (key_of v.want) (key_of w.want)) (v ∷ insert_waiter w vs) (w ∷ v ∷ vs)
@@ -66,7 +76,7 @@ apart_sorted : (ws : List Waiter) → AllPairs AreApart ws → AllPairs AreApart
 apart_sorted [] h = h
 apart_sorted (w ∷ ws) h = apart_inserted w (sorted_waiters ws) (all_sorted (AreApart w) ws (AllPairs-head AreApart w ws h)) (apart_sorted ws (AllPairs-tail AreApart w ws h))
 
-all_in_order : (P : Waiter → Type 0) (k : ResourceKind) (ws : List Waiter) → All P ws → All P (in_order k ws)
+pub all_in_order : (P : Waiter → Type 0) (k : ResourceKind) (ws : List Waiter) → All P ws → All P (in_order k ws)
 all_in_order P resource.Priority ws h = all_sorted P ws h
 all_in_order P resource.Preemptive ws h = all_sorted P ws h
 all_in_order P _ ws h = h

@@ -1,5 +1,5 @@
 -- A check is taken out of the registrations: conditions stay lawful, and the calendar may take the place of the state's.
-use Rattle.std.proofs.Common.{◌≡◌, ℕ, ◌+◌, ◌≤◌, Bool, true, false, ◌&&◌, ◌||◌, not, List, [], ◌∷◌, map, filter, refl, ◌∙◌, arith, if◌then◌else◌, All, inl, inr}
+use Rattle.std.proofs.Common.{◌≡◌, ℕ, ◌+◌, ◌≤◌, Bool, true, false, ◌&&◌, not, List, [], ◌∷◌, map, filter, refl, ◌∙◌, arith, if◌then◌else◌, All, inl, inr}
 use Rattle.std.specs.Prelude.{count_by}
 use Rattle.std.proofs.lemmas.Bool.{false≢true, both_ways, ltb-true, lt-ltb, cases_Bool}
 use Rattle.std.proofs.lemmas.List.Elements.{All-nil, All-cons, All-head, All-tail}
@@ -13,17 +13,18 @@ use Rattle.sim_machine.specs.Events.{is_same, without_first, callbacks_of, unreg
 use Rattle.sim_machine.specs.Standing.{left_of, is_event_of, all_callbacks_of}
 use Rattle.sim_machine.specs.LawfulRegistrations.{awaits_processing}
 use Rattle.sim_machine.specs.LawfulInterruptions.{is_strike}
-use Rattle.sim_machine.specs.LawfulConditions.{LawfulConditions, is_build_of, checks_at, needs_build, first_passes}
+use Rattle.sim_machine.specs.LawfulConditions.{is_build_of, checks_at, needs_build, first_passes}
 use Rattle.sim_machine.specs.LawfulChains.{chains_well}
-use Rattle.sim_machine.proofs.CallbackLaws.{count_by-cons, count_by-append, counts_one, counts_none, length_counts}
-use Rattle.sim_machine.proofs.KeptTimes.{times_registered}
-use Rattle.sim_machine.proofs.KeptTimesCases.{if_cases}
-use Rattle.sim_machine.proofs.KeptRegistrationsCalendar.{later_self, later_then}
-use Rattle.sim_machine.proofs.KeptProcessesParts.{living-events}
-use Rattle.sim_machine.proofs.KeptInterruptionsParts.{alone_parts, alone_from}
-use Rattle.sim_machine.proofs.KeptConditions.{older_same, older_everywhere}
+use Rattle.sim_machine_law.proofs.CallbackLaws.{count_by-cons, count_by-append, counts_one, counts_none, length_counts}
+use Rattle.sim_machine_law.proofs.KeptTimes.{times_registered}
+use Rattle.sim_machine_law.proofs.KeptTimesCases.{if_cases}
+use Rattle.sim_machine_law.proofs.KeptRegistrationsCalendar.{later_self, later_then}
+use Rattle.sim_machine_law.proofs.KeptProcessesParts.{living-events}
+use Rattle.sim_machine_law.proofs.KeptInterruptionsParts.{alone_parts, alone_from}
+use Rattle.sim_machine_law.proofs.KeptConditions.{weaker_or, older_same, older_everywhere}
 use Rattle.sim_machine_law.proofs.TakenCalendars.{MayTake}
 use Rattle.sim_machine_law.proofs.TakenOut.{calls_at, count_at}
+use Rattle.sim_machine_law.proofs.LawfulBasis.{ConditionsBasis}
 
 -- ---- a list without its first element that passes a test
 
@@ -157,11 +158,7 @@ take_unregistered s e cond d h =
       chains = record { registered = all_fewer (λ r. chains_well d r.event r.callback ≡ true) (taken e cond) d.registered h.chains.registered; calling = h.chains.calling };
     }
 
-weaker_first : (a p q : Bool) → (p ≡ true → q ≡ true) → (a || p) ≡ true → (a || q) ≡ true
-weaker_first true p q h w = refl
-weaker_first false p q h w = h w
-
-pub conditions_unregistered : (e cond : EventId) (c : Calendar) (k : Control) → LawfulConditions c k → LawfulConditions (unregister e (is_check_of cond) c) k
+pub conditions_unregistered : (e cond : EventId) (c : Calendar) (k : Control) → ConditionsBasis c k → ConditionsBasis (unregister e (is_check_of cond) c) k
 conditions_unregistered e cond c k h =
     let n : Calendar = unregister e (is_check_of cond) c in
     record {
@@ -170,6 +167,6 @@ conditions_unregistered e cond c k h =
       checks = λ x f. omega (arith, h.checks x f, all_fewer_at (is_check_of x) e cond f c k);
       unbuilt = λ x f some. h.unbuilt x f (lt-ltb 0 (checks_at c k x f) (omega (arith, all_fewer_at (is_check_of x) e cond f c k, ltb-true 0 (checks_at n k x f) some)));
       builds = λ x. not_fewer (λ r. is_build_of x r.callback) (taken e cond) c.registered (λ r yes. check_builds cond x r.callback (and_second (is_same r.event e) (is_check_of cond r.callback) yes)) ∙ h.builds x;
-      first = λ x. weaker_first (not (needs_build c x)) (first_passes (is_build_of x) (callbacks_of x c)) (first_passes (is_build_of x) (callbacks_of x n)) (first_left (is_build_of x) e cond x c.registered (check_builds cond x)) (h.first x);
+      first = λ x. weaker_or (not (needs_build c x)) (first_passes (is_build_of x) (callbacks_of x c)) (first_passes (is_build_of x) (callbacks_of x n)) (first_left (is_build_of x) e cond x c.registered (check_builds cond x)) (h.first x);
       left = h.left;
     }

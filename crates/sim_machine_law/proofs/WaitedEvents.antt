@@ -12,27 +12,27 @@ use Rattle.sim_machine.specs.Tellings.{Telling, CodeFacts}
 use Rattle.sim_machine.specs.MayFollow.{may_wait}
 use Rattle.sim_machine.specs.Standing.{kind_at}
 use Rattle.sim_machine.specs.LawfulInterruptions.{is_unheard_kind}
-use Rattle.sim_machine.specs.Lawful.{Lawful}
-use Rattle.sim_machine.proofs.KeptTimes.{times_wait}
-use Rattle.sim_machine.proofs.KeptRegistrations.{registrations_wait}
-use Rattle.sim_machine.proofs.KeptProcessesChanges.{processes-bodies, processes-wait}
-use Rattle.sim_machine.proofs.KeptInterruptionsParts.{all_made}
-use Rattle.sim_machine.proofs.KeptInterruptionsChanges.{interruptions-bodies, all_made-bodies, interruptions-wait}
-use Rattle.sim_machine.proofs.KeptWaiting.{waits_pending}
-use Rattle.sim_machine.proofs.KeptWaitingPolls.{waiting_wait}
-use Rattle.sim_machine.proofs.KeptCapacities.{capacities_wait}
-use Rattle.sim_machine.proofs.KeptConditionsEvents.{conditions_wait}
-use Rattle.sim_machine.proofs.KeptBodiesEvents.{grown_itself}
-use Rattle.sim_machine.proofs.KeptBodiesPolls.{bodies_wait}
-use Rattle.sim_machine.proofs.KeptBodiesUnits.{waits_asked}
-use Rattle.sim_machine.proofs.KeptChains.{chains_wait}
+use Rattle.sim_machine_law.proofs.KeptTimes.{times_wait}
+use Rattle.sim_machine_law.proofs.KeptRegistrations.{registrations_wait}
+use Rattle.sim_machine_law.proofs.KeptProcessesChanges.{processes-bodies, processes-wait}
+use Rattle.sim_machine_law.proofs.KeptInterruptionsParts.{all_made}
+use Rattle.sim_machine_law.proofs.KeptInterruptionsChanges.{interruptions-bodies, all_made-bodies, interruptions-wait}
+use Rattle.sim_machine_law.proofs.KeptWaiting.{waits_pending}
+use Rattle.sim_machine_law.proofs.KeptWaitingPolls.{waiting_wait}
+use Rattle.sim_machine_law.proofs.KeptCapacities.{capacities_wait}
+use Rattle.sim_machine_law.proofs.KeptConditionsEvents.{conditions_wait}
+use Rattle.sim_machine_law.proofs.KeptBodiesEvents.{grown_itself}
+use Rattle.sim_machine_law.proofs.KeptBodiesPolls.{bodies_wait}
+use Rattle.sim_machine_law.proofs.KeptBodiesUnits.{waits_asked}
+use Rattle.sim_machine_law.proofs.KeptChains.{chains_wait}
 use Rattle.sim_machine_law.proofs.ChangedCalendars.{HasAsked, body_asked, scopes_asked_for}
+use Rattle.sim_machine_law.proofs.LawfulBasis.{LawfulBasis}
 
 -- it is no interruption and no stop
-pub lawful_waits : {B : Type 0} (g : Plan B) (tell : Telling B) (sound : B → Type 0) (s : State B) (f : CodeFacts) (e : EventId) (left : List Callback) (p : ProcId) (x : Signal) (y : ProcessOf B) (b : B) (o : Op) (n : EventId) → HasAsked g tell sound s f e left p x y b o → may_wait o ≡ true → n.0 < length (calendar s).events → is_unheard_kind (kind_at (calendar s) n) ≡ false → Lawful g tell sound (wait n p (with_body p b s))
+pub lawful_waits : {B : Type 0} (g : Plan B) (tell : Telling B) (sound : B → Type 0) (s : State B) (f : CodeFacts) (e : EventId) (left : List Callback) (p : ProcId) (x : Signal) (y : ProcessOf B) (b : B) (o : Op) (n : EventId) → HasAsked g tell sound s f e left p x y b o → may_wait o ≡ true → n.0 < length (calendar s).events → is_unheard_kind (kind_at (calendar s) n) ≡ false → LawfulBasis g tell sound (wait n p (with_body p b s))
 lawful_waits {B} g tell sound s f e left p x y b o n asked waits made heard =
     let c : Calendar = calendar s in
-    let h : Lawful g tell sound s = asked.lawful in
+    let h : LawfulBasis g tell sound s = asked.lawful in
     let r : State B = with_body p b s in
     record {
       times = times_wait n p r h.times;

@@ -1,5 +1,5 @@
--- Each step leads from a lawful whole state to one, and so does each arrival; and the opening state is one.
-use Rattle.std.proofs.Common.{◌≡◌, ◌<◌, ℕ, ℤ, Bool, true, List, [], ◌∷◌, length, Some, refl, sym, subst, ap, ◌∙◌}
+-- Each step leads from a lawful state to one, and so does each arrival; and the opening state is one.
+use Rattle.std.proofs.Common.{◌≡◌, ◌<◌, ℤ, Bool, true, List, [], ◌∷◌, length, Some, refl, sym, subst, ap, ◌∙◌}
 use Rattle.std.specs.Prelude.{not}
 use Rattle.sim_types.specs.declared.event.EventId.{EventId}
 use Rattle.sim_types.specs.declared.event.ProcId.{ProcId}
@@ -21,15 +21,13 @@ use Rattle.sim_machine.specs.Runs.{opening}
 use Rattle.sim_machine.specs.Tellings.{Telling, CodeFacts}
 use Rattle.sim_machine.specs.MayFollow.{may_be_told, makes_kind}
 use Rattle.sim_machine.specs.Standing.{was_made, kind_at}
-use Rattle.sim_machine.specs.BodyLaw.{IsLawfulBody, IsLawfulPoll}
+use Rattle.sim_machine.specs.BodyLaw.{IsLawfulBody}
 use Rattle.sim_machine.specs.Setups.{FitsCode}
 use Rattle.sim_machine.specs.LawfulBodies.{told_fits, is_told_well}
-use Rattle.sim_machine.specs.Lawful.{Lawful}
-use Rattle.sim_machine.proofs.KeptBodies.{find_has, find_passes, four_parts}
-use Rattle.sim_machine.proofs.KeptBodiesPolls.{told_active}
-use Rattle.sim_machine.proofs.KeptLawful.{lawful-popped, lawful-resumed, lawful-stopped, lawful-settled, lawful-polled_nop, lawful-polled_log, lawful-polled_draw, lawful-polled_pause, lawful-polled_end}
-use Rattle.sim_machine.proofs.KeptOpening.{opening_lawful}
-use Rattle.sim_machine_law.specs.WholeStates.{LawfulWhole}
+use Rattle.sim_machine_law.proofs.KeptBodies.{find_has, find_passes, four_parts}
+use Rattle.sim_machine_law.proofs.KeptBodiesPolls.{told_active}
+use Rattle.sim_machine_law.proofs.KeptLawful.{lawful-popped, lawful-resumed, lawful-stopped, lawful-settled, lawful-polled_end}
+use Rattle.sim_machine_law.proofs.KeptOpening.{opening_lawful}
 use Rattle.sim_machine_law.proofs.ArrivedUnits.{lawful-injected}
 use Rattle.sim_machine_law.proofs.CalledBuild.{lawful-called_build}
 use Rattle.sim_machine_law.proofs.CalledCheck.{lawful-called_check}
@@ -50,110 +48,131 @@ use Rattle.sim_machine_law.proofs.PolledNewEvent.{lawful-polled_new_event}
 use Rattle.sim_machine_law.proofs.PolledRelease.{lawful-polled_release}
 use Rattle.sim_machine_law.proofs.PolledSpawn.{lawful-polled_spawn}
 use Rattle.sim_machine_law.proofs.PolledSucceed.{lawful-polled_succeed, lawful-polled_fail}
-use Rattle.sim_machine_law.proofs.PolledTimeout.{lawful-polled_timeout}
+use Rattle.sim_machine_law.proofs.PolledTimeout.{lawful-polled_pause, lawful-polled_timeout}
+use Rattle.sim_machine_law.proofs.PolledLog.{lawful-polled_draw, lawful-polled_log, lawful-polled_nop}
 use Rattle.sim_machine_law.proofs.PolledWait.{lawful-polled_wait}
-use Rattle.sim_machine_law.proofs.WholeFacts.{HasBoth, both_arrived, both_called, both_opening, both_polled, both_popped, both_settled}
-
-both_of : {B : Type 0} (g : Plan B) (tell : Telling B) (sound : B → Type 0) (s : State B) → LawfulWhole g tell sound s → HasBoth s
-both_of g tell sound s h = record { scopes = h.scopes; kinds = h.kinds }
-
-whole_from : {B : Type 0} (g : Plan B) (tell : Telling B) (sound : B → Type 0) (s : State B) → Lawful g tell sound s → HasBoth s → LawfulWhole g tell sound s
-whole_from g tell sound s l h = record { lawful = l; scopes = h.scopes; kinds = h.kinds }
+use Rattle.sim_machine.specs.Lawful.{Lawful}
+use Rattle.sim_machine_law.proofs.LawfulBasis.{FactsBeside, LawfulBasis, basis_of, facts_of}
+use Rattle.sim_machine_law.proofs.ServedUnits.{lawful_serving, serving_of, served_polled, served_popped, served_settled, served_called, served_opening, served_arrived}
+use Rattle.sim_machine_law.proofs.FollowingSteps.{beside_arrived, beside_called, beside_opening, beside_polled, beside_popped, beside_settled}
+use Rattle.sim_machine_law.proofs.ChangedCalendars.{AsksFor}
 
 -- ---- a callback is called
 
-lawful_called_first : {B : Type 0} (g : Plan B) (tell : Telling B) (sound : B → Type 0) (s : State B) (e : EventId) (x : Callback) (left : List Callback) → s.control ≡ Calling e (x ∷ left) → LawfulWhole g tell sound s → Lawful g tell sound (call g e x left s)
-lawful_called_first g tell sound s e (callback.Resume p) left calling h = lawful-resumed g tell sound s e left p calling h.lawful
-lawful_called_first g tell sound s e (callback.Strike p) left calling h = lawful-called_strike g tell sound s e left p calling h.lawful
-lawful_called_first g tell sound s e (callback.Check cond) left calling h = lawful-called_check g tell sound s e cond left h.kinds calling h.lawful
-lawful_called_first g tell sound s e (callback.Build cond) left calling h = lawful-called_build g tell sound s e cond left calling h.lawful
-lawful_called_first g tell sound s e (callback.TryPut res) left calling h = lawful-called_try_put g tell sound s e res left calling h.lawful
-lawful_called_first g tell sound s e (callback.TryGet res) left calling h = lawful-called_try_get g tell sound s e res left calling h.lawful
-lawful_called_first g tell sound s e callback.Stop left calling h = lawful-stopped g tell sound s e left calling h.lawful
-lawful_called_first g tell sound s e (callback.Trigger y) left calling h = lawful-called_trigger g tell sound s e y left calling h.lawful
+module _ {B : Type 0} (g : Plan B) (tell : Telling B) (sound : B → Type 0) (s : State B) where
+  basis_called : (e : EventId) (x : Callback) (left : List Callback) → s.control ≡ Calling e (x ∷ left) → LawfulBasis g tell sound s →
+      FactsBeside g.setup.until s → LawfulBasis g tell sound (call g e x left s)
+  basis_called e (callback.Resume p) left calling h b = lawful-resumed g tell sound s e left p calling h
+  basis_called e (callback.Strike p) left calling h b = lawful-called_strike g tell sound s e left p calling h
+  basis_called e (callback.Check cond) left calling h b = lawful-called_check g tell sound s e cond left b.kinds calling h
+  basis_called e (callback.Build cond) left calling h b = lawful-called_build g tell sound s e cond left calling h
+  basis_called e (callback.TryPut res) left calling h b = lawful-called_try_put g tell sound s e res left calling h
+  basis_called e (callback.TryGet res) left calling h b = lawful-called_try_get g tell sound s e res left calling h
+  basis_called e callback.Stop left calling h b = lawful-stopped g tell sound s e left calling h
+  basis_called e (callback.Trigger y) left calling h b = lawful-called_trigger g tell sound s e y left calling h
 
 -- ---- a process is polled
 
-lawful_asked : {B : Type 0} (g : Plan B) (tell : Telling B) (sound : B → Type 0) (turn : Turn B) (s : State B) (f : CodeFacts) (e : EventId) (left : List Callback) (p : ProcId) (x : Signal) (y : ProcessOf B) (b : B) (asked : Op) → IsLawfulBody f tell sound g.start turn → FitsCode f g.setup → LawfulWhole g tell sound s → s.control ≡ Active e left p x → process_at p s ≡ Some y → sound b → IsLawfulPoll f tell y.body x asked b → Lawful g tell sound (polled g p asked b s)
-lawful_asked g tell sound turn s f e left p x y b op.Nop law fits h active found sb poll = lawful-polled_nop g tell sound s f e left p x y b active found sb h.lawful poll
-lawful_asked g tell sound turn s f e left p x y b (op.Timeout delay value) law fits h active found sb poll = lawful-polled_timeout g tell sound s f e left p x y b delay value active found sb h.lawful poll
-lawful_asked g tell sound turn s f e left p x y b (op.Pause delay value) law fits h active found sb poll = lawful-polled_pause g tell sound s f e left p x y b delay value active found sb h.lawful poll
-lawful_asked g tell sound turn s f e left p x y b (op.Wait n) law fits h active found sb poll = lawful-polled_wait g tell sound s f e left p x y b n fits active found sb h.lawful poll
-lawful_asked g tell sound turn s f e left p x y b op.NewEvent law fits h active found sb poll = lawful-polled_new_event g tell sound s f e left p x y b active found sb h.lawful poll
-lawful_asked g tell sound turn s f e left p x y b (op.Succeed n value) law fits h active found sb poll = lawful-polled_succeed g tell sound s f e left p x y b n value fits active found sb h.lawful poll
-lawful_asked g tell sound turn s f e left p x y b (op.Fail n code) law fits h active found sb poll = lawful-polled_fail g tell sound s f e left p x y b n code fits active found sb h.lawful poll
-lawful_asked g tell sound turn s f e left p x y b (op.Spawn k args) law fits h active found sb poll = lawful-polled_spawn g tell sound turn s f e left p x y b k args law fits active found sb h.lawful poll
-lawful_asked g tell sound turn s f e left p x y b (op.Interrupt q cause) law fits h active found sb poll = lawful-polled_interrupt g tell sound s f e left p x y b q cause active found sb h.lawful poll
-lawful_asked g tell sound turn s f e left p x y b (op.Drop q value) law fits h active found sb poll = lawful-polled_drop g tell sound s f e left p x y b q value h.scopes active found sb h.lawful poll
-lawful_asked g tell sound turn s f e left p x y b (op.AllOf members) law fits h active found sb poll = lawful-polled_all_of g tell sound s f e left p x y b members fits active found sb h.lawful poll
-lawful_asked g tell sound turn s f e left p x y b (op.AnyOf members) law fits h active found sb poll = lawful-polled_any_of g tell sound s f e left p x y b members fits active found sb h.lawful poll
-lawful_asked g tell sound turn s f e left p x y b (op.Has cond n) law fits h active found sb poll = lawful-polled_has g tell sound s f e left p x y b cond n active found sb h.lawful poll
-lawful_asked g tell sound turn s f e left p x y b (op.Enter res priority preempts) law fits h active found sb poll = lawful-polled_enter g tell sound s f e left p x y b res priority preempts fits active found sb h.lawful poll
-lawful_asked g tell sound turn s f e left p x y b op.Leave law fits h active found sb poll = lawful-polled_leave g tell sound s f e left p x y b h.scopes active found sb h.lawful poll
-lawful_asked g tell sound turn s f e left p x y b (op.Release request) law fits h active found sb poll = lawful-polled_release g tell sound s f e left p x y b request active found sb h.lawful poll
-lawful_asked g tell sound turn s f e left p x y b (op.Put res amount priority) law fits h active found sb poll = lawful-polled_put g tell sound s f e left p x y b res amount priority fits active found sb h.lawful poll
-lawful_asked g tell sound turn s f e left p x y b (op.PutWait res amount priority) law fits h active found sb poll = lawful-polled_put_wait g tell sound s f e left p x y b res amount priority fits active found sb h.lawful poll
-lawful_asked g tell sound turn s f e left p x y b (op.Get res least greatest) law fits h active found sb poll = lawful-polled_get g tell sound s f e left p x y b res least greatest fits active found sb h.lawful poll
-lawful_asked g tell sound turn s f e left p x y b (op.GetWait res least greatest) law fits h active found sb poll = lawful-polled_get_wait g tell sound s f e left p x y b res least greatest fits active found sb h.lawful poll
-lawful_asked g tell sound turn s f e left p x y b (op.Cancel n) law fits h active found sb poll = lawful-polled_cancel g tell sound s f e left p x y b n active found sb h.lawful poll
-lawful_asked g tell sound turn s f e left p x y b (op.Count res) law fits h active found sb poll = lawful-polled_count g tell sound s f e left p x y b res active found sb h.lawful poll
-lawful_asked g tell sound turn s f e left p x y b (op.Draw lo hi) law fits h active found sb poll = lawful-polled_draw g tell sound s f e left p x y b lo hi active found sb h.lawful poll
-lawful_asked g tell sound turn s f e left p x y b (op.Log value) law fits h active found sb poll = lawful-polled_log g tell sound s f e left p x y b value active found sb h.lawful poll
-lawful_asked g tell sound turn s f e left p x y b (op.Finish value) law fits h active found sb poll = lawful-polled_end g tell sound s f e left p x y b (outcome.Ok value) active found sb h.lawful poll.asks
-lawful_asked g tell sound turn s f e left p x y b (op.Die what) law fits h active found sb poll = lawful-polled_end g tell sound s f e left p x y b (outcome.Fail what) active found sb h.lawful poll.asks
-lawful_asked g tell sound turn s f e left p x y b (op.Chain n m) law fits h active found sb poll = lawful-polled_chain g tell sound s f e left p x y b n m fits active found sb h.lawful poll
+module _ {B : Type 0} (g : Plan B) (tell : Telling B) (sound : B → Type 0) (turn : Turn B) (s : State B) (f : CodeFacts) (e : EventId) (left : List Callback) (p : ProcId) (x : Signal) (y : ProcessOf B) (b : B) where
+  basis_asked : (o : Op) → IsLawfulBody f tell sound g.start turn → FitsCode f g.setup → FactsBeside g.setup.until s →
+      AsksFor g tell sound s f e left p x y b o → LawfulBasis g tell sound (polled g p o b s)
+  basis_asked op.Nop law fits beside a = lawful-polled_nop g tell sound s f e left p x y b a
+  basis_asked (op.Timeout delay value) law fits beside a = lawful-polled_timeout g tell sound s f e left p x y b delay value a
+  basis_asked (op.Pause delay value) law fits beside a = lawful-polled_pause g tell sound s f e left p x y b delay value a
+  basis_asked (op.Wait n) law fits beside a = lawful-polled_wait g tell sound s f e left p x y b n fits a
+  basis_asked op.NewEvent law fits beside a = lawful-polled_new_event g tell sound s f e left p x y b a
+  basis_asked (op.Succeed n value) law fits beside a = lawful-polled_succeed g tell sound s f e left p x y b n value fits a
+  basis_asked (op.Fail n code) law fits beside a = lawful-polled_fail g tell sound s f e left p x y b n code fits a
+  basis_asked (op.Spawn k args) law fits beside a = lawful-polled_spawn g tell sound turn s f e left p x y b k args law fits a.active a.found a.is_sound a.lawful a.poll
+  basis_asked (op.Interrupt q cause) law fits beside a = lawful-polled_interrupt g tell sound s f e left p x y b q cause a
+  basis_asked (op.Drop q value) law fits beside a = lawful-polled_drop g tell sound s f e left p x y b q value beside.apart a
+  basis_asked (op.AllOf members) law fits beside a = lawful-polled_all_of g tell sound s f e left p x y b members fits a
+  basis_asked (op.AnyOf members) law fits beside a = lawful-polled_any_of g tell sound s f e left p x y b members fits a
+  basis_asked (op.Has cond n) law fits beside a = lawful-polled_has g tell sound s f e left p x y b cond n a
+  basis_asked (op.Enter res priority preempts) law fits beside a = lawful-polled_enter g tell sound s f e left p x y b res priority preempts fits a
+  basis_asked op.Leave law fits beside a = lawful-polled_leave g tell sound s f e left p x y b beside.apart a
+  basis_asked (op.Release request) law fits beside a = lawful-polled_release g tell sound s f e left p x y b request a.active a.found a.is_sound a.lawful a.poll
+  basis_asked (op.Put res amount priority) law fits beside a = lawful-polled_put g tell sound s f e left p x y b res amount priority fits a
+  basis_asked (op.PutWait res amount priority) law fits beside a = lawful-polled_put_wait g tell sound s f e left p x y b res amount priority fits a
+  basis_asked (op.Get res least greatest) law fits beside a = lawful-polled_get g tell sound s f e left p x y b res least greatest fits a
+  basis_asked (op.GetWait res least greatest) law fits beside a = lawful-polled_get_wait g tell sound s f e left p x y b res least greatest fits a
+  basis_asked (op.Cancel n) law fits beside a = lawful-polled_cancel g tell sound s f e left p x y b n a
+  basis_asked (op.Count res) law fits beside a = lawful-polled_count g tell sound s f e left p x y b res a
+  basis_asked (op.Draw lo hi) law fits beside a = lawful-polled_draw g tell sound s f e left p x y b lo hi a
+  basis_asked (op.Log value) law fits beside a = lawful-polled_log g tell sound s f e left p x y b value a
+  basis_asked (op.Finish value) law fits beside a = lawful-polled_end g tell sound s f e left p x y b (outcome.Ok value) a.active a.found a.is_sound a.lawful a.poll.asks
+  basis_asked (op.Die what) law fits beside a = lawful-polled_end g tell sound s f e left p x y b (outcome.Fail what) a.active a.found a.is_sound a.lawful a.poll.asks
+  basis_asked (op.Chain n m) law fits beside a = lawful-polled_chain g tell sound s f e left p x y b n m fits a
 
 fits_told : {B : Type 0} (tell : Telling B) (c : Calendar) (b : B) (x : Signal) → told_fits tell c b x ≡ true → may_be_told (tell.last b) x ≡ true
 fits_told tell c b (signal.Made n) h = (four_parts (may_be_told (tell.last b) (signal.Made n)) (was_made c n) (not (is_processed c n)) (makes_kind (tell.last b) (kind_at c n)) h).0
 fits_told tell c b _ h = h
 
 -- the active process may be told what it is told
-may_be_told_now : {B : Type 0} (g : Plan B) (tell : Telling B) (sound : B → Type 0) (s : State B) (e : EventId) (left : List Callback) (p : ProcId) (x : Signal) (y : ProcessOf B) → s.control ≡ Active e left p x → process_at p s ≡ Some y → Lawful g tell sound s → may_be_told (tell.last y.body) x ≡ true
+may_be_told_now : {B : Type 0} (g : Plan B) (tell : Telling B) (sound : B →
+    Type 0) (s : State B) (e : EventId) (left : List Callback) (p : ProcId) (x : Signal) (y : ProcessOf B) → s.control ≡ Active e left p x →
+    process_at p s ≡ Some y → LawfulBasis g tell sound s → may_be_told (tell.last y.body) x ≡ true
 may_be_told_now {B} g tell sound s e left p x y active found h =
     let c : Calendar = calendar s in
     let test : ProcessOf B → Bool = λ z. is_process z.id p in
     let well : is_told_well tell c y.id y.body s.control ≡ true = find_has (λ z. is_told_well tell c z.id z.body s.control ≡ true) test s.processes y found h.bodies.told in
     fits_told tell c y.body x (sym (told_active tell c y.id y.body e left p x (find_passes test s.processes y found)) ∙ (ap (λ (k : Control). is_told_well tell c y.id y.body k) (sym active) ∙ well))
 
-whole_polled : {B : Type 0} (g : Plan B) (tell : Telling B) (sound : B → Type 0) (turn : Turn B) (f : CodeFacts) (s t : State B) (e : EventId) (left : List Callback) (p : ProcId) (x : Signal) → FitsCode f g.setup → IsLawfulBody f tell sound g.start turn → LawfulWhole g tell sound s → s.control ≡ Active e left p x → IsPoll g turn p x s t → LawfulWhole g tell sound t
-whole_polled {B} g tell sound turn f s t e left p x fits law h active i =
-    let y : ProcessOf B = i.process in
-    let time : ℤ = (calendar s).time in
-    let well : sound y.body = find_has (λ z. sound z.body) (λ z. is_process z.id p) s.processes y i.found h.lawful.bodies.bodies in
-    let may : may_be_told (tell.last y.body) x ≡ true = may_be_told_now g tell sound s e left p x y active i.found h.lawful in
-    subst (LawfulWhole g tell sound) (sym i.then_is)
-    (whole_from g tell sound (polled g p i.asked i.body s)
-    (lawful_asked g tell sound turn s f e left p x y i.body i.asked law fits h active i.found (law.keeps y.body time x i.asked i.body well may i.turned) (law.polls y.body time x i.asked i.body well may i.turned))
-    (both_polled g tell sound p i.asked i.body s h.lawful (both_of g tell sound s h)))
+module _ {B : Type 0} (g : Plan B) (tell : Telling B) (sound : B → Type 0) (turn : Turn B) (f : CodeFacts) where
+  lawful_polled : (s t : State B) (e : EventId) (left : List Callback) (p : ProcId) (x : Signal) → FitsCode f g.setup →
+      IsLawfulBody f tell sound g.start turn → Lawful g tell sound s → s.control ≡ Active e left p x → IsPoll g turn p x s t → Lawful g tell sound t
+  lawful_polled s t e left p x fits law h active i =
+      let y : ProcessOf B = i.process in
+      let time : ℤ = (calendar s).time in
+      let basis : LawfulBasis g tell sound s = basis_of g tell sound s h in
+      let beside : FactsBeside g.setup.until s = facts_of g tell sound s h in
+      let well : sound y.body = find_has (λ z. sound z.body) (λ z. is_process z.id p) s.processes y i.found basis.bodies.bodies in
+      let may : may_be_told (tell.last y.body) x ≡ true = may_be_told_now g tell sound s e left p x y active i.found basis in
+      let asked : AsksFor g tell sound s f e left p x y i.body i.asked = record {
+        active = active;
+        found = i.found;
+        is_sound = law.keeps y.body time x i.asked i.body well may i.turned;
+        lawful = basis;
+        poll = law.polls y.body time x i.asked i.body well may i.turned;
+      } in
+      subst (Lawful g tell sound) (sym i.then_is)
+      (lawful_serving g tell sound (polled g p i.asked i.body s)
+      (basis_asked g tell sound turn s f e left p x y i.body i.asked law fits beside asked)
+      (beside_polled g tell sound s f e left p x y i.body i.asked fits asked beside)
+      (served_polled g tell sound f fits s basis (serving_of g tell sound s h) p x y i.asked i.body asked.poll))
 
--- ---- the step that comes next
+  -- ---- the step that comes next
 
-pub whole_at : {B : Type 0} (g : Plan B) (tell : Telling B) (sound : B → Type 0) (turn : Turn B) (f : CodeFacts) (s t : State B) (k : Control) → FitsCode f g.setup → IsLawfulBody f tell sound g.start turn → LawfulWhole g tell sound s → s.control ≡ k → IsStepAt g turn s t k → LawfulWhole g tell sound t
-whole_at g tell sound turn f s t Idle fits law h is i =
-    subst (LawfulWhole g tell sound) (sym i.then_is) (whole_from g tell sound (pop_entry i.entry s) (lawful-popped g tell sound s i.entry is i.is_due h.lawful) (both_popped i.entry s (both_of g tell sound s h)))
-whole_at g tell sound turn f s t (Calling e []) fits law h is i =
-    subst (LawfulWhole g tell sound) (sym i) (whole_from g tell sound (settle e s) (lawful-settled g tell sound s e is h.lawful) (both_settled e s (both_of g tell sound s h)))
-whole_at g tell sound turn f s t (Calling e (x ∷ left)) fits law h is i =
-    subst (LawfulWhole g tell sound) (sym i) (whole_from g tell sound (call g e x left s) (lawful_called_first g tell sound s e x left is h) (both_called g e x left s (both_of g tell sound s h)))
-whole_at g tell sound turn f s t (Active e left p x) fits law h is i = whole_polled g tell sound turn f s t e left p x fits law h is i
-whole_at g tell sound turn f s t (Over why e left) fits law h is i = absurd i
+  pub lawful_at : (s t : State B) (k : Control) → FitsCode f g.setup → IsLawfulBody f tell sound g.start turn → Lawful g tell sound s → s.control ≡ k →
+      IsStepAt g turn s t k → Lawful g tell sound t
+  lawful_at s t Idle fits law h is i =
+      let basis : LawfulBasis g tell sound s = basis_of g tell sound s h in
+      subst (Lawful g tell sound) (sym i.then_is) (lawful_serving g tell sound (pop_entry i.entry s) (lawful-popped g tell sound s i.entry is i.is_due basis) (beside_popped g.setup.until i.entry s basis.conditions (facts_of g tell sound s h))
+      (served_popped (length g.setup.resources) i.entry s (serving_of g tell sound s h)))
+  lawful_at s t (Calling e []) fits law h is i =
+      subst (Lawful g tell sound) (sym i) (lawful_serving g tell sound (settle e s) (lawful-settled g tell sound s e is (basis_of g tell sound s h)) (beside_settled g.setup.until e s (facts_of g tell sound s h))
+      (served_settled (length g.setup.resources) e s (serving_of g tell sound s h)))
+  lawful_at s t (Calling e (x ∷ left)) fits law h is i =
+      let basis : LawfulBasis g tell sound s = basis_of g tell sound s h in
+      let beside : FactsBeside g.setup.until s = facts_of g tell sound s h in
+      subst (Lawful g tell sound) (sym i) (lawful_serving g tell sound (call g e x left s) (basis_called g tell sound s e x left is basis beside) (beside_called g tell sound e left s x is basis beside)
+      (served_called g e x left s is (serving_of g tell sound s h)))
+  lawful_at s t (Active e left p x) fits law h is i = lawful_polled s t e left p x fits law h is i
+  lawful_at s t (Over why e left) fits law h is i = absurd i
 
-pub lawful_step : {B : Type 0} (g : Plan B) (tell : Telling B) (sound : B → Type 0) (turn : Turn B) (f : CodeFacts) (s t : State B) → FitsCode f g.setup → IsLawfulBody f tell sound g.start turn → LawfulWhole g tell sound s → IsStep g turn s t → LawfulWhole g tell sound t
-lawful_step g tell sound turn f s t fits law h step = whole_at g tell sound turn f s t s.control fits law h refl step
+  pub lawful_step : (s t : State B) → FitsCode f g.setup → IsLawfulBody f tell sound g.start turn → Lawful g tell sound s → IsStep g turn s t →
+      Lawful g tell sound t
+  lawful_step s t fits law h step = lawful_at s t s.control fits law h refl step
 
--- ---- the opening state
+  -- ---- the opening state
 
-pub lawful_opening : {B : Type 0} (g : Plan B) (tell : Telling B) (sound : B → Type 0) (turn : Turn B) (f : CodeFacts) → FitsCode f g.setup → IsLawfulBody f tell sound g.start turn → LawfulWhole g tell sound (opening g)
-lawful_opening g tell sound turn f fits law = whole_from g tell sound (opening g) (opening_lawful f tell sound g turn law fits) (both_opening g)
+  pub lawful_opening : FitsCode f g.setup → IsLawfulBody f tell sound g.start turn → Lawful g tell sound (opening g)
+  lawful_opening fits law = lawful_serving g tell sound (opening g) (opening_lawful f tell sound g turn law fits) (beside_opening g) (served_opening g)
 
--- ---- an arrival
+  -- ---- an arrival
 
-pub lawful_arrival : {B : Type 0} (g : Plan B) (tell : Telling B) (sound : B → Type 0) (turn : Turn B) (f : CodeFacts) (m : Course B) (a : Arrival) → FitsCode f g.setup → IsLawfulBody f tell sound g.start turn → a.port < length g.setup.ports → LawfulWhole g tell sound m.state → LawfulWhole g tell sound (inject g a m).state
-lawful_arrival g tell sound turn f m a fits law below h =
-    whole_from g tell sound (inject g a m).state (lawful-injected f tell sound g turn m a law fits below h.lawful) (both_arrived g a.port a.value m.state (both_of g tell sound m.state h))
-
--- ---- the start of the plan
-
--- the law of bodies that begin as the plan says
-pub law_of_plan : {B : Type 0} (g : Plan B) (tell : Telling B) (sound : B → Type 0) (turn : Turn B) (f : CodeFacts) (start : ℕ → List ℤ → ProcId → B) → g.start ≡ start → IsLawfulBody f tell sound start turn → IsLawfulBody f tell sound g.start turn
-law_of_plan g tell sound turn f start same law = subst (λ k. IsLawfulBody f tell sound k turn) (sym same) law
+  pub lawful_arrival : (m : Course B) (a : Arrival) → FitsCode f g.setup → IsLawfulBody f tell sound g.start turn → a.port < length g.setup.ports →
+      Lawful g tell sound m.state → Lawful g tell sound (inject g a m).state
+  lawful_arrival m a fits law below h =
+      lawful_serving g tell sound (inject g a m).state (lawful-injected f tell sound g turn m a law fits below (basis_of g tell sound m.state h))
+      (beside_arrived g.setup.until g a.port a.value m.state (facts_of g tell sound m.state h)) (served_arrived g a.port a.value m.state (serving_of g tell sound m.state h))

@@ -1,2 +1,8 @@
-pub mod WholeStates
+pub mod Courses
+pub mod LawfulRuns
+pub mod Desks
+pub mod Stocks
+pub mod Members
 pub mod IdleBodies
+pub mod NamedEvents
+pub mod ReachedEvents

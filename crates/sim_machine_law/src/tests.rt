@@ -1,36 +1,43 @@
 use crate::{
-    LawfulBody, lawful_arrival, lawful_opening, lawful_run, lawful_step, preemption_ends_use,
-    trace_grows, within_capacity,
+    lawful_arrival, lawful_opening, lawful_run, lawful_step, preemption_ends_use,
+    reached_events_are_kept, trace_grows, within_capacity,
 };
-use sim_types::{Op, ProcId};
+use sim_machine::LawfulBody;
+use sim_types::ProcId;
+use std::marker::Model;
 
-// A body that asks for nothing, for ever: its number, and what it asked for last.
-impl LawfulBody for (ProcId, Option<Op>) {
-    ghost use Rattle.sim_machine.proofs.PlainBodies.{IsPlainBody};
-    ghost use Rattle.sim_machine_law.specs.IdleBodies.{started_idle, IsIdleTurn, idle_tells, idle_facts, idle_lawful};
+/// A body that asks for nothing, for ever.
+struct Idle {
+    own: ProcId,
+    polled: bool,
+}
+
+impl Model for Idle {
+    ghost use Rattle.sim_machine_law.specs.IdleBodies.{IdleOf};
+
+    ghost Value = { IdleOf };
+
+    ghost view = { λ a. record { own = a.own; polled = a.polled } };
+}
+
+impl LawfulBody for Idle {
+    ghost use Rattle.sim_machine_law.specs.IdleBodies.{idle_body, idle_lawful};
 
     type Code = ();
 
-    ghost start = { λ code. started_idle };
-
-    ghost turn = { λ code. IsIdleTurn };
-
-    ghost tell = { λ code. idle_tells };
-
-    ghost facts = { λ code. idle_facts };
-
-    ghost sound = { λ code. IsPlainBody (λ b. b.1) };
+    ghost body = { idle_body };
 
     ghost lawful = { λ code. idle_lawful };
 }
 
 #[test]
 fn laws_hold_of_a_body() {
-    lawful_opening::<(ProcId, Option<Op>)>();
-    lawful_step::<(ProcId, Option<Op>)>();
-    lawful_arrival::<(ProcId, Option<Op>)>();
-    lawful_run::<(ProcId, Option<Op>)>();
-    within_capacity::<(ProcId, Option<Op>)>();
-    trace_grows::<(ProcId, Option<Op>)>();
+    lawful_opening::<Idle>();
+    lawful_step::<Idle>();
+    lawful_arrival::<Idle>();
+    lawful_run::<Idle>();
+    within_capacity::<Idle>();
+    reached_events_are_kept::<Idle>();
+    trace_grows::<Idle>();
     preemption_ends_use();
 }

@@ -16,7 +16,6 @@ use Rattle.sim_types.specs.declared.script.Stmt.TheVariants as stmt
 use Rattle.sim_machine.specs.Tellings.{is_class}
 use Rattle.sim_machine.specs.MayFollow.{may_follow}
 use Rattle.sim_machine.specs.BodyLaw.{makes_class}
-use Rattle.sim_language.specs.VariableFaults.{same_class}
 use Rattle.sim_language.specs.FittingStatements.{class_of, gives, gives_maybe, statement_fits}
 use Rattle.sim_script_model.specs.Polls.{given_by}
 use Rattle.sim_script_law.specs.SoundScripts.{is_asked_by}
@@ -30,7 +29,7 @@ record IsGiven (kind : Kind) (v : ℕ) (c : Class) : Type 0 where
 
 is_given : (kind : Kind) (v : ℕ) (c : Class) → gives kind v c ≡ true → IsGiven kind v c
 is_given kind v c h =
-    let parts = and_parts (nat_le 1 v && nat_lt v 64) (same_class c (class_of kind v)) h in
+    let parts = and_parts (nat_le 1 v && nat_lt v 64) (is_class c (class_of kind v)) h in
     let range = and_parts (nat_le 1 v) (nat_lt v 64) parts.0 in
     record { behind_val = leb-true 1 v range.0; within = ltb-true v 64 range.1; class_is = same_class-is c (class_of kind v) parts.1 }
 

@@ -6,7 +6,7 @@ use Rattle.std.specs.Cmp.Lexicographic.{pointwise}
 use Rattle.std.proofs.lemmas.Bool.{false≢true, and_parts, and_from, or_left, or_right, eq-eqb, leb-true, lt-ltb, ltb-true}
 use Rattle.std.proofs.lemmas.Option.{none-some, same_Some}
 use Rattle.std.proofs.lemmas.List.{length-map}
-use Rattle.sim_types.specs.Scenarios.{ScenarioOf}
+use Rattle.sim_types.specs.Scenarios.{ScenarioOf, parameter_classes, facts_of}
 use Rattle.sim_types.specs.declared.event.EventId.{EventId}
 use Rattle.sim_types.specs.declared.setup.Class.{Class}
 use Rattle.sim_types.specs.declared.setup.Class.TheVariants as class
@@ -27,12 +27,10 @@ use Rattle.sim_machine.specs.MayAsk as asks
 use Rattle.sim_machine.specs.MayAsk.{is_zero, is_named, is_in_place, is_known, is_known_event, is_known_process, takes_requests, has_resource, may_ask}
 use Rattle.sim_machine.specs.BodyLaw.{may_start}
 use Rattle.sim_language.specs.declared.shape.Reference.TheVariants.{AnyEvent, PlainEvent, AProcess}
-use Rattle.sim_language.specs.VariableFaults.{same_class}
 use Rattle.sim_language.specs.FittingStatements as fits
-use Rattle.sim_language.specs.FittingStatements.{parameter_classes, class_of, uses, number_fits, gives, gives_maybe, event_fits, members_fit, request_fits, put_fits, get_fits, resource_at, statement_fits}
+use Rattle.sim_language.specs.FittingStatements.{class_of, uses, number_fits, gives, gives_maybe, event_fits, members_fit, request_fits, put_fits, get_fits, resource_at, statement_fits}
 use Rattle.sim_script_model.specs.Scripts.{Script, event_in, event_of_ref, process_of_ref, value_of_num, value_of_arg, places_of}
 use Rattle.sim_script_model.specs.Polls.{do_stmt, put_op, get_op}
-use Rattle.sim_script_model.specs.Scenarios.{facts_of}
 use Rattle.sim_script_law.proofs.Variables.{same_class-is, class_of-is, own_class, not_number, may_start-rest}
 
 -- ---- variables
@@ -55,7 +53,7 @@ class_in_place c fails kind b v same may is = variable_in_place (λ d. is_class 
 class_used : (kind : Kind) (v : ℕ) (c : Class) → uses kind v c ≡ true → class_of kind v ≡ c
 class_used kind v c h = same_class-is c (class_of kind v) (and_parts (nat_lt v 64) _ h).1
 
-no_number : (c : Class) → not (same_class c class.Number) ≡ true → not (is_class c class.Number) ≡ true
+no_number : (c : Class) → not (is_class c class.Number) ≡ true → not (is_class c class.Number) ≡ true
 no_number class.Number h = h
 no_number _ h = refl
 

@@ -4,7 +4,7 @@ use Rattle.std.specs.Prelude.{◌&&◌, ◌==◌, map, not, nat_lt, int_lt, ◌-
 use Rattle.std.specs.List.{list_any}
 use Rattle.std.proofs.lemmas.Bool.{false≢true, true≢false, and_parts, eqb-true}
 use Rattle.std.proofs.lemmas.List.{length-reverse}
-use Rattle.sim_types.specs.Scenarios.{ScenarioOf}
+use Rattle.sim_types.specs.Scenarios.{ScenarioOf, facts_of}
 use Rattle.sim_types.specs.declared.event.Throw.{Throw}
 use Rattle.sim_types.specs.declared.op.Op.{Op}
 use Rattle.sim_types.specs.declared.op.Op.TheVariants as op
@@ -19,11 +19,10 @@ use Rattle.sim_machine.specs.MayAsk.{may_ask}
 use Rattle.sim_machine.specs.BodyLaw.{scopes_asked}
 use Rattle.sim_language.specs.FittingBlocks.{Open, OpenWith, OpenLoop, OpenRepeat, OpenIf, OpenElse, OpenTry, OpenCatch, is_open_loop}
 use Rattle.sim_language.specs.FittingStatements.{gives, number_fits, statement_fits}
-use Rattle.sim_language.proofs.ClosedBlocks.{break_within, release_within, with_within}
+use Rattle.sim_language_law.proofs.ClosedBlocks.{break_within, release_within, with_within}
 use Rattle.sim_script_model.specs.Arithmetic.{Answer, Number, Error, compute, is_equal}
 use Rattle.sim_script_model.specs.Scripts.{Mode, Running, Throwing, Breaking, Finishing, Frame, InScope, InTry, InLoop, InRepeat, Script, set_place, set_mode, set_frames, push_frame, tail_of, event_in, event_of_ref, process_of_ref, value_of_arg, places_of, requests_in, stmt_at, value_of_num}
 use Rattle.sim_script_model.specs.Polls.{do_stmt, answer_to, last_stmt, end_repeat}
-use Rattle.sim_script_model.specs.Scenarios.{facts_of}
 use Rattle.sim_script_law.specs.Walks.{Walks}
 use Rattle.sim_script_law.specs.Framing.{Framed, is_held}
 use Rattle.sim_script_law.specs.SoundScripts.{is_asked_by, is_answered, has_ended, is_running, is_breaking}

@@ -5,6 +5,7 @@ use Rattle.std.specs.List.{list_any}
 use Rattle.std.proofs.lemmas.Bool.{false≢true, true≢false, or_left, or_right, eqb-true, eqb-false, eq-eqb}
 use Rattle.std.proofs.lemmas.List.{get_or-set_other, reverse-append}
 use Rattle.std.proofs.lemmas.List.Folds.{list_any-append}
+use Rattle.sim_types.specs.Setups.{is_class}
 use Rattle.sim_types.specs.Scenarios.{ScenarioOf}
 use Rattle.sim_types.specs.declared.event.EventId.{EventId}
 use Rattle.sim_types.specs.declared.setup.Class.TheVariants as class
@@ -12,7 +13,6 @@ use Rattle.sim_types.specs.declared.script.Kind.{Kind}
 use Rattle.sim_machine.specs.Events.{is_same}
 use Rattle.sim_language.specs.FittingBlocks.{Open, OpenWith, OpenLoop, OpenRepeat, OpenIf, OpenElse, OpenTry, OpenCatch}
 use Rattle.sim_language.specs.FittingStatements.{class_of}
-use Rattle.sim_language.specs.VariableFaults.{same_class}
 use Rattle.sim_script_model.specs.Scripts.{Frame, InScope, InTry, InLoop, InRepeat, Script, requests_in, event_in}
 use Rattle.sim_script_law.specs.Framing.{Framed, IsScope, is_held}
 
@@ -71,7 +71,7 @@ framed_set x kind vs to value (OpenCatch past ∷ os) fs none h = framed_set x k
 framed_set x kind vs to value _ _ none h = absurd (false≢true h)
 
 -- a variable of another class than requests is that of no open `with`
-pub other_class_not_held : (x : ScenarioOf) (kind : Kind) (vs : List ℤ) (to : ℕ) (os : List Open) (fs : List Frame) → same_class class.Request (class_of kind to) ≡ false → Framed x kind vs os fs → is_held to os ≡ false
+pub other_class_not_held : (x : ScenarioOf) (kind : Kind) (vs : List ℤ) (to : ℕ) (os : List Open) (fs : List Frame) → is_class class.Request (class_of kind to) ≡ false → Framed x kind vs os fs → is_held to os ≡ false
 other_class_not_held x kind vs to [] [] other h = refl
 other_class_not_held x kind vs to (OpenWith v ∷ os) (InScope e ∷ fs) other h = by (to == v) refl (other_class_not_held x kind vs to os fs other h.1)
   where

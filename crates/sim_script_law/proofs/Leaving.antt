@@ -4,7 +4,8 @@ use Rattle.std.specs.Prelude.{nat_lt, ◌&&◌, nat_le}
 use Rattle.std.specs.List.{list_any}
 use Rattle.std.proofs.lemmas.Bool.{false≢true, true≢false, and_parts, lt-ltb}
 use Rattle.std.proofs.lemmas.List.{length-reverse}
-use Rattle.sim_types.specs.Scenarios.{ScenarioOf}
+use Rattle.sim_types.specs.Setups.{is_class}
+use Rattle.sim_types.specs.Scenarios.{ScenarioOf, facts_of}
 use Rattle.sim_types.specs.declared.event.EventId.{EventId}
 use Rattle.sim_types.specs.declared.event.Throw.{Throw}
 use Rattle.sim_types.specs.declared.op.Op.{Op}
@@ -17,10 +18,8 @@ use Rattle.sim_machine.specs.MayAsk.{may_ask}
 use Rattle.sim_machine.specs.BodyLaw.{may_start, without_last, scopes_asked}
 use Rattle.sim_language.specs.FittingBlocks.{Open, OpenWith, OpenLoop, OpenRepeat, OpenIf, OpenElse, OpenTry, OpenCatch, is_open_loop}
 use Rattle.sim_language.specs.FittingStatements.{gives, class_of, statement_fits}
-use Rattle.sim_language.specs.VariableFaults.{same_class}
 use Rattle.sim_script_model.specs.Scripts.{Mode, Running, Throwing, Breaking, Finishing, Frame, InScope, InTry, InLoop, InRepeat, Script, set_frames, requests_in, places_of}
 use Rattle.sim_script_model.specs.Polls.{unwind, catch_by, leave_try, leave_loop, end_by_mode}
-use Rattle.sim_script_model.specs.Scenarios.{facts_of}
 use Rattle.sim_script_law.specs.Walks.{Walks}
 use Rattle.sim_script_law.specs.Framing.{Framed}
 use Rattle.sim_script_law.specs.SoundScripts.{is_running, is_breaking, has_ended, is_answered}
@@ -46,7 +45,7 @@ some_scope e es = lt-ltb 0 _ (omega (arith, length-reverse (e ∷ es)))
 -- ---- what is thrown is caught
 
 pub given_number : (kind : Kind) (v : ℕ) → gives kind v class.Number ≡ true → class_of kind v ≡ class.Number
-given_number kind v h = same_class-is class.Number (class_of kind v) (and_parts (nat_le 1 v && nat_lt v 64) (same_class class.Number (class_of kind v)) h).1
+given_number kind v h = same_class-is class.Number (class_of kind v) (and_parts (nat_le 1 v && nat_lt v 64) (is_class class.Number (class_of kind v)) h).1
 
 -- the variables of a catch line are numbers
 caught : (x : ScenarioOf) (kind : Kind) (b : Script) (to value past : ℕ) (t : Throw) → b.classes ≡ kind.classes → statement_fits x kind (stmt.Catch to value past) ≡ true → Numbers x kind b.classes b.variables (catch_by (stmt.Catch to value past) t b).variables

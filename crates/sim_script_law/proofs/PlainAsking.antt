@@ -11,7 +11,7 @@ use Rattle.sim_types.specs.declared.op.Op.{Op}
 use Rattle.sim_types.specs.declared.script.Kind.{Kind}
 use Rattle.sim_types.specs.declared.script.Stmt.{Stmt}
 use Rattle.sim_types.specs.declared.script.Stmt.TheVariants as stmt
-use Rattle.sim_machine.proofs.PlainBodies.{is_plain}
+use Rattle.sim_machine_law.proofs.PlainBodies.{is_plain}
 use Rattle.sim_language.specs.Built.{is_built_statement, is_built_scenario}
 use Rattle.sim_language.specs.FittingBlocks.{Open, OpenWith, OpenLoop, OpenRepeat, OpenIf, OpenElse, OpenTry, OpenCatch}
 use Rattle.sim_script_model.specs.Scripts.{Mode, Running, Throwing, Breaking, Finishing, Frame, InScope, InTry, InLoop, InRepeat, Script, set_place, stmt_at}
@@ -104,9 +104,9 @@ mode_asks code time t (Throwing what) built none = leaving_asks code t t.frames 
 mode_asks code time t Breaking built none = leaving_asks code t t.frames none
 mode_asks code time t (Finishing value) built none = leaving_asks code t t.frames none
 
-pub asks_plain : (x : ScenarioOf) (b : Script) (time : ℤ) (told : Signal) (asked : Op) (later : Script) → IsSoundScript x b → IsScriptTurn x b time told asked later → IsTrue (is_plain asked)
-asks_plain x b time told asked later sound turned =
-    let code = built_code x sound.built in
+pub asks_plain : (x : ScenarioOf) → IsTrue (is_built_scenario x) → (b : Script) (time : ℤ) (told : Signal) (asked : Op) (later : Script) → IsSoundScript x b → IsScriptTurn x b time told asked later → IsTrue (is_plain asked)
+asks_plain x built b time told asked later sound turned =
+    let code = built_code x built in
     let t : Script = take_in x.code told b in
     let none : list_all is_no_scope t.frames ≡ true = rw (told_frames x.code told b code) (scopeless x sound.kind b.variables sound.opens b.frames code sound.framed) in
     rw turned.0 (mode_asks x.code time t t.mode code none)

@@ -18,7 +18,7 @@ use Rattle.sim_script_law.specs.Framing.{Framed}
 use Rattle.sim_script_law.specs.SoundScripts.{IsSoundScript, IsAskedThere, is_asked_by, is_running}
 use Rattle.sim_script_law.specs.Ready.{variables_within, has_room, enters_room, scope_finds_room, can_take, can_do, can_leave, can_ask_in, can_ask}
 use Rattle.sim_script_law.proofs.KindsOfScenarios.{fits_well}
-use Rattle.sim_script_law.proofs.SetupFits.{few_parts}
+use Rattle.sim_script_law.proofs.SetupFits.{fitting_parts}
 use Rattle.sim_script_law.proofs.Walking.{Steps, steps}
 use Rattle.sim_script_law.proofs.WithinVariables.{fits_within, fits_small}
 use Rattle.sim_script_law.proofs.Frames.{frames_are_few}
@@ -94,7 +94,7 @@ ready_to_ask x b told h may = by (take_in x.code told b).mode refl
     taken = takes x b h told may
 
     by : (m : Mode) → (take_in x.code told b).mode ≡ m → can_ask_in x.code (take_in x.code told b) m ≡ true
-    by Running is = ready_to_do x h.kind taken.opens (take_in x.code told b) taken.stands (few_parts x (fits_well x h.well_formed).setup).events is
+    by Running is = ready_to_do x h.kind taken.opens (take_in x.code told b) taken.stands (fitting_parts x (fits_well x h.well_formed).setup).events is
     by (Throwing what) is = ready_to_leave x h.kind (take_in x.code told b).variables taken.opens (take_in x.code told b).frames taken.stands.framed
     by Breaking is = ready_to_leave x h.kind (take_in x.code told b).variables taken.opens (take_in x.code told b).frames taken.stands.framed
     by (Finishing value) is = ready_to_leave x h.kind (take_in x.code told b).variables taken.opens (take_in x.code told b).frames taken.stands.framed

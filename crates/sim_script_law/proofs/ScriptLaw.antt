@@ -11,9 +11,10 @@ use Rattle.sim_machine.specs.Tellings.{Place}
 use Rattle.sim_machine.specs.MayFollow.{may_be_told}
 use Rattle.sim_machine.specs.BodyLaw.{IsLawfulBody, IsLawfulPoll}
 use Rattle.sim_language.specs.FittingBlocks.{Open}
-use Rattle.sim_script_model.specs.Scripts.{Mode, Running, Throwing, Breaking, Finishing, Script, places_of, stmt_at}
+use Rattle.sim_script_model.specs.Scripts.{Mode, Running, Throwing, Breaking, Finishing, Script, script_telling, places_of, stmt_at}
 use Rattle.sim_script_model.specs.Polls.{take_in, ask}
-use Rattle.sim_script_law.specs.ScriptMembers.{started_script, IsScriptTurn, script_tells, script_holds, script_facts}
+use Rattle.sim_machine.specs.Bodies.{start_of}
+use Rattle.sim_script_law.specs.ScriptMembers.{script_body, IsScriptTurn, script_holds, script_facts}
 use Rattle.sim_script_law.specs.SoundScripts.{IsSoundScript, IsEntering, is_running, is_breaking}
 use Rattle.sim_script_law.proofs.Walking.{steps}
 use Rattle.sim_script_law.proofs.Starts.{facts_are, start_sound, start_lawful}
@@ -52,10 +53,10 @@ remembered x kind opens d last h =
     }
 
 module _ (x : ScenarioOf) (b t : Script) (told : Signal) (h : IsSoundScript x b) (taken : Takes x h.kind b told t) (asked : Op) (d : Script) (a : Asks x h.kind t asked d) where
-  polls_by_law : IsLawfulPoll (script_facts x) (script_tells x) b told asked (record d { asked = Some asked })
+  polls_by_law : IsLawfulPoll (script_facts x) script_telling b told asked (record d { asked = Some asked })
   polls_by_law =
       record {
-        asks = rw (facts_are x h.well_formed h.built, a.own, a.classes, a.places, ← taken.scopes) a.may;
+        asks = rw (facts_are x h.well_formed, a.own, a.classes, a.places, ← taken.scopes) a.may;
         own = a.own ∙ taken.own;
         places = rw (a.classes, a.places, taken.classes) taken.kept;
         one_place = rw (a.classes, a.places, taken.classes) taken.one;
@@ -67,7 +68,6 @@ module _ (x : ScenarioOf) (b t : Script) (told : Signal) (h : IsSoundScript x b)
   stays_sound =
       record {
         well_formed = h.well_formed;
-        built = h.built;
         kind = h.kind;
         kind_is = rw (a.kind_same, taken.kind_same) h.kind_is;
         classes = a.classes ∙ taken.classes ∙ h.classes;
@@ -85,7 +85,7 @@ module _ (x : ScenarioOf) (b t : Script) (told : Signal) (h : IsSoundScript x b)
 
 -- ---- the law
 
-pub poll_lawful : (x : ScenarioOf) (b : Script) (time : ℤ) (told : Signal) (asked : Op) (d : Script) → IsSoundScript x b → IsTrue (may_be_told b.asked told) → IsScriptTurn x b time told asked d → IsLawfulPoll (script_facts x) (script_tells x) b told asked d
+pub poll_lawful : (x : ScenarioOf) (b : Script) (time : ℤ) (told : Signal) (asked : Op) (d : Script) → IsSoundScript x b → IsTrue (may_be_told b.asked told) → IsScriptTurn x b time told asked d → IsLawfulPoll (script_facts x) script_telling b told asked d
 poll_lawful x b time told asked d h may turned =
     let taken = takes x b h told may in
     let t : Script = take_in x.code told b in
@@ -98,7 +98,7 @@ poll_sound x b time told asked d h may turned =
     rw turned.1 (stays_sound x b t told h taken (ask x.code time t t.mode).0 (ask x.code time t t.mode).1 (asks x h.kind taken.opens t time taken.stands))
 
 -- a script keeps the law of bodies
-pub script_lawful : (x : ScenarioOf) → IsLawfulBody (script_facts x) (script_tells x) (IsSoundScript x) (started_script x) (IsScriptTurn x)
+pub script_lawful : (x : ScenarioOf) → IsLawfulBody (script_facts x) script_telling (IsSoundScript x) (start_of script_body x) (IsScriptTurn x)
 script_lawful x =
     record {
       starts = start_lawful x;
@@ -109,7 +109,7 @@ script_lawful x =
 
 -- ---- its places
 
-pub script_has_places : (x : ScenarioOf) (b : Script) → IsSoundScript x b → map (λ p. p.event) ((script_tells x).places b) ≡ script_holds b
+pub script_has_places : (x : ScenarioOf) (b : Script) → IsSoundScript x b → map (λ p. p.event) (script_telling.places b) ≡ script_holds b
 script_has_places x b h = refl
 
 few_places_of : (cs : List Class) (vs : List ℤ) → length (places_of cs vs) ≤ length cs

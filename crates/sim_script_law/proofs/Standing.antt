@@ -1,7 +1,8 @@
 -- Where a script stands once it took in what it was told, and what has to hold of what it asks for then.
 use Rattle.std.proofs.Common.{◌≡◌, refl, sym, ◌∙◌, ℕ, ◌≤◌, ℤ, true, false, List, length, reverse, set, Some}
 use Rattle.std.specs.List.{list_any}
-use Rattle.sim_types.specs.Scenarios.{ScenarioOf}
+use Rattle.sim_types.specs.Setups.{is_class}
+use Rattle.sim_types.specs.Scenarios.{ScenarioOf, facts_of}
 use Rattle.sim_types.specs.declared.event.EventId.{EventId}
 use Rattle.sim_types.specs.declared.op.Op.{Op}
 use Rattle.sim_types.specs.declared.setup.Class.{Class}
@@ -12,10 +13,8 @@ use Rattle.sim_machine.specs.MayAsk.{may_ask}
 use Rattle.sim_machine.specs.BodyLaw.{may_start, scopes_asked}
 use Rattle.sim_language.specs.FittingBlocks.{Open, is_open_loop}
 use Rattle.sim_language.specs.FittingStatements.{class_of}
-use Rattle.sim_language.specs.VariableFaults.{same_class}
 use Rattle.sim_script_model.specs.Scripts.{Frame, Script, places_of, requests_in}
 use Rattle.sim_script_model.specs.Polls.{last_stmt}
-use Rattle.sim_script_model.specs.Scenarios.{facts_of}
 use Rattle.sim_script_law.specs.Walks.{Walks}
 use Rattle.sim_script_law.specs.Framing.{Framed}
 use Rattle.sim_script_law.specs.SoundScripts.{IsAskedThere, IsEntering, is_answered, has_ended, is_running, is_breaking, begins_with_number}
@@ -64,7 +63,7 @@ pub record Numbers (x : ScenarioOf) (kind : Kind) (cs : List Class) (vs ws : Lis
 pub number_stored : (x : ScenarioOf) (kind : Kind) (cs : List Class) (vs : List ℤ) (to : ℕ) (value : ℤ) → cs ≡ kind.classes → class_of kind to ≡ class.Number → Numbers x kind cs vs (set vs to value)
 number_stored x kind cs vs to value is number =
     let at = sym (class_of-is kind to) ∙ number in
-    let same : same_class class.Request (class_of kind to) ≡ false = rw number refl in
+    let same : is_class class.Request (class_of kind to) ≡ false = rw number refl in
     record {
       places = rw is (places_of-number kind.classes vs to value at);
       starts = rw is (may_start-number kind.classes vs to value at);

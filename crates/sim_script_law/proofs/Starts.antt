@@ -5,7 +5,7 @@ use Rattle.std.specs.List.{list_all}
 use Rattle.std.proofs.lemmas.Bool.{false≢true, and_parts, and_from, or_cases, or_left, or_right, cond-true, eq-eqb, ltb-true}
 use Rattle.std.proofs.lemmas.List.{length-map, length-take, length-drop}
 use Rattle.std.proofs.lemmas.Option.{none-some}
-use Rattle.sim_types.specs.Scenarios.{ScenarioOf}
+use Rattle.sim_types.specs.Scenarios.{ScenarioOf, facts_of}
 use Rattle.sim_types.specs.declared.event.ProcId.{ProcId}
 use Rattle.sim_types.specs.declared.setup.Class.{Class}
 use Rattle.sim_types.specs.declared.setup.Class.TheVariants as class
@@ -13,20 +13,19 @@ use Rattle.sim_types.specs.declared.script.Kind.{Kind}
 use Rattle.sim_machine.specs.Tellings.{Place, is_class}
 use Rattle.sim_machine.specs.MayAsk.{is_zero}
 use Rattle.sim_machine.specs.BodyLaw.{IsLawfulStart, holds_argument, may_start, may_begin}
-use Rattle.sim_language.specs.Built.{is_built_scenario}
 use Rattle.sim_language.specs.WellFormed.{is_well_formed}
-use Rattle.sim_script_model.specs.Scripts.{classes_at, first_place, places_of}
-use Rattle.sim_script_model.specs.Scenarios.{facts_of}
+use Rattle.sim_script_model.specs.Scripts.{script_telling, classes_at, first_place, places_of}
 use Rattle.sim_script_law.specs.Walks.{Walks}
-use Rattle.sim_script_law.specs.ScriptMembers.{started_script, script_tells, script_facts}
+use Rattle.sim_machine.specs.Bodies.{start_of}
+use Rattle.sim_script_law.specs.ScriptMembers.{script_body, script_facts}
 use Rattle.sim_script_law.specs.SoundScripts.{begins_with_number, IsSoundScript}
 use Rattle.sim_script_law.proofs.KindsOfScenarios.{KindBegins, kind_begins}
 
 -- ---- the facts of a scenario
 
--- the facts of a scenario that is well-formed and built
-pub facts_are : (x : ScenarioOf) → IsTrue (is_well_formed x) → IsTrue (is_built_scenario x) → script_facts x ≡ facts_of x
-facts_are x well_formed built = cond-true (is_well_formed x && is_built_scenario x) (facts_of x) (record { params = []; named = 0; resources = [] }) (and_from (is_well_formed x) (is_built_scenario x) well_formed built)
+-- the facts of a scenario that is well-formed
+pub facts_are : (x : ScenarioOf) → IsTrue (is_well_formed x) → script_facts x ≡ facts_of x
+facts_are x well_formed = cond-true (is_well_formed x) (facts_of x) (record { params = []; named = 0; resources = [] }) well_formed
 
 -- this is the kind at this place
 record IsKindAt (kinds : List Kind) (k : ℕ) (kind : Kind) : Type 0 where
@@ -47,7 +46,6 @@ kind_at (m ∷ kinds) (suc k) lt = by (kind_at kinds k (omega arith))
 
 record MayBegin (x : ScenarioOf) (k : ℕ) (args : List ℤ) : Type 0 where
   well_formed : IsTrue (is_well_formed x)
-  built : IsTrue (is_built_scenario x)
   within : k < length x.kinds
   kind : Kind
   at : IsKindAt x.kinds k kind
@@ -55,18 +53,17 @@ record MayBegin (x : ScenarioOf) (k : ℕ) (args : List ℤ) : Type 0 where
   starts : may_start (take kind.params (drop 1 kind.classes)) args ≡ true
 
 may_begin_with : (x : ScenarioOf) (k : ℕ) (args : List ℤ) → IsTrue (may_begin (script_facts x) k args) → MayBegin x k args
-may_begin_with x k args h = by (is_well_formed x && is_built_scenario x) refl h
+may_begin_with x k args h = by (is_well_formed x) refl h
   where
-    of_kind : IsTrue (is_well_formed x) → IsTrue (is_built_scenario x) → k < length x.kinds → may_start (slice_index_or (facts_of x).params k []) args ≡ true → (kind : Kind) × IsKindAt x.kinds k kind → MayBegin x k args
-    of_kind well_formed built within starts (kind, at) = record { well_formed = well_formed; built = built; within = within; kind = kind; at = at; begins = kind_begins x k kind well_formed at.is; starts = rw (← at.params) starts }
+    of_kind : IsTrue (is_well_formed x) → k < length x.kinds → may_start (slice_index_or (facts_of x).params k []) args ≡ true → (kind : Kind) × IsKindAt x.kinds k kind → MayBegin x k args
+    of_kind well_formed within starts (kind, at) = record { well_formed = well_formed; within = within; kind = kind; at = at; begins = kind_begins x k kind well_formed at.is; starts = rw (← at.params) starts }
 
-    by : (b : Bool) → (is_well_formed x && is_built_scenario x) ≡ b → may_begin (if b then facts_of x else record { params = []; named = 0; resources = [] }) k args ≡ true → MayBegin x k args
+    by : (b : Bool) → is_well_formed x ≡ b → may_begin (if b then facts_of x else record { params = []; named = 0; resources = [] }) k args ≡ true → MayBegin x k args
     by false e h = absurd (omega (arith, ltb-true k 0 (and_parts (nat_lt k 0) _ h).0))
     by true e h =
-        let both = and_parts (is_well_formed x) (is_built_scenario x) e in
         let parts = and_parts (nat_lt k (length (facts_of x).params)) _ h in
         let within : k < length x.kinds = omega (arith, ltb-true k _ parts.0, length-map x.kinds (λ m. take m.params (drop 1 m.classes))) in
-        of_kind both.0 both.1 within parts.1 (kind_at x.kinds k within)
+        of_kind e within parts.1 (kind_at x.kinds k within)
 
 -- it is of a kind
 pub has_kind : (x : ScenarioOf) (k : ℕ) (args : List ℤ) → IsTrue (may_begin (script_facts x) k args) → k < length x.kinds
@@ -106,13 +103,12 @@ variables_start : (classes : List Class) (n : ℕ) (args : List ℤ) → length 
 variables_start [] n args long few val starts = absurd (false≢true val)
 variables_start (c ∷ cs) n args long few val starts = filled_start n cs args (63 - length args) starts (omega (arith, long, few))
 
-sound_where : (x : ScenarioOf) (k : ℕ) (args : List ℤ) (id : ProcId) → MayBegin x k args → IsSoundScript x (started_script x k args id)
+sound_where : (x : ScenarioOf) (k : ℕ) (args : List ℤ) (id : ProcId) → MayBegin x k args → IsSoundScript x (start_of script_body x k args id)
 sound_where x k args id may =
     let classes = may.at.classes in
     let few = few_where x k args may in
     record {
       well_formed = may.well_formed;
-      built = may.built;
       kind = may.kind;
       kind_is = may.at.is;
       classes = classes;
@@ -128,7 +124,7 @@ sound_where x k args id may =
       asked = λ last is answered. absurd (none-some last is);
     }
 
-pub start_sound : (x : ScenarioOf) (k : ℕ) (args : List ℤ) (id : ProcId) → IsTrue (may_begin (script_facts x) k args) → IsSoundScript x (started_script x k args id)
+pub start_sound : (x : ScenarioOf) (k : ℕ) (args : List ℤ) (id : ProcId) → IsTrue (may_begin (script_facts x) k args) → IsSoundScript x (start_of script_body x k args id)
 start_sound x k args id h = sound_where x k args id (may_begin_with x k args h)
 
 -- ---- its places
@@ -198,10 +194,10 @@ places_begun (class.Number ∷ cs) n args m val starts = arguments_held n cs arg
 places_begun [] n args m val starts = refl
 places_begun (_ ∷ cs) n args m val starts = absurd (false≢true val)
 
-lawful_where : (x : ScenarioOf) (k : ℕ) (args : List ℤ) (id : ProcId) → MayBegin x k args → IsLawfulStart (facts_of x) (script_tells x) k args id (started_script x k args id)
+lawful_where : (x : ScenarioOf) (k : ℕ) (args : List ℤ) (id : ProcId) → MayBegin x k args → IsLawfulStart (facts_of x) script_telling k args id (start_of script_body x k args id)
 lawful_where x k args id may = record { own = refl; places = rw (may.at.classes, may.at.params) (places_begun may.kind.classes may.kind.params args (63 - length args) may.begins.val may.starts); scopes = refl; last = refl }
 
-pub start_lawful : (x : ScenarioOf) (k : ℕ) (args : List ℤ) (id : ProcId) → IsTrue (may_begin (script_facts x) k args) → IsLawfulStart (script_facts x) (script_tells x) k args id (started_script x k args id)
+pub start_lawful : (x : ScenarioOf) (k : ℕ) (args : List ℤ) (id : ProcId) → IsTrue (may_begin (script_facts x) k args) → IsLawfulStart (script_facts x) script_telling k args id (start_of script_body x k args id)
 start_lawful x k args id h =
     let may = may_begin_with x k args h in
-    rw (facts_are x may.well_formed may.built) (lawful_where x k args id may)
+    rw (facts_are x may.well_formed) (lawful_where x k args id may)

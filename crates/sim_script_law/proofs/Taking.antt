@@ -2,6 +2,7 @@
 use Rattle.std.proofs.Common.{◌≡◌, refl, sym, subst, ap, ◌∙◌, ℕ, ◌-◌, ◌<◌, ◌≤◌, ℤ, pos, Bool, true, false, List, [], ◌∷◌, length, set, Option, Some, None, arith}
 use Rattle.std.specs.Prelude.{nat_abs, slice_index_or}
 use Rattle.std.proofs.lemmas.Bool.{false≢true, true≢false}
+use Rattle.sim_types.specs.Setups.{is_class}
 use Rattle.sim_types.specs.Scenarios.{ScenarioOf}
 use Rattle.sim_types.specs.declared.event.EventId.{EventId}
 use Rattle.sim_types.specs.declared.event.Throw.{Throw}
@@ -18,7 +19,6 @@ use Rattle.sim_machine.specs.MayFollow.{may_be_told, may_follow, is_enter}
 use Rattle.sim_machine.specs.BodyLaw.{places_kept, changed_places, scopes_told, may_start, makes_class}
 use Rattle.sim_language.specs.FittingBlocks.{Open, OpenWith}
 use Rattle.sim_language.specs.FittingStatements.{class_of}
-use Rattle.sim_language.specs.VariableFaults.{same_class}
 use Rattle.sim_script_model.specs.Scripts.{Throwing, InScope, Script, set_mode, set_variable, push_frame, places_of, requests_in}
 use Rattle.sim_script_model.specs.Polls.{given_by, last_stmt, open_with, store, take_in}
 use Rattle.sim_script_law.specs.Framing.{Framed, is_held}
@@ -82,7 +82,7 @@ opens_none (stmt.With to res priority preempts) _ e b by other = absurd (false�
 opens_none _ asked e b by other = refl
 
 -- requests alone have their class
-not_request : (asked : Op) (c : Class) → makes_class (Some asked) c ≡ true → is_enter (Some asked) ≡ false → same_class class.Request c ≡ false
+not_request : (asked : Op) (c : Class) → makes_class (Some asked) c ≡ true → is_enter (Some asked) ≡ false → is_class class.Request c ≡ false
 not_request (op.Enter res priority preempts) class.Request makes other = absurd (true≢false other)
 not_request _ class.Request makes other = absurd (false≢true makes)
 not_request asked _ makes other = refl

@@ -14,8 +14,7 @@ use Rattle.sim_types.specs.declared.setup.Class.TheVariants as class
 use Rattle.sim_types.specs.declared.script.Kind.{Kind}
 use Rattle.sim_machine.specs.Tellings.{Place, is_class}
 use Rattle.sim_machine.specs.BodyLaw.{makes_class, places_kept, changed_places, may_start}
-use Rattle.sim_machine.proofs.EventLaws.{is_same-self}
-use Rattle.sim_language.specs.VariableFaults.{same_class}
+use Rattle.sim_machine_law.proofs.EventLaws.{is_same-self}
 use Rattle.sim_language.specs.FittingStatements.{class_of}
 use Rattle.sim_script_model.specs.Scripts.{places_of}
 
@@ -34,7 +33,7 @@ own_class class.Request = refl
 own_class class.Move = refl
 
 -- two classes that are the same are one
-pub same_class-is : (c d : Class) → same_class c d ≡ true → d ≡ c
+pub same_class-is : (c d : Class) → is_class c d ≡ true → d ≡ c
 same_class-is class.Number class.Number h = refl
 same_class-is class.Event class.Event h = refl
 same_class-is class.Cond class.Cond h = refl

@@ -12,7 +12,6 @@ use Rattle.sim_types.specs.declared.script.Stmt.{Stmt}
 use Rattle.sim_types.specs.declared.script.Stmt.TheVariants as stmt
 use Rattle.sim_machine.specs.BodyLaw.{may_start}
 use Rattle.sim_machine.specs.MayFollow.{is_enter}
-use Rattle.sim_language.specs.Built.{is_built_scenario}
 use Rattle.sim_language.specs.WellFormed.{is_well_formed}
 use Rattle.sim_language.specs.FittingBlocks.{Open, OpenWith, is_open_loop}
 use Rattle.sim_language.specs.FittingStatements.{statement_fits}
@@ -93,7 +92,6 @@ begins_with_number classes = false
 
 pub record IsSoundScript (x : ScenarioOf) (b : Script) : Type 0 where
   pub well_formed : IsTrue (is_well_formed x)
-  pub built : IsTrue (is_built_scenario x)
   pub kind : Kind
   pub kind_is : slice_get x.kinds b.kind ≡ Some kind
   pub classes : b.classes ≡ kind.classes

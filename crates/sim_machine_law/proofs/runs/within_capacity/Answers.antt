@@ -1,22 +1,22 @@
-use Rattle.sim_machine_law.proofs.WholeRuns.{lawful_run}
+use Rattle.sim_machine_law.proofs.WholeRuns.{items_fit, levels_fit, levels_from_zero, users_fit}
 use Rattle.sim_machine_law.proofs.runs.within_capacity.Goals as goal
 
 pub returns-clause-users : goal.returns-clause-users
-returns-clause-users g c code plan does journal same fits among ports n =
+returns-clause-users g c code r h =
     let b = g.B.LawfulBody in
-    (lawful_run plan (b.tell code) (b.sound code) (b.turn code) (b.facts code) (b.start code) does journal (b.lawful code) same fits among ports n).lawful.capacities.slots
+    users_fit b.body code (b.lawful code) r h
 
-pub returns-clause-level_from_0 : goal.returns-clause-level_from_0
-returns-clause-level_from_0 g c code plan does journal same fits among ports n =
+pub returns-clause-levels_low : goal.returns-clause-levels_low
+returns-clause-levels_low g c code r h =
     let b = g.B.LawfulBody in
-    (lawful_run plan (b.tell code) (b.sound code) (b.turn code) (b.facts code) (b.start code) does journal (b.lawful code) same fits among ports n).lawful.capacities.level_low
+    levels_from_zero b.body code (b.lawful code) r h
 
-pub returns-clause-level_to_capacity : goal.returns-clause-level_to_capacity
-returns-clause-level_to_capacity g c code plan does journal same fits among ports n =
+pub returns-clause-levels_high : goal.returns-clause-levels_high
+returns-clause-levels_high g c code r h =
     let b = g.B.LawfulBody in
-    (lawful_run plan (b.tell code) (b.sound code) (b.turn code) (b.facts code) (b.start code) does journal (b.lawful code) same fits among ports n).lawful.capacities.level_high
+    levels_fit b.body code (b.lawful code) r h
 
 pub returns-clause-items : goal.returns-clause-items
-returns-clause-items g c code plan does journal same fits among ports n =
+returns-clause-items g c code r h =
     let b = g.B.LawfulBody in
-    (lawful_run plan (b.tell code) (b.sound code) (b.turn code) (b.facts code) (b.start code) does journal (b.lawful code) same fits among ports n).lawful.capacities.room
+    items_fit b.body code (b.lawful code) r h

@@ -1,0 +1,75 @@
+-- What a line adds to the scenario and to the open blocks, by its form: a statement, a process, or neither.
+use Rattle.std.proofs.Common.{◌≡◌, refl, ℕ, true, false, ◌&&◌, ◌||◌, nat_le, List, [], ◌∷◌, length, Option, None}
+use Rattle.std.proofs.lemmas.Bool.{false≢true, true≢false}
+use Rattle.sim_types.specs.Scenarios.{ScenarioOf}
+use Rattle.sim_types.specs.declared.setup.Class.{Class}
+use Rattle.sim_language.specs.declared.form.Form.{Form}
+use Rattle.sim_language.specs.declared.form.Form.TheVariants as form
+use Rattle.sim_language.specs.Named.{Named}
+use Rattle.sim_language.specs.Forms.{is_statement, is_process, opens_block}
+use Rattle.sim_language.specs.Shapes.{Operand, ProcessLines}
+use Rattle.sim_language.specs.Sayings.{TextLine, Says}
+use Rattle.sim_language.specs.Blocks.{Block, blocks_behind}
+use Rattle.sim_language.specs.Variables.{variables_then}
+use Rattle.sim_language.specs.Places.{Above, LineInText, blocks_of}
+use Rattle.sim_language.specs.OrderFaults.{misplaced}
+use Rattle.sim_language.specs.LimitFaults.{form_is_full}
+use Rattle.sim_language.specs.Statements.{statement}
+use Rattle.sim_language.specs.Reads.{add, with_statement}
+
+-- ---- a statement
+
+pub statement_adds : (heads : ProcessLines) (place : LineInText) (f : Form) (slots : List Operand) (s : ScenarioOf) → is_statement f ≡ true → add heads place f slots s ≡ with_statement s (statement heads place f slots)
+statement_adds heads place form.Process slots s h = absurd (false≢true h)
+statement_adds heads place f slots s h = cc
+
+pub statement_begins_none : (f : Form) → is_statement f ≡ true → is_process f ≡ false
+statement_begins_none form.Process h = absurd (false≢true h)
+statement_begins_none f h = refl
+
+-- a statement outside a process is misplaced
+pub statement_outside : (above : Above) (f : Form) (slots : List Operand) → is_statement f ≡ true → above.blocks ≡ None → misplaced above f slots ≡ true
+statement_outside above form.Process slots h e = absurd (false≢true h)
+statement_outside above form.Else slots h e = rw e refl
+statement_outside above form.Catch slots h e = rw e refl
+statement_outside above form.End slots h e = rw e refl
+statement_outside above form.Break slots h e = rw e refl
+statement_outside above form.Release slots h e = rw e refl
+statement_outside above f slots h e = cc
+
+-- fewer than 32 blocks are open where one is opened
+pub room_for_block : (above : Above) (f : Form) (slots : List Operand) → form_is_full above f slots ≡ false → (opens_block f && nat_le 32 (length (blocks_of above))) ≡ false
+room_for_block above form.Process slots h = refl
+room_for_block above form.NewAll slots h = refl
+room_for_block above form.NewAny slots h = refl
+room_for_block above form.Poster slots h = refl
+room_for_block above form.After slots h = refl
+room_for_block above form.Post slots h = refl
+room_for_block above f slots h = h
+
+-- ---- neither a statement nor a process
+
+-- only a process line changes the variables
+pub same_variables : (f : Form) (slots : List Operand) (below : List TextLine) (others : List (Named Class)) → is_process f ≡ false → variables_then (Says f slots) below others ≡ others
+same_variables form.Process slots below others h = absurd (true≢false h)
+same_variables f slots below others h = refl
+
+pub same_blocks : (inside : ℕ) (f : Form) (slots : List Operand) (blocks : Option (List Block)) → (is_statement f || is_process f) ≡ false → blocks_behind inside f slots blocks ≡ blocks
+same_blocks inside form.Process slots blocks h = absurd (true≢false h)
+same_blocks inside f slots blocks h = cc
+
+pub same_code : (heads : ProcessLines) (place : LineInText) (f : Form) (slots : List Operand) (s : ScenarioOf) → (is_statement f || is_process f) ≡ false → ((add heads place f slots s).code ≡ s.code) × ((add heads place f slots s).kinds ≡ s.kinds)
+same_code heads place form.UntilTime (t ∷ []) s h = (refl, refl)
+same_code heads place form.Seed (n ∷ []) s h = (refl, refl)
+same_code heads place form.Resource (n ∷ c ∷ []) s h = (refl, refl)
+same_code heads place form.Priority (n ∷ c ∷ []) s h = (refl, refl)
+same_code heads place form.Preemptive (n ∷ c ∷ []) s h = (refl, refl)
+same_code heads place form.Container (n ∷ c ∷ o ∷ []) s h = (refl, refl)
+same_code heads place form.Store (n ∷ c ∷ []) s h = (refl, refl)
+same_code heads place form.PStore (n ∷ c ∷ []) s h = (refl, refl)
+same_code heads place form.FStore (n ∷ c ∷ []) s h = (refl, refl)
+same_code heads place form.Port (n ∷ p ∷ []) s h = (refl, refl)
+same_code heads place form.Start (p ∷ args) s h = (refl, refl)
+same_code heads place form.After (k ∷ p ∷ n ∷ port ∷ v ∷ []) s h = (refl, refl)
+same_code heads place form.Post (port ∷ v ∷ []) s h = (refl, refl)
+same_code heads place f slots s h = (cc, cc)
