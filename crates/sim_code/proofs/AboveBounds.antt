@@ -7,8 +7,8 @@ use Rattle.sim_language.specs.declared.form.Sort.{Sort}
 use Rattle.sim_language.specs.Lines.{is_empty}
 use Rattle.sim_language.specs.Named.{Named, is_named, with_one}
 use Rattle.sim_language.specs.Forms.{declares_sort, is_statement}
-use Rattle.sim_language.specs.Shapes.{Slot}
-use Rattle.sim_language.specs.Sayings.{Line, Saying, Blank, Wrong, Says}
+use Rattle.sim_language.specs.Shapes.{Operand}
+use Rattle.sim_language.specs.Sayings.{TextLine, Saying, Blank, Wrong, Says}
 use Rattle.sim_language.specs.Declarations.{declared, declared_behind, with_declared}
 use Rattle.sim_language.specs.Blocks.{says, statements}
 use Rattle.sim_language.specs.Places.{above_of, count_above, is_entry, is_poster, worded_above}
@@ -29,7 +29,7 @@ with_one_below ds d n le = by (is_named d.name ds)
     by true = omega arith
     by false = let longer : length (ds ++ d ∷ []) ≡ length ds + 1 = length-append ds (d ∷ []) in omega (arith, longer)
 
-declared_below : (ds : List (Named Meaning)) (f : Form) (sort : Option Sort) (slots : List Slot) (n : ℕ) → length ds ≤ n → length (with_declared ds f sort slots) ≤ n + 1
+declared_below : (ds : List (Named Meaning)) (f : Form) (sort : Option Sort) (slots : List Operand) (n : ℕ) → length ds ≤ n → length (with_declared ds f sort slots) ≤ n + 1
 declared_below ds f None slots n le = omega arith
 declared_below ds f (Some s) [] n le = omega arith
 declared_below ds f (Some s) (slot ∷ slots) n le = with_one_below ds _ n le
@@ -42,7 +42,7 @@ behind_below ds (Says f slots) n le = declared_below ds f (declares_sort f) slot
 suc_is : (n : ℕ) (a : ℕ) → a ≤ n + 1 → a ≤ suc n
 suc_is n a le = omega arith
 
-pub below_of : (above : List Line) → IsBelow (length above) (above_of above)
+pub below_of : (above : List TextLine) → IsBelow (length above) (above_of above)
 below_of [] = record { worded = omega arith; statements = omega arith; entries = omega arith; posters = omega arith; declared = omega arith }
 below_of (l ∷ above) = step (below_of above)
   where
@@ -55,7 +55,7 @@ below_of (l ∷ above) = step (below_of above)
       declared = suc_is _ _ (behind_below (declared above) l.saying (length above) b.declared);
     }
 
-pub below_most : (n : ℕ) (above : List Line) → length above ≤ n → IsBelow n (above_of above)
+pub below_most : (n : ℕ) (above : List TextLine) → length above ≤ n → IsBelow n (above_of above)
 below_most n above le = further (below_of above)
   where
     further : IsBelow (length above) (above_of above) → IsBelow n (above_of above)

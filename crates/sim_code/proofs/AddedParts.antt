@@ -5,9 +5,9 @@ use Rattle.sim_types.specs.Scenarios.{ScenarioOf}
 use Rattle.sim_types.specs.declared.script.Stmt.{Stmt}
 use Rattle.sim_language.specs.declared.form.Form.{Form}
 use Rattle.sim_language.specs.declared.form.Form.TheVariants as form
-use Rattle.sim_language.specs.Shapes.{Heads, Slot}
+use Rattle.sim_language.specs.Shapes.{ProcessLines, Operand}
 use Rattle.sim_language.specs.Sayings.{Saying, Blank, Wrong, Says}
-use Rattle.sim_language.specs.Places.{Place}
+use Rattle.sim_language.specs.Places.{LineInText}
 use Rattle.sim_language.specs.Reads.{add, add_said, with_statement}
 use Rattle.sim_language.specs.Statements.{statement}
 
@@ -23,8 +23,8 @@ one_statement : (s : ScenarioOf) (made : Option Stmt) → OneMore s (with_statem
 one_statement s None = same_as s
 one_statement s (Some made) = let longer : length (s.code ++ made ∷ []) ≡ length s.code + 1 = length-append s.code (made ∷ []) in record { events = omega arith; statements = omega (arith, longer) }
 
-module _ (heads : Heads) (place : Place) where
-  form_adds : (f : Form) (slots : List Slot) (s : ScenarioOf) → OneMore s (add heads place f slots s)
+module _ (heads : ProcessLines) (place : LineInText) where
+  form_adds : (f : Form) (slots : List Operand) (s : ScenarioOf) → OneMore s (add heads place f slots s)
   form_adds form.UntilTime (t ∷ []) s = record { events = omega arith; statements = omega arith }
   form_adds form.Seed (n ∷ []) s = record { events = omega arith; statements = omega arith }
   form_adds form.Resource (n ∷ c ∷ []) s = record { events = omega arith; statements = omega arith }

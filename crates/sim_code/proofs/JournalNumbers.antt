@@ -11,12 +11,12 @@ use Rattle.sim_language.specs.declared.shape.Role.TheVariants.{Within, Names}
 use Rattle.sim_language.specs.declared.form.Sort.TheVariants as sort
 use Rattle.sim_language.specs.Lines.{Word}
 use Rattle.sim_language.specs.Numbers.{between, signed, least, greatest}
-use Rattle.sim_language.specs.Shapes.{Slot, Context, Heads, shape, fit, slot_of, any_literal}
+use Rattle.sim_language.specs.Shapes.{Operand, Context, ProcessLines, shape, fit, slot_of, any_literal}
 use Rattle.sim_language.specs.Sayings.{is_bad_number}
 use Rattle.sim_language.specs.Said.{Fits}
 use Rattle.sim_language.specs.Reads.{natural_of, add, with_arrival}
 use Rattle.sim_language.specs.Statements.{literal_of, number_declared}
-use Rattle.sim_language.specs.Places.{Place}
+use Rattle.sim_language.specs.Places.{LineInText}
 use Rattle.sim_types.specs.Scenarios.{ScenarioOf}
 use Rattle.sim_types.specs.declared.setup.Arrival.{Arrival}
 use Rattle.sim_code.specs.LineGroups.{is_of_entries}
@@ -45,33 +45,33 @@ natural_small : (m : ℕ) (w : Word) → m < 2 ^ 63 → is_bad_number (record { 
 natural_small m w b h = within_low m (signed w) b h
 
 -- the second and the third operand of an entry, where it has its shape and its numbers are good
-abbrev Small : List Slot → Type 0
-Small slots = ((p : Slot) → p ≡ get_or slots 1 p → natural_of p.word ≤ 15) × ((n : Slot) → n ≡ get_or slots 2 n → natural_of n.word ≤ 65535)
+abbrev Small : List Operand → Type 0
+Small slots = ((p : Operand) → p ≡ get_or slots 1 p → natural_of p.word ≤ 15) × ((n : Operand) → n ≡ get_or slots 2 n → natural_of n.word ≤ 65535)
 
-small_by : (context : Context) (words : List Word) (slots : List Slot) → fit context [] (shape form.After) words ≡ Some slots → list_any is_bad_number slots ≡ false → Small slots
+small_by : (context : Context) (words : List Word) (slots : List Operand) → fit context [] (shape form.After) words ≡ Some slots → list_any is_bad_number slots ≡ false → Small slots
 small_by context (k ∷ p ∷ n ∷ port ∷ v ∷ []) slots e h = (second, third)
   where
     is : slot_of (Within (pos 0) (pos (2 ^ 62))) k ∷ slot_of (Within (pos 0) (pos 15)) p ∷ slot_of (Within (pos 0) (pos 65535)) n ∷ slot_of (Names sort.Port) port ∷ slot_of any_literal v ∷ [] ≡ slots
     is = same_Some _ slots e
 
-    second : (q : Slot) → q ≡ get_or slots 1 q → natural_of q.word ≤ 15
+    second : (q : Operand) → q ≡ get_or slots 1 q → natural_of q.word ≤ 15
     second q is_q =
         let r : q ≡ record { role = Within (pos 0) (pos 15); word = p } = is_q ∙ rw (← is) refl in
         rw r (natural_small 15 p (lit< tt) (rw r at (none_at is_bad_number slots 1 q (rw (← is) (lit< tt)) is_q h)))
 
-    third : (q : Slot) → q ≡ get_or slots 2 q → natural_of q.word ≤ 65535
+    third : (q : Operand) → q ≡ get_or slots 2 q → natural_of q.word ≤ 65535
     third q is_q =
         let r : q ≡ record { role = Within (pos 0) (pos 65535); word = n } = is_q ∙ rw (← is) refl in
         rw r (natural_small 65535 n (lit< tt) (rw r at (none_at is_bad_number slots 2 q (rw (← is) (lit< tt)) is_q h)))
 small_by context words slots e h = absurd (cc)
 
-small : (f : Form) (slots : List Slot) → Fits f slots → f ≡ form.After → Small slots
+small : (f : Form) (slots : List Operand) → Fits f slots → f ≡ form.After → Small slots
 small f slots fits e = small_by fits.context fits.words slots (rw e at fits.shape) fits.numbers
 
-pub poster_small : (f : Form) (slots : List Slot) → Fits f slots → f ≡ form.After → (p : Slot) (r : ℕ) → p ≡ get_or slots 1 p → r ≡ natural_of p.word → r < 2 ^ 32
+pub poster_small : (f : Form) (slots : List Operand) → Fits f slots → f ≡ form.After → (p : Operand) (r : ℕ) → p ≡ get_or slots 1 p → r ≡ natural_of p.word → r < 2 ^ 32
 poster_small f slots fits e p r is_p is_r = omega (arith, (small f slots fits e).0 p is_p)
 
-pub serial_small : (f : Form) (slots : List Slot) → Fits f slots → f ≡ form.After → (n : Slot) (r : ℕ) → n ≡ get_or slots 2 n → r ≡ natural_of n.word → r < 2 ^ 32
+pub serial_small : (f : Form) (slots : List Operand) → Fits f slots → f ≡ form.After → (n : Operand) (r : ℕ) → n ≡ get_or slots 2 n → r ≡ natural_of n.word → r < 2 ^ 32
 serial_small f slots fits e n r is_n is_r = omega (arith, (small f slots fits e).1 n is_n)
 
 -- ---- what an entry adds
@@ -85,5 +85,5 @@ five_items (v ∷ w ∷ []) a b c d e l h is_a is_b is_c is_d is_e = absurd (ome
 five_items (v ∷ []) a b c d e l h is_a is_b is_c is_d is_e = absurd (omega arith)
 five_items [] a b c d e l h is_a is_b is_c is_d is_e = absurd (omega arith)
 
-pub arrival_added : (heads : Heads) (place : Place) (f : Form) (slots : List Slot) (s : ScenarioOf) (k p n port v : Slot) (arrival : Arrival) → f ≡ form.After → slots ≡ k ∷ p ∷ n ∷ port ∷ v ∷ [] → arrival ≡ record { after = natural_of k.word; poster = natural_of p.word; serial = natural_of n.word; port = number_declared place.above.declared port.word; value = literal_of v.word } → with_arrival s arrival ≡ (if is_of_entries f then add heads place f slots s else s)
+pub arrival_added : (heads : ProcessLines) (place : LineInText) (f : Form) (slots : List Operand) (s : ScenarioOf) (k p n port v : Operand) (arrival : Arrival) → f ≡ form.After → slots ≡ k ∷ p ∷ n ∷ port ∷ v ∷ [] → arrival ≡ record { after = natural_of k.word; poster = natural_of p.word; serial = natural_of n.word; port = number_declared place.above.declared port.word; value = literal_of v.word } → with_arrival s arrival ≡ (if is_of_entries f then add heads place f slots s else s)
 arrival_added heads place f slots s k p n port v arrival is_after five is_arrival = rw (is_after, five, is_arrival) refl

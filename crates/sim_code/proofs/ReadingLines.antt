@@ -1,6 +1,6 @@
 -- A text is read line by line.
 use Rattle.std.proofs.Common.{subst, ◌≡◌, refl, sym, ap, ◌∙◌, ℕ, suc, ◌+◌, ◌≤◌, List, [], ◌∷◌, length, Option, Some, None, Result, Ok, Err, true, false, ◌<◌, arith}
-use Rattle.std.specs.Prelude.{IsErrAnd, IsTrue, nat_lt}
+use Rattle.std.specs.Prelude.{IsErrAnd, nat_lt}
 use Rattle.std.proofs.lemmas.Bool.Decides.{nat_tests}
 use Rattle.std.proofs.lemmas.Result.{err_from_is_err_and}
 use Rattle.sim_types.specs.Scenarios.{ScenarioOf}
@@ -8,18 +8,15 @@ use Rattle.sim_types.specs.declared.fault.Fault.{Fault}
 use Rattle.sim_types.specs.declared.fault.FaultKind.{FaultKind}
 use Rattle.sim_types.specs.declared.fault.FaultKind.TheVariants as fault
 use Rattle.sim_types.specs.declared.setup.Class.{Class}
-use Rattle.sim_language.specs.Built.{is_built, is_built_scenario}
+use Rattle.sim_language.specs.Built.{is_built}
 use Rattle.sim_language.specs.Lines.{Word, lines}
 use Rattle.sim_language.specs.Named.{Named}
-use Rattle.sim_language.specs.Shapes.{Heads}
-use Rattle.sim_language.specs.Sayings.{Line, heads_of, sayings}
+use Rattle.sim_language.specs.Shapes.{ProcessLines}
+use Rattle.sim_language.specs.Sayings.{TextLine, heads_of, sayings}
 use Rattle.sim_language.specs.Variables.{variables_at, variables_then}
-use Rattle.sim_language.specs.Places.{Above, Place, above_of, places}
+use Rattle.sim_language.specs.Places.{Above, LineInText, above_of, places}
 use Rattle.sim_language.specs.Faults.{at_line, fault_at, fault_past, end_fault}
 use Rattle.sim_language.specs.Reads.{add_said, nothing_said, outcome, reads, reads_text, unless_faulty}
-use Rattle.sim_language.specs.WellFormed.{is_well_formed}
-use Rattle.sim_language.proofs.BuiltTexts.{read_built}
-use Rattle.sim_language.proofs.WellFormedTexts.{read_well_formed}
 use Rattle.sim_faults.specs.AboveOf.{IsBelow, above_behind}
 use Rattle.sim_code.specs.declared.reading.ReadError.{ReadError}
 use Rattle.sim_code.specs.declared.reading.ReadError.TheVariants as error
@@ -27,15 +24,15 @@ use Rattle.sim_code.specs.Readings.{Gives, GivesDraft, IsReading, end_from, with
 use Rattle.sim_code.proofs.AddedParts.{OneMore, line_adds}
 use Rattle.sim_code.proofs.AboveBounds.{below_most}
 
-end-start : (ls : List Line) → end_from 1 [] ls ≡ end_fault ls
+end-start : (ls : List TextLine) → end_from 1 [] ls ≡ end_fault ls
 end-start ls = let same : 1 + length ls ≡ length ls + 1 = omega arith in rw same refl
 
-end-later : (n : ℕ) (above : List Line) (l : Line) (below : List Line) → end_from n above (l ∷ below) ≡ end_from (n + 1) (l ∷ above) below
+end-later : (n : ℕ) (above : List TextLine) (l : TextLine) (below : List TextLine) → end_from n above (l ∷ below) ≡ end_from (n + 1) (l ∷ above) below
 end-later n above l below = let same : n + suc (length below) ≡ n + 1 + length below = omega arith in rw same refl
 
 -- ---- in front of the first line
 
-starts-with : (heads : Heads) (ls : List Line) → length ls ≤ 4194304 → IsReading heads (outcome heads nothing_said (places 1 [] ls) (end_fault ls)) 1 (above_of []) [] nothing_said ls
+starts-with : (heads : ProcessLines) (ls : List TextLine) → length ls ≤ 4194304 → IsReading heads (outcome heads nothing_said (places 1 [] ls) (end_fault ls)) 1 (above_of []) [] nothing_said ls
 starts-with heads ls few = record {
   before = [];
   above_is = refl;
@@ -47,7 +44,7 @@ starts-with heads ls few = record {
   outcome_is = ap (outcome heads nothing_said (places 1 [] ls)) (end-start ls);
 }
 
-pub reading_starts : (heads : Heads) (ls : List Word) (above : Above) (variables : List (Named Class)) (draft : ScenarioOf) (lines : List Line)
+pub reading_starts : (heads : ProcessLines) (ls : List Word) (above : Above) (variables : List (Named Class)) (draft : ScenarioOf) (lines : List TextLine)
     → above ≡ above_of [] → variables ≡ [] → draft ≡ nothing_said → lines ≡ sayings is_built heads ls → length lines ≤ 4194304
     → IsReading heads (reads_text is_built heads ls) 1 above variables draft lines
 reading_starts heads ls above variables draft lines above_is variables_are draft_is lines_are few =
@@ -56,25 +53,25 @@ reading_starts heads ls above variables draft lines above_is variables_are draft
 -- ---- a line
 
 -- the line at its place
-abbrev pub place_of : ℕ → Above → List (Named Class) → Line → Place
+abbrev pub place_of : ℕ → Above → List (Named Class) → TextLine → LineInText
 place_of n above variables l = record { number = n; above = above; variables = variables; line = l }
 
-same_place : {n : ℕ} {a b : Above} {vs ws : List (Named Class)} {l : Line} → vs ≡ ws → a ≡ b → place_of n a vs l ≡ place_of n b ws l
+same_place : {n : ℕ} {a b : Above} {vs ws : List (Named Class)} {l : TextLine} → vs ≡ ws → a ≡ b → place_of n a vs l ≡ place_of n b ws l
 same_place e f = rw (e, f) refl
 
-module _ (heads : Heads) (s : ScenarioOf) (place : Place) (ps : List Place) (end : Option Fault) where
+module _ (heads : ProcessLines) (s : ScenarioOf) (place : LineInText) (ps : List LineInText) (end : Option Fault) where
   faultless-outcome : fault_at heads place ≡ None → outcome heads s (place ∷ ps) end ≡ outcome heads (add_said heads place place.line.saying s) ps end
   faultless-outcome none = rw none refl
 
   faulty-outcome : (kind : FaultKind) → fault_at heads place ≡ Some kind → outcome heads s (place ∷ ps) end ≡ Err (record { line = place.number; kind = kind })
   faulty-outcome kind some = rw some refl
 
-module _ (heads : Heads) (answer : Result ScenarioOf Fault) (n : ℕ) (above : Above) (variables next : List (Named Class)) (draft : ScenarioOf) (l : Line) (below : List Line) (r : IsReading heads answer n above variables draft (l ∷ below)) (next_is : next ≡ variables_then l.saying below variables) where
+module _ (heads : ProcessLines) (answer : Result ScenarioOf Fault) (n : ℕ) (above : Above) (variables next : List (Named Class)) (draft : ScenarioOf) (l : TextLine) (below : List TextLine) (r : IsReading heads answer n above variables draft (l ∷ below)) (next_is : next ≡ variables_then l.saying below variables) where
   -- the line at its place among the lines of the text
-  abbrev its-place : Place
+  abbrev its-place : LineInText
   its-place = place_of n (above_of r.before) (variables_at (l ∷ r.before) below) l
 
-  abbrev its-rest : List Place
+  abbrev its-rest : List LineInText
   its-rest = places (n + 1) (l ∷ r.before) below
 
   stands-there : place_of n above next l ≡ its-place
@@ -114,11 +111,11 @@ module _ (heads : Heads) (answer : Result ScenarioOf Fault) (n : ℕ) (above : A
       }
 
 -- the counts above, and the events so far, are small
-pub reading_below : (heads : Heads) (answer : Result ScenarioOf Fault) (n : ℕ) (above : Above) (variables : List (Named Class)) (draft : ScenarioOf) (lines : List Line)
+pub reading_below : (heads : ProcessLines) (answer : Result ScenarioOf Fault) (n : ℕ) (above : Above) (variables : List (Named Class)) (draft : ScenarioOf) (lines : List TextLine)
     → IsReading heads answer n above variables draft lines → IsBelow 4194304 above
 reading_below heads answer n above variables draft lines r = rw r.above_is (below_most 4194304 r.before (omega (arith, r.few)))
 
-pub reading_few : (heads : Heads) (answer : Result ScenarioOf Fault) (n : ℕ) (above : Above) (variables : List (Named Class)) (draft : ScenarioOf) (lines : List Line)
+pub reading_few : (heads : ProcessLines) (answer : Result ScenarioOf Fault) (n : ℕ) (above : Above) (variables : List (Named Class)) (draft : ScenarioOf) (lines : List TextLine)
     → IsReading heads answer n above variables draft lines → length draft.code ≤ 4194304
 reading_few heads answer n above variables draft lines r = omega (arith, r.few, r.few_statements)
 
@@ -127,7 +124,7 @@ reading_few heads answer n above variables draft lines r = omega (arith, r.few, 
 ends-with : (draft : ScenarioOf) (n : ℕ) (above : Above) → (past : Option FaultKind) → fault_past above ≡ past → unless_faulty (at_line (n + 0) (fault_past above)) draft ≡ unless_faulty (at_line n past) draft
 ends-with draft n above past is = let same : n + 0 ≡ n = omega arith in rw (same, is) refl
 
-module _ (heads : Heads) (answer : Result ScenarioOf Fault) (n : ℕ) (above : Above) (variables : List (Named Class)) (draft : ScenarioOf) (r : IsReading heads answer n above variables draft []) where
+module _ (heads : ProcessLines) (answer : Result ScenarioOf Fault) (n : ℕ) (above : Above) (variables : List (Named Class)) (draft : ScenarioOf) (r : IsReading heads answer n above variables draft []) where
   pub reading_ends : fault_past above ≡ None → answer ≡ Ok (with_links draft)
   reading_ends past = sym r.outcome_is ∙ ends-with draft n (above_of r.before) None (ap fault_past (sym r.above_is) ∙ past)
 
@@ -144,18 +141,12 @@ memory_says_nothing_of_it result read err = let why = err_from_is_err_and result
 
 -- ---- a whole text
 
-pub reads_is : (text : List ℕ) (heads : Heads) → length text ≤ 4194304 → heads ≡ heads_of (lines text) → reads is_built text ≡ reads_text is_built heads (lines text)
+pub reads_is : (text : List ℕ) (heads : ProcessLines) → length text ≤ 4194304 → heads ≡ heads_of (lines text) → reads is_built text ≡ reads_text is_built heads (lines text)
 reads_is text heads few heads_are = let short : nat_lt 4194304 (length text) ≡ false = grind (arith, nat_tests) in rw (short, heads_are) refl
 
 pub reads_long : (text : List ℕ) → 4194304 < length text → reads is_built text ≡ Err (record { line = 0; kind = fault.TooLong })
 reads_long text long = let passes : nat_lt 4194304 (length text) ≡ true = grind (arith, nat_tests) in rw passes refl
 
-module _ (text : List ℕ) (heads : Heads) (draft : ScenarioOf) (few : length text ≤ 4194304) (heads_are : heads ≡ heads_of (lines text)) (says : reads_text is_built heads (lines text) ≡ Ok (with_links draft)) where
+module _ (text : List ℕ) (heads : ProcessLines) (draft : ScenarioOf) (few : length text ≤ 4194304) (heads_are : heads ≡ heads_of (lines text)) (says : reads_text is_built heads (lines text) ≡ Ok (with_links draft)) where
   pub draft_says : reads is_built text ≡ Ok (with_links draft)
   draft_says = reads_is text heads few heads_are ∙ says
-
-  pub draft_well_formed : IsTrue (is_well_formed (with_links draft))
-  draft_well_formed = read_well_formed is_built text (with_links draft) draft_says
-
-  pub draft_built : IsTrue (is_built_scenario (with_links draft))
-  draft_built = read_built text (with_links draft) draft_says

@@ -4,8 +4,8 @@ use Rattle.sim_types.specs.Scenarios.{ScenarioOf}
 use Rattle.sim_types.specs.declared.fault.Fault.{Fault}
 use Rattle.sim_types.specs.declared.setup.Class.{Class}
 use Rattle.sim_language.specs.Named.{Named}
-use Rattle.sim_language.specs.Shapes.{Heads}
-use Rattle.sim_language.specs.Sayings.{Line}
+use Rattle.sim_language.specs.Shapes.{ProcessLines}
+use Rattle.sim_language.specs.Sayings.{TextLine}
 use Rattle.sim_language.specs.Variables.{variables_at}
 use Rattle.sim_language.specs.Places.{Above, above_of, places}
 use Rattle.sim_language.specs.Faults.{at_line, fault_past}
@@ -30,17 +30,17 @@ GivesDraft (Err (error.Fault f)) read = read ≡ Err f
 GivesDraft (Err error.Memory) read = Unit {0}
 
 -- the lines above once those below are passed, the last first
-abbrev pub passed : List Line → List Line → List Line
+abbrev pub passed : List TextLine → List TextLine → List TextLine
 passed above [] = above
 passed above (l ∷ below) = passed (l ∷ above) below
 
 -- the fault of the end, one line past the last
-abbrev pub end_from : ℕ → List Line → List Line → Option Fault
+abbrev pub end_from : ℕ → List TextLine → List TextLine → Option Fault
 end_from n above below = at_line (n + length below) (fault_past (above_of (passed above below)))
 
 -- the lines that were passed had no fault, and with those that are left the text says `answer`
-pub record IsReading (heads : Heads) (answer : Result ScenarioOf Fault) (number : ℕ) (above : Above) (variables : List (Named Class)) (draft : ScenarioOf) (lines : List Line) : Type 0 where
-  pub before : List Line
+pub record IsReading (heads : ProcessLines) (answer : Result ScenarioOf Fault) (number : ℕ) (above : Above) (variables : List (Named Class)) (draft : ScenarioOf) (lines : List TextLine) : Type 0 where
+  pub before : List TextLine
   pub above_is : above ≡ above_of before
   pub number_is : number ≡ length before + 1
   pub variables_are : variables ≡ variables_at before lines

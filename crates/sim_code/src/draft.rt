@@ -1,40 +1,34 @@
 //! A scenario that is being read.
-ghost use Rattle.std.specs.Prelude.{◌≡◌, ◌<◌, ◌≤◌, ◌^◌, None, IfOk, IsTrue, OnOk, false, if◌then◌else◌, length, map, pos, take};
-ghost use Rattle.sim_language.specs.Built.{is_built_scenario};
-ghost use Rattle.sim_language.specs.WellFormed.{is_well_formed};
+ghost use Rattle.std.specs.Prelude.{◌≡◌, ◌<◌, ◌≤◌, ◌^◌, None, IfOk, OnOk, false, Ok, if◌then◌else◌, length, map, pos, take};
+ghost use Rattle.sim_language.specs.Built.{is_built};
 ghost use Rattle.sim_code.specs.Readings.{with_links};
 ghost use Rattle.sim_code.specs.LineGroups.{is_of_declarations, is_of_entries, is_of_headers, is_of_resources};
 ghost use Rattle.sim_language.specs.Faults.{fault_at};
 ghost use Rattle.sim_language.specs.LimitFaults.{form_is_full};
 ghost use Rattle.sim_language.specs.Places as places;
-ghost use Rattle.sim_language.specs.Reads.{add, add_said, capacity_of, classes_of, kind_of, natural_of, nothing_said, onto_last, start_argument_of, with_arrival, with_kind, with_port, with_resource, with_statement};
+ghost use Rattle.sim_language.specs.Reads.{add, add_said, capacity_of, classes_of, kind_of, natural_of, nothing_said, onto_last, reads, start_argument_of, with_arrival, with_kind, with_port, with_resource, with_statement};
 ghost use Rattle.sim_language.specs.Said.{Fits};
 ghost use Rattle.sim_language.specs.Shapes as shapes;
 ghost use Rattle.sim_language.specs.Statements as statements;
 ghost use Rattle.sim_language.specs.Statements.{literal_of};
 ghost use Rattle.sim_language.specs.Variables.{given_by};
 ghost use Rattle.sim_language.specs.declared.form.Form.TheVariants as form;
+ghost use Rattle.sim_types.specs.Limits.{most_bytes, most_items, most_level};
 ghost use Rattle.sim_types.specs.declared.setup.ResourceKind.TheVariants as resource;
 
 use crate::link::link;
-use crate::scenario::Scenario;
 use crate::statement::{kind_number, literal_of, number_declared, statement};
-use sim_faults::Place;
+use sim_faults::LineInText;
 use sim_language::{Form, Role};
-use sim_lines::{Heads, Slot, What, capacity};
-use sim_names::Table;
+use sim_lines::{Operand, ProcessLines, Saying, capacity};
+use sim_names::Names;
+use sim_scenario::Scenario;
 use sim_types::{
-    Args, Arrival, Class, Classes, Kind, List, Name, Post, Resource, ResourceKind, Setup, Start,
-    Stmt, Until,
+    Args, Arrival, Class, Classes, Kind, List, MOST_ITEMS, MOST_LEVEL, Name, Post, Resource,
+    ResourceKind, Setup, Start, Stmt, Until,
 };
 use std::alloc::{AllocError, Global};
 use std::marker::Model;
-
-/// The greatest capacity of a container.
-const MOST_LEVEL: i64 = 4_611_686_018_427_387_904;
-
-/// The greatest capacity of a store.
-const MOST_ITEMS: i64 = 4_294_967_296;
 
 /// How many variables a process has beside `val`.
 const MOST_VARIABLES: usize = 63;
@@ -83,21 +77,21 @@ impl Draft {
         }
     }
 
-    /// Adds what a line says.
+    /// Adds what a line says. After want of memory a part of it may be added, so the draft may only be dropped.
     pub fn add(
         &mut self,
         alloc: Global,
-        heads: &Heads<'_>,
-        place: &Place<'_, '_>,
+        heads: &ProcessLines<'_>,
+        place: &LineInText<'_, '_>,
     ) -> Result<(), AllocError>
         requires clean { fault_at heads.now place.now ≡ None }
         requires room { self.old.setup.events < 2 ^ 63 }
         ensures { OnOk result (self.new ≡ add_said heads.now place.now place.now.line.saying self.old) }
     {
         let line = place.line();
-        let slots = line.slots();
-        match line.what() {
-            What::Says(form) => self.add_form(alloc, heads, place, form, slots),
+        let slots = line.operands();
+        match line.saying() {
+            Saying::Says(form) => self.add_form(alloc, heads, place, form, slots),
             _ => Ok(()),
         }
     }
@@ -106,10 +100,10 @@ impl Draft {
     fn add_form(
         &mut self,
         alloc: Global,
-        heads: &Heads<'_>,
-        place: &Place<'_, '_>,
+        heads: &ProcessLines<'_>,
+        place: &LineInText<'_, '_>,
         form: Form,
-        slots: &[Slot<'_>],
+        slots: &[Operand<'_>],
     ) -> Result<(), AllocError>
         requires fits { Fits form slots.now }
         requires not_full { form_is_full place.now.above form slots.now ≡ false }
@@ -137,8 +131,8 @@ impl Draft {
     }
 
     /// Sets what a header line gives.
-    fn add_header(&mut self, form: Form, slots: &[Slot<'_>])
-        ensures { (heads : shapes.Heads) (place : places.Place) → self.new ≡ (if is_of_headers form then add heads place form slots.now self.old else self.old) }
+    fn add_header(&mut self, form: Form, slots: &[Operand<'_>])
+        ensures { (heads : shapes.ProcessLines) (place : places.LineInText) → self.new ≡ (if is_of_headers form then add heads place form slots.now self.old else self.old) }
     {
         match (form, slots) {
             (Form::UntilTime, [time]) => self.until = Until::At(literal_of(time.word())),
@@ -164,14 +158,18 @@ impl Draft {
     }
 
     /// Adds a resource that so many can use at once.
-    fn push_shared(&mut self, kind: ResourceKind, users: &Slot<'_>) -> Result<(), AllocError>
+    fn push_shared(&mut self, kind: ResourceKind, users: &Operand<'_>) -> Result<(), AllocError>
         ensures { OnOk result (self.new ≡ with_resource self.old kind (literal_of users.now.word) (pos 0)) }
     {
         self.push_resource(kind, literal_of(users.word()), 0)
     }
 
-    fn push_container(&mut self, most: &Slot<'_>, opening: &Slot<'_>) -> Result<(), AllocError>
-        ensures { OnOk result (self.new ≡ with_resource self.old resource.Container (capacity_of (pos (2 ^ 62)) most.now.word) (literal_of opening.now.word)) }
+    fn push_container(
+        &mut self,
+        most: &Operand<'_>,
+        opening: &Operand<'_>,
+    ) -> Result<(), AllocError>
+        ensures { OnOk result (self.new ≡ with_resource self.old resource.Container (capacity_of most_level most.now.word) (literal_of opening.now.word)) }
     {
         self.push_resource(
             ResourceKind::Container,
@@ -180,15 +178,15 @@ impl Draft {
         )
     }
 
-    fn push_store(&mut self, kind: ResourceKind, most: &Slot<'_>) -> Result<(), AllocError>
-        ensures { OnOk result (self.new ≡ with_resource self.old kind (capacity_of (pos (2 ^ 32)) most.now.word) (pos 0)) }
+    fn push_store(&mut self, kind: ResourceKind, most: &Operand<'_>) -> Result<(), AllocError>
+        ensures { OnOk result (self.new ≡ with_resource self.old kind (capacity_of most_items most.now.word) (pos 0)) }
     {
         self.push_resource(kind, capacity_of(MOST_ITEMS, most.word()), 0)
     }
 
     /// Adds the resource that a line declares.
-    fn add_resource(&mut self, form: Form, slots: &[Slot<'_>]) -> Result<(), AllocError>
-        ensures { (heads : shapes.Heads) (place : places.Place) → OnOk result (self.new ≡ (if is_of_resources form then add heads place form slots.now self.old else self.old)) }
+    fn add_resource(&mut self, form: Form, slots: &[Operand<'_>]) -> Result<(), AllocError>
+        ensures { (heads : shapes.ProcessLines) (place : places.LineInText) → OnOk result (self.new ≡ (if is_of_resources form then add heads place form slots.now self.old else self.old)) }
     {
         match (form, slots) {
             (Form::Resource, [_, users]) => self.push_shared(ResourceKind::Plain, users),
@@ -206,12 +204,12 @@ impl Draft {
     fn add_declaration(
         &mut self,
         alloc: Global,
-        heads: &Heads<'_>,
+        heads: &ProcessLines<'_>,
         form: Form,
-        slots: &[Slot<'_>],
+        slots: &[Operand<'_>],
     ) -> Result<(), AllocError>
         requires { self.old.setup.events < 2 ^ 63 }
-        ensures { (place : places.Place) → OnOk result (self.new ≡ (if is_of_declarations form then add heads.now place form slots.now self.old else self.old)) }
+        ensures { (place : places.LineInText) → OnOk result (self.new ≡ (if is_of_declarations form then add heads.now place form slots.now self.old else self.old)) }
     {
         match (form, slots) {
             (Form::Event, _) => {
@@ -236,7 +234,11 @@ impl Draft {
     }
 
     /// Adds a process kind.
-    fn add_process(&mut self, place: &Place<'_, '_>, slots: &[Slot<'_>]) -> Result<(), AllocError>
+    fn add_process(
+        &mut self,
+        place: &LineInText<'_, '_>,
+        slots: &[Operand<'_>],
+    ) -> Result<(), AllocError>
         requires { length slots.now ≤ 9 }
         ensures { OnOk result (self.new ≡ with_kind self.old (kind_of place.now slots.now)) }
     {
@@ -251,9 +253,9 @@ impl Draft {
     /// Adds a process that runs from the start.
     fn add_start(
         &mut self,
-        heads: &Heads<'_>,
-        place: &Place<'_, '_>,
-        slots: &[Slot<'_>],
+        heads: &ProcessLines<'_>,
+        place: &LineInText<'_, '_>,
+        slots: &[Operand<'_>],
     ) -> Result<(), AllocError>
         ensures { OnOk result (self.new ≡ add heads.now place.now form.Start slots.now self.old) }
     {
@@ -270,12 +272,12 @@ impl Draft {
     fn add_entry(
         &mut self,
         alloc: Global,
-        place: &Place<'_, '_>,
+        place: &LineInText<'_, '_>,
         form: Form,
-        slots: &[Slot<'_>],
+        slots: &[Operand<'_>],
     ) -> Result<(), AllocError>
         requires { Fits form slots.now }
-        ensures { (heads : shapes.Heads) → OnOk result (self.new ≡ (if is_of_entries form then add heads place.now form slots.now self.old else self.old)) }
+        ensures { (heads : shapes.ProcessLines) → OnOk result (self.new ≡ (if is_of_entries form then add heads place.now form slots.now self.old else self.old)) }
     {
         match (form, slots) {
             (Form::After, [after, poster, serial, port, value]) => {
@@ -317,10 +319,10 @@ impl Draft {
     /// Adds a statement, if the line is one.
     fn add_statement(
         &mut self,
-        heads: &Heads<'_>,
-        place: &Place<'_, '_>,
+        heads: &ProcessLines<'_>,
+        place: &LineInText<'_, '_>,
         form: Form,
-        slots: &[Slot<'_>],
+        slots: &[Operand<'_>],
     ) -> Result<(), AllocError>
         ensures { OnOk result (self.new ≡ with_statement self.old (statements.statement heads.now place.now form slots.now)) }
     {
@@ -330,11 +332,10 @@ impl Draft {
         Ok(())
     }
 
-    /// The scenario: each statement is told where it goes on.
-    pub fn finish(self, alloc: Global) -> Result<Scenario, AllocError>
-        requires few { length self.code ≤ 4194304 }
-        requires well_formed { IsTrue (is_well_formed (with_links self)) }
-        requires built { IsTrue (is_built_scenario (with_links self)) }
+    /// The scenario that the text says: each statement is told where it goes on.
+    pub fn finish(self, alloc: Global, text: &[u8]) -> Result<Scenario, AllocError>
+        requires few { length self.code ≤ most_bytes }
+        requires says { reads is_built text.now ≡ Ok (with_links self) }
         ensures { IfOk result (λ scenario. scenario ≡ with_links self) }
     {
         let Draft {
@@ -359,6 +360,7 @@ impl Draft {
             starts: List::from_vec(starts),
         };
         Ok(Scenario::new(
+            text,
             setup,
             seed,
             List::from_vec(port_names),
@@ -385,7 +387,7 @@ fn capacity_of(most: i64, word: &[u8]) -> i64
 }
 
 /// How many variables the operands give.
-fn count_given(slots: &[Slot<'_>]) -> usize
+fn count_given(slots: &[Operand<'_>]) -> usize
     ensures { result ≡ length (given_by slots.now) }
 {
     slots
@@ -395,7 +397,7 @@ fn count_given(slots: &[Slot<'_>]) -> usize
 }
 
 /// The class of each variable by its number; `val`, which has the number 0, is a number.
-fn classes_of(variables: &Table<'_, Class>) -> Classes
+fn classes_of(variables: &Names<'_, Class>) -> Classes
     ensures { result ≡ classes_of variables.now }
 {
     let mut classes = Classes::new();
@@ -406,7 +408,7 @@ fn classes_of(variables: &Table<'_, Class>) -> Classes
 }
 
 /// The number that an argument of a start gives.
-fn start_argument(place: &Place<'_, '_>, slot: &Slot<'_>) -> i64
+fn start_argument(place: &LineInText<'_, '_>, slot: &Operand<'_>) -> i64
     ensures { result ≡ start_argument_of place.now.above.declared slot.now }
 {
     match slot.role() {
@@ -416,7 +418,7 @@ fn start_argument(place: &Place<'_, '_>, slot: &Slot<'_>) -> i64
 }
 
 /// The first 8 arguments of a start.
-fn start_arguments(place: &Place<'_, '_>, slots: &[Slot<'_>]) -> Args
+fn start_arguments(place: &LineInText<'_, '_>, slots: &[Operand<'_>]) -> Args
     ensures { result ≡ take 8 (map (start_argument_of place.now.above.declared) slots.now) }
 {
     let mut args = Args::new();

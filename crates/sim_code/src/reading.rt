@@ -4,19 +4,17 @@ ghost use Rattle.sim_language.specs.Built.{is_built};
 ghost use Rattle.sim_language.specs.Lines.{lines};
 ghost use Rattle.sim_language.specs.Reads.{reads, reads_text};
 ghost use Rattle.sim_language.specs.Variables.{variables_then};
+ghost use Rattle.sim_types.specs.Limits.{most_bytes};
 ghost use Rattle.sim_code.specs.Readings.{Gives, GivesDraft};
 
 use crate::draft::Draft;
-use crate::scenario::Scenario;
-use sim_faults::{Above, Place, fault_at, fault_past, variables_of};
+use sim_faults::{Above, LineInText, fault_at, fault_past, variables_of};
 use sim_language::Form;
-use sim_lines::{Heads, Line, Lines, What};
-use sim_names::Table;
-use sim_types::{Class, Fault, FaultKind};
+use sim_lines::{Lines, ProcessLines, Saying, TextLine};
+use sim_names::Names;
+use sim_scenario::Scenario;
+use sim_types::{Class, Fault, FaultKind, MOST_BYTES};
 use std::alloc::{AllocError, Global};
-
-/// How many bytes a text may have.
-const MOST_BYTES: usize = 4_194_304;
 
 /// Why a text was not read.
 #[derive(Clone, Copy)]
@@ -41,33 +39,37 @@ impl From<AllocError> for ReadError {
 pub fn read(alloc: Global, text: &[u8]) -> Result<Scenario, ReadError>
     ensures { Gives result (reads is_built text.now) }
 {
-    if text.len() > MOST_BYTES {
+    if text.len() > MOST_BYTES as usize {
         return Err(ReadError::Fault(Fault {
             line: 0,
             kind: FaultKind::TooLong,
         }));
     }
-    let heads = Heads::of_text(alloc, text)?;
+    let heads = ProcessLines::of_text(alloc, text)?;
     let draft = read_lines(alloc, text, &heads)?;
-    let scenario = draft.finish(alloc)?;
+    let scenario = draft.finish(alloc, text)?;
     Ok(scenario)
 }
 
 /// What the lines of the text say, with these process lines; the statements are yet to be linked.
-fn read_lines<'t>(alloc: Global, text: &'t [u8], heads: &Heads<'t>) -> Result<Draft, ReadError>
-    requires { length text.now ≤ 4194304 }
+fn read_lines<'t>(
+    alloc: Global,
+    text: &'t [u8],
+    heads: &ProcessLines<'t>,
+) -> Result<Draft, ReadError>
+    requires { length text.now ≤ most_bytes }
     ensures gives { GivesDraft result (reads_text is_built heads.now (lines text.now)) }
-    ensures few { IfOk result (λ draft. length draft.code ≤ 4194304) }
+    ensures few { IfOk result (λ draft. length draft.code ≤ most_bytes) }
 {
     let mut lines = Lines::of_text(text, heads);
-    let mut line = Line::new(alloc);
+    let mut line = TextLine::new(alloc);
     let mut number: u32 = 1;
     let mut above = Above::new(alloc);
-    let mut variables = Table::new(alloc);
+    let mut variables = Names::new(alloc);
     let mut draft = Draft::new(alloc);
     while lines.next(&mut line)? {
         variables = variables_here(alloc, variables, &line, &lines)?;
-        let place = Place::of(number, &above, &variables, &line);
+        let place = LineInText::of(number, &above, &variables, &line);
         if let Some(kind) = fault_at(heads, &place) {
             return Err(fault(number, kind));
         }
@@ -84,15 +86,15 @@ fn read_lines<'t>(alloc: Global, text: &'t [u8], heads: &Heads<'t>) -> Result<Dr
 /// The variables at a line: those of the process that it begins, or else those above it.
 fn variables_here<'t>(
     alloc: Global,
-    above: Table<'t, Class>,
-    line: &Line<'t>,
+    above: Names<'t, Class>,
+    line: &TextLine<'t>,
     below: &Lines<'t, '_>,
-) -> Result<Table<'t, Class>, AllocError>
-    requires { length below.now ≤ 4194304 }
+) -> Result<Names<'t, Class>, AllocError>
+    requires { length below.now ≤ most_bytes }
     ensures { IfOk result (λ variables. variables ≡ variables_then line.now.saying below.now above.entry) }
 {
-    match line.what() {
-        What::Says(Form::Process) => variables_of(alloc, line.slots(), below),
+    match line.saying() {
+        Saying::Says(Form::Process) => variables_of(alloc, line.operands(), below),
         _ => Ok(above),
     }
 }

@@ -4,9 +4,9 @@ ghost use Rattle.sim_code.specs.StatementGroups.{is_of_blocks, is_of_events, is_
 ghost use Rattle.sim_language.specs.Shapes as shapes;
 ghost use Rattle.sim_language.specs.Statements.{argument_of, arguments, event_of, kind_number, literal_of, members, number_declared, number_of, number_or_nothing, operator_of, preempts, statement, variable};
 
-use sim_faults::{Place, variable};
+use sim_faults::{LineInText, variable};
 use sim_language::{Form, Role};
-use sim_lines::{Heads, Slot, literal};
+use sim_lines::{Operand, ProcessLines, literal};
 use sim_types::{Arith, Num, Ref, Refs, SpawnArg, SpawnArgs, Stmt};
 
 /// What stands for a number that the form has not.
@@ -14,10 +14,10 @@ const NOTHING: Num = Num::Lit(0);
 
 /// The statement of a line, if it is one. Where it goes on besides at the next is still 0.
 pub fn statement(
-    heads: &Heads<'_>,
-    place: &Place<'_, '_>,
+    heads: &ProcessLines<'_>,
+    place: &LineInText<'_, '_>,
     form: Form,
-    slots: &[Slot<'_>],
+    slots: &[Operand<'_>],
 ) -> Option<Stmt>
     ensures { result ≡ statement heads.now place.now form slots.now }
 {
@@ -48,7 +48,7 @@ pub fn literal_of(word: &[u8]) -> i64
 }
 
 /// The number of a declared name among those of its sort.
-pub fn number_declared(place: &Place<'_, '_>, word: &[u8]) -> u32
+pub fn number_declared(place: &LineInText<'_, '_>, word: &[u8]) -> u32
     ensures { result ≡ number_declared place.now.above.declared word.now }
 {
     match place.above().declared().get(word) {
@@ -58,21 +58,21 @@ pub fn number_declared(place: &Place<'_, '_>, word: &[u8]) -> u32
 }
 
 /// The number of a process.
-pub fn kind_number(heads: &Heads<'_>, word: &[u8]) -> u32
+pub fn kind_number(heads: &ProcessLines<'_>, word: &[u8]) -> u32
     ensures { result ≡ kind_number heads.now word.now }
 {
-    heads.place(word).unwrap_or(0)
+    heads.index_of(word).unwrap_or(0)
 }
 
 /// The number of the variable that the operand names.
-fn variable_of(place: &Place<'_, '_>, slot: &Slot<'_>) -> u8
+fn variable_of(place: &LineInText<'_, '_>, slot: &Operand<'_>) -> u8
     ensures { result ≡ variable place.now.variables slot.now.word }
 {
     variable(place.variables(), slot.word())
 }
 
 /// The number that the operand gives.
-fn number(place: &Place<'_, '_>, slot: &Slot<'_>) -> Num
+fn number(place: &LineInText<'_, '_>, slot: &Operand<'_>) -> Num
     ensures { result ≡ number_of place.now.variables slot.now }
 {
     let word = slot.word();
@@ -88,7 +88,7 @@ fn number(place: &Place<'_, '_>, slot: &Slot<'_>) -> Num
 }
 
 /// The event that the word refers to.
-fn event(place: &Place<'_, '_>, word: &[u8]) -> Ref
+fn event(place: &LineInText<'_, '_>, word: &[u8]) -> Ref
     ensures { result ≡ event_of place.now word.now }
 {
     if word == b"me".as_slice() {
@@ -101,7 +101,7 @@ fn event(place: &Place<'_, '_>, word: &[u8]) -> Ref
 }
 
 /// The argument that the operand gives.
-fn argument(place: &Place<'_, '_>, slot: &Slot<'_>) -> SpawnArg
+fn argument(place: &LineInText<'_, '_>, slot: &Operand<'_>) -> SpawnArg
     ensures { result ≡ argument_of place.now slot.now }
 {
     match slot.role() {
@@ -111,7 +111,7 @@ fn argument(place: &Place<'_, '_>, slot: &Slot<'_>) -> SpawnArg
 }
 
 /// The first 8 arguments.
-fn arguments(place: &Place<'_, '_>, slots: &[Slot<'_>]) -> SpawnArgs
+fn arguments(place: &LineInText<'_, '_>, slots: &[Operand<'_>]) -> SpawnArgs
     ensures { result ≡ arguments place.now slots.now }
 {
     let mut args = SpawnArgs::new();
@@ -122,7 +122,7 @@ fn arguments(place: &Place<'_, '_>, slots: &[Slot<'_>]) -> SpawnArgs
 }
 
 /// The first 16 members.
-fn members(place: &Place<'_, '_>, slots: &[Slot<'_>]) -> Refs
+fn members(place: &LineInText<'_, '_>, slots: &[Operand<'_>]) -> Refs
     ensures { result ≡ members place.now slots.now }
 {
     let mut events = Refs::new();
@@ -133,7 +133,7 @@ fn members(place: &Place<'_, '_>, slots: &[Slot<'_>]) -> Refs
 }
 
 /// The first of the operands as a number, or 0.
-fn number_or_nothing(place: &Place<'_, '_>, slots: &[Slot<'_>]) -> Num
+fn number_or_nothing(place: &LineInText<'_, '_>, slots: &[Operand<'_>]) -> Num
     ensures { result ≡ number_or_nothing place.now.variables slots.now }
 {
     match slots {
@@ -161,7 +161,7 @@ fn operator(word: &[u8]) -> Arith
 }
 
 /// Whether a request with these words behind its resource preempts.
-fn preempts(slots: &[Slot<'_>]) -> bool
+fn preempts(slots: &[Operand<'_>]) -> bool
     ensures { result ≡ preempts slots.now }
 {
     match slots {
@@ -171,8 +171,8 @@ fn preempts(slots: &[Slot<'_>]) -> bool
 }
 
 /// The statements that compute, log or make time pass.
-fn of_numbers(place: &Place<'_, '_>, form: Form, slots: &[Slot<'_>]) -> Option<Stmt>
-    ensures { (heads : shapes.Heads) → result ≡ (if is_of_numbers form then statement heads place.now form slots.now else None) }
+fn of_numbers(place: &LineInText<'_, '_>, form: Form, slots: &[Operand<'_>]) -> Option<Stmt>
+    ensures { (heads : shapes.ProcessLines) → result ≡ (if is_of_numbers form then statement heads place.now form slots.now else None) }
 {
     match (form, slots) {
         (Form::Let, [to, a]) => Some(Stmt::Let {
@@ -203,8 +203,8 @@ fn of_numbers(place: &Place<'_, '_>, form: Form, slots: &[Slot<'_>]) -> Option<S
 }
 
 /// The statements of events and conditions.
-fn of_events(place: &Place<'_, '_>, form: Form, slots: &[Slot<'_>]) -> Option<Stmt>
-    ensures { (heads : shapes.Heads) → result ≡ (if is_of_events form then statement heads place.now form slots.now else None) }
+fn of_events(place: &LineInText<'_, '_>, form: Form, slots: &[Operand<'_>]) -> Option<Stmt>
+    ensures { (heads : shapes.ProcessLines) → result ≡ (if is_of_events form then statement heads place.now form slots.now else None) }
 {
     match (form, slots) {
         (Form::NewTimeout, [to, delay, value]) => Some(Stmt::Timer {
@@ -245,10 +245,10 @@ fn of_events(place: &Place<'_, '_>, form: Form, slots: &[Slot<'_>]) -> Option<St
 
 /// The statements of processes.
 fn of_processes(
-    heads: &Heads<'_>,
-    place: &Place<'_, '_>,
+    heads: &ProcessLines<'_>,
+    place: &LineInText<'_, '_>,
     form: Form,
-    slots: &[Slot<'_>],
+    slots: &[Operand<'_>],
 ) -> Option<Stmt>
     ensures { result ≡ (if is_of_processes form then statement heads.now place.now form slots.now else None) }
 {
@@ -282,8 +282,8 @@ fn of_processes(
 }
 
 /// The statements of resources.
-fn of_resources(place: &Place<'_, '_>, form: Form, slots: &[Slot<'_>]) -> Option<Stmt>
-    ensures { (heads : shapes.Heads) → result ≡ (if is_of_resources form then statement heads place.now form slots.now else None) }
+fn of_resources(place: &LineInText<'_, '_>, form: Form, slots: &[Operand<'_>]) -> Option<Stmt>
+    ensures { (heads : shapes.ProcessLines) → result ≡ (if is_of_resources form then statement heads place.now form slots.now else None) }
 {
     match (form, slots) {
         (Form::Count, [to, res]) => Some(Stmt::Count {
@@ -319,8 +319,8 @@ fn of_resources(place: &Place<'_, '_>, form: Form, slots: &[Slot<'_>]) -> Option
 }
 
 /// The statements that take out of a container or a store.
-fn of_gets(place: &Place<'_, '_>, form: Form, slots: &[Slot<'_>]) -> Option<Stmt>
-    ensures { (heads : shapes.Heads) → result ≡ (if is_of_gets form then statement heads place.now form slots.now else None) }
+fn of_gets(place: &LineInText<'_, '_>, form: Form, slots: &[Operand<'_>]) -> Option<Stmt>
+    ensures { (heads : shapes.ProcessLines) → result ≡ (if is_of_gets form then statement heads place.now form slots.now else None) }
 {
     match (form, slots) {
         (Form::Get, [res]) => Some(Stmt::Get {
@@ -352,8 +352,8 @@ fn of_gets(place: &Place<'_, '_>, form: Form, slots: &[Slot<'_>]) -> Option<Stmt
 }
 
 /// The statements of blocks.
-fn of_blocks(place: &Place<'_, '_>, form: Form, slots: &[Slot<'_>]) -> Option<Stmt>
-    ensures { (heads : shapes.Heads) → result ≡ (if is_of_blocks form then statement heads place.now form slots.now else None) }
+fn of_blocks(place: &LineInText<'_, '_>, form: Form, slots: &[Operand<'_>]) -> Option<Stmt>
+    ensures { (heads : shapes.ProcessLines) → result ≡ (if is_of_blocks form then statement heads place.now form slots.now else None) }
 {
     match (form, slots) {
         (Form::Loop, []) => Some(Stmt::Loop { past: 0 }),

@@ -2,7 +2,7 @@
 use Rattle.std.specs.Prelude.{ℕ, ◌+◌, ◌≤◌, Bool, ◌||◌, if◌then◌else◌, codes, length}
 use Rattle.sim_language.specs.Forms.{is_statement}
 use Rattle.sim_language.specs.Lines.{is_empty}
-use Rattle.sim_language.specs.Sayings.{Line, begins_with}
+use Rattle.sim_language.specs.Sayings.{TextLine, begins_with}
 use Rattle.sim_language.specs.Declarations.{declared_behind}
 use Rattle.sim_language.specs.Blocks.{says, blocks_then}
 use Rattle.sim_language.specs.Places.{Above, is_process_or_start, is_start, is_entry, is_poster, after_then}
@@ -11,7 +11,7 @@ abbrev pub one_more : Bool → ℕ → ℕ
 one_more counts n = if counts then n + 1 else n
 
 -- `above_of (l ∷ above)` is `above_behind (above_of above) l`
-abbrev pub above_behind : Above → Line → Above
+abbrev pub above_behind : Above → TextLine → Above
 above_behind a l = record {
   worded = if is_empty l.words then a.worded else a.worded + 1;
   declared = declared_behind a.declared l.saying;

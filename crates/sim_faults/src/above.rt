@@ -7,7 +7,7 @@ ghost use Rattle.sim_faults.specs.AboveOf.{IsBelow, above_behind};
 use crate::blocks::{Blocks, first_word};
 use crate::declared::Declared;
 use sim_language::Form;
-use sim_lines::{Line, Slot, What, literal};
+use sim_lines::{Operand, Saying, TextLine, literal};
 use std::alloc::{AllocError, Global};
 use std::marker::Model;
 
@@ -119,20 +119,20 @@ impl<'t> Above<'t> {
         self.after
     }
 
-    /// Goes on behind a line.
-    pub fn pass(&mut self, line: &Line<'t>) -> Result<(), AllocError>
+    /// Goes on behind a line. After want of memory a part of it may be counted, so this may only be dropped.
+    pub fn pass(&mut self, line: &TextLine<'t>) -> Result<(), AllocError>
         requires { IsBelow 4194304 self.old }
         ensures { OnOk result (self.new ≡ above_behind self.old line.now) }
     {
-        if let What::Says(form) = line.what() {
-            self.pass_form(form, line.slots())?;
+        if let Saying::Says(form) = line.saying() {
+            self.pass_form(form, line.operands())?;
         }
         self.pass_words(line);
         Ok(())
     }
 
     /// Goes on behind the words of a line, but not behind what it says.
-    fn pass_words(&mut self, line: &Line<'t>)
+    fn pass_words(&mut self, line: &TextLine<'t>)
         requires { self.old.worded ≤ 4194304 }
         ensures { self.new ≡ above_behind self.old (record { words = line.now.words; saying = Blank }) }
     {
@@ -145,7 +145,7 @@ impl<'t> Above<'t> {
     }
 
     /// Goes on behind what a line of this form says, but not behind its words.
-    fn pass_form(&mut self, form: Form, slots: &[Slot<'t>]) -> Result<(), AllocError>
+    fn pass_form(&mut self, form: Form, slots: &[Operand<'t>]) -> Result<(), AllocError>
         requires { IsBelow 4194304 self.old }
         ensures { OnOk result (self.new ≡ above_behind self.old (record { words = []; saying = Says form slots.now })) }
     {

@@ -1,5 +1,5 @@
 //! The blocks that are open.
-ghost use Rattle.std.specs.Prelude.{◌≡◌, ◌&&◌, false, None, Some, OnOk, is_some, length, option_copied, option_map, slice_get, unwrap_or, [], ◌∷◌};
+ghost use Rattle.std.specs.Prelude.{◌≡◌, ◌&&◌, false, None, Some, OnErr, OnOk, is_some, length, option_copied, option_map, slice_get, unwrap_or, [], ◌∷◌};
 ghost use Rattle.std.specs.List.{list_any};
 ghost use Rattle.sim_language.specs.Blocks.{blocks_behind, closed, first_word, split_first};
 ghost use Rattle.sim_language.specs.OrderFaults.{awaits_catch, awaits_else, is_loop};
@@ -8,7 +8,7 @@ ghost use Rattle.sim_language.specs.Lines.{same};
 ghost use Rattle.sim_language.specs.Statements.{end_of};
 
 use sim_language::Form;
-use sim_lines::Slot;
+use sim_lines::Operand;
 use sim_types::Stmt;
 use std::alloc::{AllocError, Global};
 use std::marker::Model;
@@ -172,8 +172,9 @@ impl<'t> Blocks<'t> {
     }
 
     /// Goes on behind a line of this form, where `inside` is the place of the next statement.
-    pub fn pass(&mut self, inside: u32, form: Form, slots: &[Slot<'t>]) -> Result<(), AllocError>
-        ensures { OnOk result (self.new ≡ blocks_behind inside form slots.now self.old) }
+    pub fn pass(&mut self, inside: u32, form: Form, slots: &[Operand<'t>]) -> Result<(), AllocError>
+        ensures err { OnErr result (self.new ≡ self.old) }
+        ensures ok { OnOk result (self.new ≡ blocks_behind inside form slots.now self.old) }
     {
         match form {
             Form::Process => self.begin(),
@@ -213,7 +214,8 @@ impl<'t> Blocks<'t> {
 
     /// Goes on in a block of this form, if in a process.
     fn enter(&mut self, inside: u32, form: Form, variable: &'t [u8]) -> Result<(), AllocError>
-        ensures { OnOk result (self.new ≡ option_map (λ outer. record { form = form; variable = variable.now; split = false; inside = inside } ∷ outer) self.old) }
+        ensures err { OnErr result (self.new ≡ self.old) }
+        ensures ok { OnOk result (self.new ≡ option_map (λ outer. record { form = form; variable = variable.now; split = false; inside = inside } ∷ outer) self.old) }
     {
         if self.in_process {
             self.stack.push(Block {
@@ -228,7 +230,7 @@ impl<'t> Blocks<'t> {
 }
 
 /// The first operand of a line, where it has one.
-pub fn first_word<'t>(slots: &[Slot<'t>]) -> &'t [u8]
+pub fn first_word<'t>(slots: &[Operand<'t>]) -> &'t [u8]
     ensures { result.now ≡ first_word slots.now }
 {
     match slots {

@@ -1,19 +1,19 @@
 //! The names that the lines above declare.
-ghost use Rattle.std.specs.Prelude.{◌≡◌, ◌<◌, ◌^◌, ◌+◌, [], length, OnOk};
+ghost use Rattle.std.specs.Prelude.{◌≡◌, ◌<◌, ◌^◌, ◌+◌, [], length, OnErr, OnOk};
 ghost use Rattle.sim_language.specs.Declarations.{count_of, is_event, sort_of, with_declared};
 ghost use Rattle.sim_language.specs.Forms.{declares_sort};
 ghost use Rattle.sim_language.specs.Named.{is_named, value_of};
 
 use sim_language::{Form, Meaning, Sort};
-use sim_lines::{Heads, Slot};
-use sim_names::Table;
+use sim_lines::{Operand, ProcessLines};
+use sim_names::Names;
 use std::alloc::{AllocError, Global};
 use std::marker::Model;
 
 /// The names that the lines above declare, in their order, with how many there are of each sort.
 #[derive(Drop)]
 pub struct Declared<'t> {
-    names: Table<'t, Meaning>,
+    names: Names<'t, Meaning>,
     resources: u32,
     events: u32,
     ports: u32,
@@ -40,7 +40,7 @@ impl<'t> Declared<'t> {
         ensures { result ≡ [] }
     {
         Declared {
-            names: Table::new(alloc),
+            names: Names::new(alloc),
             resources: 0,
             events: 0,
             ports: 0,
@@ -84,7 +84,7 @@ impl<'t> Declared<'t> {
     }
 
     /// What sort of name the word is: as declared above, or a process anywhere in the text.
-    pub fn sort(&self, heads: &Heads<'_>, word: &[u8]) -> Option<Sort>
+    pub fn sort(&self, heads: &ProcessLines<'_>, word: &[u8]) -> Option<Sort>
         ensures { result ≡ sort_of heads.now self.now word.now }
     {
         match self.names.get(word) {
@@ -96,9 +96,10 @@ impl<'t> Declared<'t> {
 
     /// Adds the name that a line of this form declares, if it declares one.
     #[tactic(auto, using(crate::proofs::SortCounts::length_filter_bound))]
-    pub fn add(&mut self, form: Form, slots: &[Slot<'t>]) -> Result<(), AllocError>
+    pub fn add(&mut self, form: Form, slots: &[Operand<'t>]) -> Result<(), AllocError>
         requires { length self.old + 1 < 2 ^ 32 }
-        ensures { OnOk result (self.new ≡ with_declared self.old form (declares_sort form) slots.now) }
+        ensures err { OnErr result (self.new ≡ self.old) }
+        ensures ok { OnOk result (self.new ≡ with_declared self.old form (declares_sort form) slots.now) }
     {
         let (Some(sort), Some(slot)) = (form.sort(), slots.first()) else {
             return Ok(());

@@ -6,40 +6,40 @@ ghost use Rattle.sim_types.specs.declared.fault.FaultKind.TheVariants as fault;
 
 use crate::above::Above;
 use crate::limit_faults::too_many;
+use crate::line_in_text::LineInText;
 use crate::name_faults::{duplicate, unknown_name, wrong_kind};
 use crate::order_faults::{bad_header, bad_order, misplaced};
-use crate::place::Place;
 use crate::variable_faults::{class_clash, unset};
 use sim_language::Form;
-use sim_lines::{Heads, Slot, What};
+use sim_lines::{Operand, ProcessLines, Saying};
 use sim_types::FaultKind;
 
 /// What is wrong with a line: the first kind that applies.
-pub fn fault_at(heads: &Heads<'_>, place: &Place<'_, '_>) -> Option<FaultKind>
+pub fn fault_at(heads: &ProcessLines<'_>, place: &LineInText<'_, '_>) -> Option<FaultKind>
     ensures { result ≡ fault_at heads.now place.now }
 {
     let (above, line) = (place.above(), place.line());
-    match line.what() {
-        What::Blank => None,
-        What::Wrong(kind @ (FaultKind::NotText | FaultKind::LineTooLong)) => Some(kind),
+    match line.saying() {
+        Saying::Blank => None,
+        Saying::Wrong(kind @ (FaultKind::NotText | FaultKind::LineTooLong)) => Some(kind),
         _ if bad_header(above, line) => Some(FaultKind::BadHeader),
-        What::Wrong(
+        Saying::Wrong(
             kind @ (FaultKind::UnknownWord
             | FaultKind::BadShape
             | FaultKind::BadNumber
             | FaultKind::BadName),
         ) => Some(kind),
-        What::Wrong(_) => None,
-        What::Says(form) => form_fault(heads, place, form, line.slots()),
+        Saying::Wrong(_) => None,
+        Saying::Says(form) => form_fault(heads, place, form, line.operands()),
     }
 }
 
 /// What is wrong with the form of a line and its operands.
 fn form_fault(
-    heads: &Heads<'_>,
-    place: &Place<'_, '_>,
+    heads: &ProcessLines<'_>,
+    place: &LineInText<'_, '_>,
     form: Form,
-    slots: &[Slot<'_>],
+    slots: &[Operand<'_>],
 ) -> Option<FaultKind>
     requires { place.now.line.saying ≡ Says form slots.now }
     ensures { result ≡ find (λ kind. applies kind heads.now place.now) (fault.Duplicate ∷ fault.UnknownName ∷ fault.WrongKind ∷ fault.Misplaced ∷ fault.TooMany ∷ fault.ClassClash ∷ fault.Unset ∷ fault.BadOrder ∷ []) }

@@ -3,7 +3,7 @@ ghost use Rattle.std.specs.Prelude.{◌≡◌};
 ghost use Rattle.sim_language.specs.Variables.{given_by_slot};
 
 use sim_language::Role;
-use sim_lines::{Slot, parameter_class, parameter_name};
+use sim_lines::{Operand, parameter_class, parameter_name};
 use sim_types::Class;
 use std::marker::Model;
 
@@ -25,7 +25,7 @@ impl<'t> Model for Given<'t> {
 
 impl<'t> Given<'t> {
     /// What the operand gives, if it gives something.
-    pub fn by(slot: &Slot<'t>) -> Option<Given<'t>>
+    pub fn by(slot: &Operand<'t>) -> Option<Given<'t>>
         ensures { result ≡ given_by_slot slot.now }
     {
         match slot.role() {

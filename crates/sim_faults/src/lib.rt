@@ -8,9 +8,9 @@ mod declared;
 mod fault;
 mod given;
 mod limit_faults;
+mod line_in_text;
 mod name_faults;
 mod order_faults;
-mod place;
 mod variable_faults;
 mod variables;
 
@@ -18,5 +18,5 @@ pub use above::Above;
 pub use blocks::Blocks;
 pub use declared::Declared;
 pub use fault::{fault_at, fault_past};
-pub use place::Place;
+pub use line_in_text::LineInText;
 pub use variables::{variable, variables_of};

@@ -4,15 +4,15 @@ ghost use Rattle.sim_language.specs.Forms.{declares_sort};
 ghost use Rattle.sim_language.specs.LimitFaults.{form_is_full, gives_too_many, sort_is_full, too_many};
 
 use crate::above::Above;
-use crate::place::Place;
+use crate::line_in_text::LineInText;
 use crate::variables::variable_number;
 use sim_language::{Form, Role};
-use sim_lines::{Slot, parameter_name};
-use sim_names::Table;
+use sim_lines::{Operand, parameter_name};
+use sim_names::Names;
 use sim_types::Class;
 
 /// Whether the line passes a limit.
-pub fn too_many(place: &Place<'_, '_>, form: Form, slots: &[Slot<'_>]) -> bool
+pub fn too_many(place: &LineInText<'_, '_>, form: Form, slots: &[Operand<'_>]) -> bool
     ensures { result ≡ too_many place.now form slots.now }
 {
     let above = place.above();
@@ -33,7 +33,7 @@ fn sort_is_full(above: &Above<'_>, form: Form) -> bool
 }
 
 /// Whether the line has too many operands, or there are as many of its form as may be.
-fn form_is_full(above: &Above<'_>, form: Form, slots: &[Slot<'_>]) -> bool
+fn form_is_full(above: &Above<'_>, form: Form, slots: &[Operand<'_>]) -> bool
     ensures { result ≡ form_is_full above.now form slots.now }
 {
     match form {
@@ -46,14 +46,14 @@ fn form_is_full(above: &Above<'_>, form: Form, slots: &[Slot<'_>]) -> bool
 }
 
 /// Whether the line gives a variable that is none of the first 64 of its process, or has such a parameter.
-fn gives_too_many(variables: &Table<'_, Class>, slots: &[Slot<'_>]) -> bool
+fn gives_too_many(variables: &Names<'_, Class>, slots: &[Operand<'_>]) -> bool
     ensures { result ≡ gives_too_many variables.now slots.now }
 {
     slots.iter().any(|slot| is_one_too_many(variables, slot))
 }
 
 /// Whether the operand is such a variable or parameter.
-fn is_one_too_many(variables: &Table<'_, Class>, slot: &Slot<'_>) -> bool
+fn is_one_too_many(variables: &Names<'_, Class>, slot: &Operand<'_>) -> bool
     ensures { result ≡ gives_too_many variables.now (slot.now ∷ []) }
 {
     match slot.role() {

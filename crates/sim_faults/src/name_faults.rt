@@ -11,11 +11,11 @@ use crate::above::Above;
 use crate::blocks::first_word;
 use crate::given::Given;
 use sim_language::{Form, Role, Sort};
-use sim_lines::{Heads, Slot};
+use sim_lines::{Operand, ProcessLines};
 use sim_types::Class;
 
 /// Whether the line declares or gives a name that it must not.
-pub fn duplicate(above: &Above<'_>, form: Form, slots: &[Slot<'_>]) -> bool
+pub fn duplicate(above: &Above<'_>, form: Form, slots: &[Operand<'_>]) -> bool
     ensures { result ≡ duplicate above.now form slots.now }
 {
     declares_known(above, slots)
@@ -25,28 +25,28 @@ pub fn duplicate(above: &Above<'_>, form: Form, slots: &[Slot<'_>]) -> bool
 }
 
 /// Whether a declared name is declared again.
-fn declares_known(above: &Above<'_>, slots: &[Slot<'_>]) -> bool
+fn declares_known(above: &Above<'_>, slots: &[Operand<'_>]) -> bool
     ensures { result ≡ list_any (declares_again above.now) slots.now }
 {
     slots.iter().any(|slot| declares_again(above, slot))
 }
 
 /// Whether the operand declares a name that is declared.
-fn declares_again(above: &Above<'_>, slot: &Slot<'_>) -> bool
+fn declares_again(above: &Above<'_>, slot: &Operand<'_>) -> bool
     ensures { result ≡ declares_again above.now slot.now }
 {
     matches!(slot.role(), Role::Declares) && above.declared().contains(slot.word())
 }
 
 /// Whether a parameter stands twice.
-fn repeats_parameter(form: Form, slots: &[Slot<'_>]) -> bool
+fn repeats_parameter(form: Form, slots: &[Operand<'_>]) -> bool
     ensures { result ≡ repeats_parameter form slots.now }
 {
     form.is_process() && repeats(slots)
 }
 
 /// Whether two of the operands give the same variable.
-fn repeats(slots: &[Slot<'_>]) -> bool
+fn repeats(slots: &[Operand<'_>]) -> bool
     ensures { result ≡ repeats (map (λ given. given.name) (given_by slots.now)) }
 {
     let mut left = slots;
@@ -62,7 +62,7 @@ fn repeats(slots: &[Slot<'_>]) -> bool
 }
 
 /// Whether an operand gives the variable.
-fn gives(slots: &[Slot<'_>], name: &[u8]) -> bool
+fn gives(slots: &[Operand<'_>], name: &[u8]) -> bool
     ensures { result ≡ is_among name.now (map (λ given. given.name) (given_by slots.now)) }
 {
     for slot in slots {
@@ -76,7 +76,7 @@ fn gives(slots: &[Slot<'_>], name: &[u8]) -> bool
 }
 
 /// Whether a parameter or a variable given has the name of a declared event.
-fn hides_event(above: &Above<'_>, slots: &[Slot<'_>]) -> bool
+fn hides_event(above: &Above<'_>, slots: &[Operand<'_>]) -> bool
     ensures { result ≡ hides_event above.now slots.now }
 {
     let declared = above.declared();
@@ -87,20 +87,20 @@ fn hides_event(above: &Above<'_>, slots: &[Slot<'_>]) -> bool
 }
 
 /// Whether a `with` gives the variable of a `with` in which it stands.
-fn gives_again(above: &Above<'_>, form: Form, slots: &[Slot<'_>]) -> bool
+fn gives_again(above: &Above<'_>, form: Form, slots: &[Operand<'_>]) -> bool
     ensures { result ≡ gives_again above.now form slots.now }
 {
     matches!(form, Form::With) && above.blocks().has_with(first_word(slots))
 }
 
 /// Whether the line names something that is not declared.
-pub fn unknown_name(heads: &Heads<'_>, above: &Above<'_>, slots: &[Slot<'_>]) -> bool
+pub fn unknown_name(heads: &ProcessLines<'_>, above: &Above<'_>, slots: &[Operand<'_>]) -> bool
     ensures { result ≡ unknown_name heads.now above.now slots.now }
 {
     slots.iter().any(|slot| names_unknown(heads, above, slot))
 }
 
-fn names_unknown(heads: &Heads<'_>, above: &Above<'_>, slot: &Slot<'_>) -> bool
+fn names_unknown(heads: &ProcessLines<'_>, above: &Above<'_>, slot: &Operand<'_>) -> bool
     ensures { result ≡ names_unknown heads.now above.now slot.now }
 {
     match slot.role() {
@@ -110,7 +110,12 @@ fn names_unknown(heads: &Heads<'_>, above: &Above<'_>, slot: &Slot<'_>) -> bool
 }
 
 /// Whether the line names something of another sort, or uses it as it cannot be used.
-pub fn wrong_kind(heads: &Heads<'_>, above: &Above<'_>, form: Form, slots: &[Slot<'_>]) -> bool
+pub fn wrong_kind(
+    heads: &ProcessLines<'_>,
+    above: &Above<'_>,
+    form: Form,
+    slots: &[Operand<'_>],
+) -> bool
     ensures { result ≡ wrong_kind heads.now above.now form slots.now }
 {
     names_another(heads, above, slots)
@@ -119,14 +124,14 @@ pub fn wrong_kind(heads: &Heads<'_>, above: &Above<'_>, form: Form, slots: &[Slo
 }
 
 /// Whether a declared name is of another sort.
-fn names_another(heads: &Heads<'_>, above: &Above<'_>, slots: &[Slot<'_>]) -> bool
+fn names_another(heads: &ProcessLines<'_>, above: &Above<'_>, slots: &[Operand<'_>]) -> bool
     ensures { result ≡ list_any (names_other heads.now above.now) slots.now }
 {
     slots.iter().any(|slot| names_other(heads, above, slot))
 }
 
 /// Whether the operand is a declared name of another sort.
-fn names_other(heads: &Heads<'_>, above: &Above<'_>, slot: &Slot<'_>) -> bool
+fn names_other(heads: &ProcessLines<'_>, above: &Above<'_>, slot: &Operand<'_>) -> bool
     ensures { result ≡ names_other heads.now above.now slot.now }
 {
     let Role::Names(wanted) = slot.role() else {
@@ -151,7 +156,7 @@ fn same_sort(one: Sort, other: Sort) -> bool
 }
 
 /// Whether the resource's kind does not take the form.
-fn not_taken(above: &Above<'_>, form: Form, slots: &[Slot<'_>]) -> bool
+fn not_taken(above: &Above<'_>, form: Form, slots: &[Operand<'_>]) -> bool
     ensures { result ≡ not_taken above.now form slots.now }
 {
     match form {
@@ -165,7 +170,11 @@ fn not_taken(above: &Above<'_>, form: Form, slots: &[Slot<'_>]) -> bool
 }
 
 /// Whether the kind of the first operand does not take the others, where `takes` says how many a kind takes.
-fn takes_not<F: Fn(Form) -> Option<usize>>(takes: F, above: &Above<'_>, slots: &[Slot<'_>]) -> bool
+fn takes_not<F: Fn(Form) -> Option<usize>>(
+    takes: F,
+    above: &Above<'_>,
+    slots: &[Operand<'_>],
+) -> bool
     requires { F.IsAlwaysCallable takes }
     ensures { (t : Form → Option ℕ) → ((kind : Form) (words : Option ℕ) → F.post takes kind words → words ≡ t kind) → result ≡ takes_not t above.now slots.now }
 {
@@ -214,7 +223,7 @@ fn takes_get(kind: Form) -> Option<usize>
 }
 
 /// The operands behind the variable that a line gives.
-fn behind_first<'s, 't>(slots: &'s [Slot<'t>]) -> &'s [Slot<'t>]
+fn behind_first<'s, 't>(slots: &'s [Operand<'t>]) -> &'s [Operand<'t>]
     ensures { result.now ≡ behind_first slots.now }
 {
     match slots {
@@ -224,7 +233,7 @@ fn behind_first<'s, 't>(slots: &'s [Slot<'t>]) -> &'s [Slot<'t>]
 }
 
 /// Whether the line gives a process other arguments than it takes.
-fn arguments_wrong(heads: &Heads<'_>, form: Form, slots: &[Slot<'_>]) -> bool
+fn arguments_wrong(heads: &ProcessLines<'_>, form: Form, slots: &[Operand<'_>]) -> bool
     ensures { result ≡ arguments_wrong heads.now form slots.now }
 {
     match form {
@@ -237,7 +246,7 @@ fn arguments_wrong(heads: &Heads<'_>, form: Form, slots: &[Slot<'_>]) -> bool
 }
 
 /// Whether there is another number of arguments than of parameters.
-fn miscounts(heads: &Heads<'_>, slots: &[Slot<'_>]) -> bool
+fn miscounts(heads: &ProcessLines<'_>, slots: &[Operand<'_>]) -> bool
     ensures { result ≡ miscounts heads.now slots.now }
 {
     match slots {
@@ -247,7 +256,7 @@ fn miscounts(heads: &Heads<'_>, slots: &[Slot<'_>]) -> bool
 }
 
 /// Whether the process has a parameter that a `start` can give nothing to.
-fn starts_wrong(heads: &Heads<'_>, slots: &[Slot<'_>]) -> bool
+fn starts_wrong(heads: &ProcessLines<'_>, slots: &[Operand<'_>]) -> bool
     ensures { result ≡ starts_wrong heads.now slots.now }
 {
     match slots {
@@ -270,7 +279,7 @@ fn is_process_class(class: Class) -> bool
 }
 
 /// Whether a port's process has not exactly one parameter, a number.
-fn port_wrong(heads: &Heads<'_>, slots: &[Slot<'_>]) -> bool
+fn port_wrong(heads: &ProcessLines<'_>, slots: &[Operand<'_>]) -> bool
     ensures { result ≡ port_wrong heads.now slots.now }
 {
     match slots {

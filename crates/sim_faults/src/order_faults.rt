@@ -5,10 +5,10 @@ ghost use Rattle.sim_language.specs.OrderFaults.{bad_header, bad_order, misplace
 use crate::above::Above;
 use crate::blocks::first_word;
 use sim_language::Form;
-use sim_lines::{Line, Slot, literal};
+use sim_lines::{Operand, TextLine, literal};
 
 /// Whether the line should be one of the two header lines, and is not.
-pub fn bad_header(above: &Above<'_>, line: &Line<'_>) -> bool
+pub fn bad_header(above: &Above<'_>, line: &TextLine<'_>) -> bool
     ensures { result ≡ bad_header above.now line.now.words }
 {
     match above.worded() {
@@ -19,7 +19,7 @@ pub fn bad_header(above: &Above<'_>, line: &Line<'_>) -> bool
 }
 
 /// Whether the line is out of the order of a text, or of a process and its blocks.
-pub fn misplaced(above: &Above<'_>, form: Form, slots: &[Slot<'_>]) -> bool
+pub fn misplaced(above: &Above<'_>, form: Form, slots: &[Operand<'_>]) -> bool
     ensures { result ≡ misplaced above.now form slots.now }
 {
     let blocks = above.blocks();
@@ -50,7 +50,7 @@ pub fn misplaced(above: &Above<'_>, form: Form, slots: &[Slot<'_>]) -> bool
 }
 
 /// Whether a journal entry falls behind the one above it.
-pub fn bad_order(above: &Above<'_>, form: Form, slots: &[Slot<'_>]) -> bool
+pub fn bad_order(above: &Above<'_>, form: Form, slots: &[Operand<'_>]) -> bool
     ensures { result ≡ bad_order above.now form slots.now }
 {
     if !matches!(form, Form::After) {

@@ -1,16 +1,17 @@
 //! Faults of variables.
 ghost use Rattle.std.specs.Prelude.{◌≡◌};
-ghost use Rattle.sim_language.specs.VariableFaults.{class_clash, clashes, is_unset, is_variable, role_takes, same_class, unset};
+ghost use Rattle.sim_types.specs.Setups.{is_class};
+ghost use Rattle.sim_language.specs.VariableFaults.{class_clash, clashes, is_unset, is_variable, role_takes, unset};
 
 use crate::above::Above;
-use crate::place::Place;
+use crate::line_in_text::LineInText;
 use sim_language::Role;
-use sim_lines::Slot;
-use sim_names::Table;
+use sim_lines::Operand;
+use sim_names::Names;
 use sim_types::Class;
 
 /// Whether the line gives or uses a variable with another class than its own.
-pub fn class_clash(place: &Place<'_, '_>, slots: &[Slot<'_>]) -> bool
+pub fn class_clash(place: &LineInText<'_, '_>, slots: &[Operand<'_>]) -> bool
     ensures { result ≡ class_clash place.now slots.now }
 {
     let above = place.above();
@@ -19,7 +20,7 @@ pub fn class_clash(place: &Place<'_, '_>, slots: &[Slot<'_>]) -> bool
 }
 
 /// Whether the line uses a variable that no line gives.
-pub fn unset(place: &Place<'_, '_>, slots: &[Slot<'_>]) -> bool
+pub fn unset(place: &LineInText<'_, '_>, slots: &[Operand<'_>]) -> bool
     ensures { result ≡ unset place.now slots.now }
 {
     let above = place.above();
@@ -28,7 +29,7 @@ pub fn unset(place: &Place<'_, '_>, slots: &[Slot<'_>]) -> bool
 }
 
 /// Whether the operand is a variable, and no literal, fixed word, `now`, `val`, `me` or named event.
-fn is_variable(above: &Above<'_>, slot: &Slot<'_>) -> bool
+fn is_variable(above: &Above<'_>, slot: &Operand<'_>) -> bool
     ensures { result ≡ is_variable above.now slot.now }
 {
     let word = slot.word();
@@ -44,7 +45,7 @@ fn is_variable(above: &Above<'_>, slot: &Slot<'_>) -> bool
 }
 
 /// Whether the word is a variable of a class that the operand does not take.
-fn clashes(variables: &Table<'_, Class>, slot: &Slot<'_>) -> bool
+fn clashes(variables: &Names<'_, Class>, slot: &Operand<'_>) -> bool
     ensures { result ≡ clashes variables.now slot.now }
 {
     match variables.get(slot.word()) {
@@ -54,7 +55,7 @@ fn clashes(variables: &Table<'_, Class>, slot: &Slot<'_>) -> bool
 }
 
 /// Whether no line gives the word.
-fn is_unset(variables: &Table<'_, Class>, slot: &Slot<'_>) -> bool
+fn is_unset(variables: &Names<'_, Class>, slot: &Operand<'_>) -> bool
     ensures { result ≡ is_unset variables.now slot.now }
 {
     variables.get(slot.word()).is_none()
@@ -65,15 +66,15 @@ fn role_takes(role: Role, class: Class) -> bool
     ensures { result ≡ role_takes role class }
 {
     match role {
-        Role::Gives(given) => same_class(given, class),
-        Role::Value => same_class(Class::Number, class),
+        Role::Gives(given) => is_class(given, class),
+        Role::Value => is_class(Class::Number, class),
         Role::Refers(reference) => reference.takes_class(class),
         _ => true,
     }
 }
 
-fn same_class(one: Class, other: Class) -> bool
-    ensures { result ≡ same_class one other }
+fn is_class(one: Class, other: Class) -> bool
+    ensures { result ≡ is_class one other }
 {
     matches!(
         (one, other),

@@ -6,31 +6,31 @@ ghost use Rattle.sim_language.specs.Variables.{deep_behind, ends_process, given_
 
 use crate::given::Given;
 use sim_language::Form;
-use sim_lines::{Line, Lines, Slot, What};
-use sim_names::Table;
+use sim_lines::{Lines, Operand, Saying, TextLine};
+use sim_names::Names;
 use sim_types::Class;
 use std::alloc::{AllocError, Global};
 
 /// The parameters of a process and what the lines below give up to its end, each once, in order.
 pub fn variables_of<'t>(
     alloc: Global,
-    params: &[Slot<'t>],
+    params: &[Operand<'t>],
     below: &Lines<'t, '_>,
-) -> Result<Table<'t, Class>, AllocError>
+) -> Result<Names<'t, Class>, AllocError>
     requires few { length below.now ≤ 4194304 }
     ensures { IfOk result (λ variables. variables ≡ variables_of params.now below.now) }
 {
-    let mut variables = Table::new(alloc);
+    let mut variables = Names::new(alloc);
     add_given(&mut variables, params)?;
     let mut left = below.again();
-    let mut line = Line::new(alloc);
+    let mut line = TextLine::new(alloc);
     let mut deep = 0;
     while left.next(&mut line)? {
-        if let What::Says(form) = line.what() {
+        if let Saying::Says(form) = line.saying() {
             if ends_process(deep, form) {
                 break;
             }
-            add_given(&mut variables, line.slots())?;
+            add_given(&mut variables, line.operands())?;
             deep = deep_behind(deep, form);
         }
     }
@@ -38,7 +38,7 @@ pub fn variables_of<'t>(
 }
 
 /// Adds what a line gives.
-fn add_given<'t>(variables: &mut Table<'t, Class>, slots: &[Slot<'t>]) -> Result<(), AllocError>
+fn add_given<'t>(variables: &mut Names<'t, Class>, slots: &[Operand<'t>]) -> Result<(), AllocError>
     ensures { OnOk result (variables.new ≡ with_all variables.old (given_by slots.now)) }
 {
     for slot in slots {
@@ -71,20 +71,20 @@ fn deep_behind(deep: u32, form: Form) -> u32
 }
 
 /// The number of a variable, counted from 1, since `val` has the number 0.
-pub fn variable_number(variables: &Table<'_, Class>, word: &[u8]) -> usize
+pub fn variable_number(variables: &Names<'_, Class>, word: &[u8]) -> usize
     ensures { result ≡ variable_number variables.now word.now }
 {
-    match variables.place(word) {
-        Some(place) => {
-            prove!(place < variables.len());
-            place + 1
+    match variables.index_of(word) {
+        Some(index) => {
+            prove!(index < variables.len());
+            index + 1
         }
         None => 1,
     }
 }
 
 /// The same, where it is one of 64.
-pub fn variable(variables: &Table<'_, Class>, word: &[u8]) -> u8
+pub fn variable(variables: &Names<'_, Class>, word: &[u8]) -> u8
     ensures { result ≡ variable variables.now word.now }
 {
     let number = variable_number(variables, word);

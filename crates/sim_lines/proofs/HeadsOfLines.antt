@@ -9,9 +9,9 @@ use Rattle.sim_language.specs.Lines.{Word, same, cut, words}
 use Rattle.sim_language.specs.Names.{is_name}
 use Rattle.sim_language.specs.Named.{Named, value_of, is_named, place_of, with_one}
 use Rattle.sim_language.specs.Parameters.{parameter_class}
-use Rattle.sim_language.specs.Shapes.{Heads, parameters}
+use Rattle.sim_language.specs.Shapes.{ProcessLines, parameters}
 use Rattle.sim_language.specs.Sayings.{head_of}
-use Rattle.sim_lines.specs.declared.heads.Span.{Span}
+use Rattle.sim_lines.specs.declared.process_lines.Span.{Span}
 
 -- what a line declares
 abbrev pub head_of_line : Word → Option (Named (List Class))
@@ -53,7 +53,7 @@ IsWithin classes span = (span.from ≤ span.to) × (span.to ≤ length classes)
 abbrev classes_of : List Class → Span → List Class
 classes_of classes span = slice_range classes span.from span.to
 
-abbrev seen : List Class → List (Named Span) → Heads
+abbrev seen : List Class → List (Named Span) → ProcessLines
 seen classes spans = map (with_value (classes_of classes)) spans
 
 pub is_named_in_spans : (w : Word) (spans : List (Named Span)) (classes : List Class) (found : Bool) → found ≡ is_named w spans → found ≡ is_named w (seen classes spans)

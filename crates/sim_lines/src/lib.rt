@@ -3,20 +3,20 @@
 
 mod beginning;
 mod cutting;
-mod heads;
 mod line;
 mod lines;
 mod name;
 mod number;
+mod operand;
 mod operands;
 mod parameter;
-mod saying;
-mod slot;
+mod process_lines;
+mod say;
 mod words;
 
-pub use heads::Heads;
-pub use line::{Line, What};
+pub use line::{Saying, TextLine};
 pub use lines::Lines;
 pub use number::{decimal_within, literal};
+pub use operand::{Operand, capacity};
 pub use parameter::{parameter_class, parameter_name};
-pub use slot::{Slot, capacity};
+pub use process_lines::ProcessLines;

@@ -5,12 +5,12 @@ ghost use Rattle.sim_language.specs.Lines.{is_empty};
 ghost use Rattle.sim_language.specs.OrderFaults.{is_header};
 ghost use Rattle.sim_language.specs.Sayings.{Blank, begins_with, line_of};
 ghost use Rattle.sim_language.specs.Said.{IsSaid};
-ghost use Rattle.sim_lines.specs.LineOf.{slots_of, what_of};
+ghost use Rattle.sim_lines.specs.LineOf.{operands_of, without_operands};
 
 use crate::cutting::cut;
-use crate::heads::Heads;
-use crate::saying::{begins_with, say};
-use crate::slot::Slot;
+use crate::operand::Operand;
+use crate::process_lines::ProcessLines;
+use crate::say::{begins_with, say};
 use crate::words::Words;
 use sim_language::{Form, Section};
 use sim_types::FaultKind;
@@ -19,7 +19,7 @@ use std::marker::Model;
 
 /// What a line says by itself.
 #[derive(Clone, Copy)]
-pub enum What {
+pub enum Saying {
     /// It has no words.
     Blank,
     /// What is wrong with it.
@@ -30,68 +30,69 @@ pub enum What {
 
 /// A line of a text with what it says. It is used again for each line.
 #[derive(Drop)]
-pub struct Line<'t> {
+pub struct TextLine<'t> {
     cut: &'t [u8],
-    what: What,
-    slots: Vec<Slot<'t>>,
+    saying: Saying,
+    slots: Vec<Operand<'t>>,
 }
 
-impl<'t> Model for Line<'t> {
+impl<'t> Model for TextLine<'t> {
     ghost use Rattle.sim_language.specs.Lines.{words};
-    ghost use Rattle.sim_language.specs.Sayings.{Line};
+    ghost use Rattle.sim_language.specs.Sayings.{TextLine};
     ghost use Rattle.sim_language.specs.Said.{IsSaid};
     ghost use Rattle.sim_lines.specs.LineOf.{saying_of};
 
-    ghost Value = { Line };
+    ghost Value = { TextLine };
 
-    ghost view = { λ a. record { words = words a.cut.now; saying = saying_of a.what a.slots.items } };
+    ghost view = { λ a. record { words = words a.cut.now; saying = saying_of a.saying a.slots.items } };
 
-    ghost invariant = { λ a. IsSaid (saying_of a.what a.slots.items) };
+    ghost invariant = { λ a. IsSaid (saying_of a.saying a.slots.items) };
 }
 
-impl<'t> Line<'t> {
+impl<'t> TextLine<'t> {
     /// A line without words, to be read anew.
-    pub fn new(alloc: Global) -> Line<'t>
+    pub fn new(alloc: Global) -> TextLine<'t>
         ensures { result ≡ record { words = []; saying = Blank } }
     {
-        Line {
+        TextLine {
             cut: &[],
-            what: What::Blank,
+            saying: Saying::Blank,
             slots: Vec::new(alloc),
         }
     }
 
-    /// Reads a line of a text where it stands in this section below so many `poster` lines.
+    /// Reads a line of a text where it stands in this section below so many `poster` lines. After want of memory it is not
+    /// told what it says, until it is read anew.
     pub fn read(
         &mut self,
         line: &'t [u8],
-        heads: &Heads<'_>,
+        heads: &ProcessLines<'_>,
         section: Section,
         posters: u32,
     ) -> Result<(), AllocError>
         ensures { OnOk result (self.new ≡ line_of (record { built = is_built; heads = heads.now; section = section; posters = posters }) line.now) }
     {
         self.cut = cut(line);
-        self.what = What::Blank;
+        self.saying = Saying::Blank;
         self.slots.clear();
-        self.what = say(&mut self.slots, heads, section, posters, self.cut)?;
+        self.saying = say(&mut self.slots, heads, section, posters, self.cut)?;
         Ok(())
     }
 
     /// What it says.
-    pub fn what(&self) -> What
-        ensures { result ≡ what_of self.now.saying }
+    pub fn saying(&self) -> Saying
+        ensures { result ≡ without_operands self.now.saying }
     {
-        self.what
+        self.saying
     }
 
     /// The operands, where it says a form.
-    pub fn slots(&self) -> &[Slot<'t>]
-        ensures slots { result.now ≡ slots_of self.now.saying }
+    pub fn operands(&self) -> &[Operand<'t>]
+        ensures operands { result.now ≡ operands_of self.now.saying }
         ensures said { IsSaid self.now.saying }
     {
-        match self.what {
-            What::Says(_) => &self.slots,
+        match self.saying {
+            Saying::Says(_) => &self.slots,
             _ => &[],
         }
     }

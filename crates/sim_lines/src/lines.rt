@@ -1,12 +1,12 @@
 //! The lines of a text, one after the other.
-ghost use Rattle.std.specs.Prelude.{◌≡◌, ◌≤◌, [], ◌∷◌, false, IfOk, cond, length};
+ghost use Rattle.std.specs.Prelude.{◌≡◌, ◌≤◌, [], ◌∷◌, false, IfOk, OnErr, cond, length};
 ghost use Rattle.sim_language.specs.Built.{is_built};
 ghost use Rattle.sim_language.specs.Lines.{lines};
 ghost use Rattle.sim_language.specs.Sayings.{section_behind, sayings};
 
 use crate::cutting::first_line;
-use crate::heads::Heads;
-use crate::line::Line;
+use crate::line::TextLine;
+use crate::process_lines::ProcessLines;
 use sim_language::Section;
 use std::alloc::AllocError;
 use std::marker::Model;
@@ -15,7 +15,7 @@ use std::marker::Model;
 #[derive(Drop)]
 pub struct Lines<'t, 'h> {
     rest: &'t [u8],
-    heads: &'h Heads<'t>,
+    heads: &'h ProcessLines<'t>,
     section: Section,
     /// How many `poster` lines stand above.
     posters: u32,
@@ -25,9 +25,9 @@ impl<'t, 'h> Model for Lines<'t, 'h> {
     ghost use Rattle.std.specs.Prelude.{List, ◌+◌, ◌≤◌, length};
     ghost use Rattle.sim_language.specs.Built.{is_built};
     ghost use Rattle.sim_language.specs.Lines.{lines};
-    ghost use Rattle.sim_language.specs.Sayings.{Line, lines_from};
+    ghost use Rattle.sim_language.specs.Sayings.{TextLine, lines_from};
 
-    ghost Value = { List Line };
+    ghost Value = { List TextLine };
 
     ghost view = { λ a. lines_from (record { built = is_built; heads = a.heads.now; section = a.section; posters = a.posters }) (lines a.rest.now) };
 
@@ -37,7 +37,7 @@ impl<'t, 'h> Model for Lines<'t, 'h> {
 impl<'t, 'h> Lines<'t, 'h> {
     /// The lines of a text with these process lines.
     #[tactic(auto, using(crate::proofs::CountsOfLines::few_lines))]
-    pub fn of_text(text: &'t [u8], heads: &'h Heads<'t>) -> Lines<'t, 'h>
+    pub fn of_text(text: &'t [u8], heads: &'h ProcessLines<'t>) -> Lines<'t, 'h>
         requires { length text.now ≤ 4194304 }
         ensures lines { result ≡ sayings is_built heads.now (lines text.now) }
         ensures few { length result ≤ length text.now }
@@ -62,9 +62,11 @@ impl<'t, 'h> Lines<'t, 'h> {
         }
     }
 
-    /// Reads the next line, or answers false where none is left.
-    pub fn next(&mut self, line: &mut Line<'t>) -> Result<bool, AllocError>
+    /// Reads the next line, or answers false where none is left. After want of memory the lines are as before, and `line`
+    /// is to be read anew.
+    pub fn next(&mut self, line: &mut TextLine<'t>) -> Result<bool, AllocError>
         ensures next { IfOk result (λ more. self.old ≡ cond more (line.new ∷ self.new) []) }
+        ensures err { OnErr result (self.new ≡ self.old) }
         ensures none { IfOk result (λ more. more ≡ false → self.new ≡ []) }
     {
         let Some((first, rest)) = first_line(self.rest) else {
@@ -81,7 +83,7 @@ impl<'t, 'h> Lines<'t, 'h> {
 }
 
 /// The section behind a line that stands in this one.
-fn section_behind(section: Section, line: &Line<'_>) -> Section
+fn section_behind(section: Section, line: &TextLine<'_>) -> Section
     ensures { result ≡ section_behind line.now.words section }
 {
     match section {
@@ -95,18 +97,18 @@ fn section_behind(section: Section, line: &Line<'_>) -> Section
 #[cfg(test)]
 mod tests {
     use super::*;
-    use crate::line::What;
+    use crate::line::Saying;
     use sim_language::{Form, Role, Sort};
     use sim_types::FaultKind;
     use std::test::Fail;
 
     fn next_fault<'t>(
         lines: &mut Lines<'t, '_>,
-        line: &mut Line<'t>,
+        line: &mut TextLine<'t>,
     ) -> Result<Option<FaultKind>, AllocError> {
         lines.next(line)?;
-        Ok(match line.what() {
-            What::Wrong(kind) => Some(kind),
+        Ok(match line.saying() {
+            Saying::Wrong(kind) => Some(kind),
             _ => None,
         })
     }
@@ -114,21 +116,23 @@ mod tests {
     #[test]
     fn lines_say_forms(rt: HostRuntime) -> Result<(), Fail> {
         let text = b"scenario 1\n\t \nprocess car n done:event # two\r\nend\nstart car -5 free x";
-        let heads = Heads::of_text(rt.alloc(), text)?;
+        let heads = ProcessLines::of_text(rt.alloc(), text)?;
         assert_eq!(rt; heads.parameters(b"car").len(), 2);
         let mut lines = Lines::of_text(text, &heads);
-        let mut line = Line::new(rt.alloc());
+        let mut line = TextLine::new(rt.alloc());
 
         assert!(rt; lines.next(&mut line)? && line.is_header());
-        assert!(rt; matches!(line.what(), What::Says(Form::Scenario)));
-        assert!(rt; lines.next(&mut line)? && matches!(line.what(), What::Blank));
+        assert!(rt; matches!(line.saying(), Saying::Says(Form::Scenario)));
+        assert!(rt; lines.next(&mut line)? && matches!(line.saying(), Saying::Blank));
         assert!(rt; lines.next(&mut line)? && line.begins_with(b"process"));
-        assert!(rt; matches!(line.what(), What::Says(Form::Process)));
-        assert_eq!(rt; line.slots().len(), 3);
-        assert!(rt; lines.again().next(&mut line)? && matches!(line.what(), What::Says(Form::End)));
-        assert!(rt; lines.next(&mut line)? && line.slots().is_empty());
-        assert!(rt; lines.next(&mut line)? && matches!(line.what(), What::Says(Form::Start)));
-        let [name, number, event, free] = line.slots() else {
+        assert!(rt; matches!(line.saying(), Saying::Says(Form::Process)));
+        assert_eq!(rt; line.operands().len(), 3);
+        assert!(rt;
+            lines.again().next(&mut line)? && matches!(line.saying(), Saying::Says(Form::End))
+        );
+        assert!(rt; lines.next(&mut line)? && line.operands().is_empty());
+        assert!(rt; lines.next(&mut line)? && matches!(line.saying(), Saying::Says(Form::Start)));
+        let [name, number, event, free] = line.operands() else {
             return Err("no four operands".into());
         };
         assert!(rt; name.word() == b"car".as_slice());
@@ -143,9 +147,9 @@ mod tests {
     #[test]
     fn lines_are_wrong(rt: HostRuntime) -> Result<(), Fail> {
         let text = b"log 1x\nlog proc\nstart\nwalk\nlog \x01";
-        let heads = Heads::of_text(rt.alloc(), text)?;
+        let heads = ProcessLines::of_text(rt.alloc(), text)?;
         let mut lines = Lines::of_text(text, &heads);
-        let mut line = Line::new(rt.alloc());
+        let mut line = TextLine::new(rt.alloc());
         assert!(rt;
             matches!(
                 next_fault(&mut lines, &mut line)?,

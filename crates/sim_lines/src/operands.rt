@@ -3,20 +3,17 @@ ghost use Rattle.std.specs.Prelude.{◌≡◌, ◌++◌, [], IfOk, OnOk, Some, N
 ghost use Rattle.sim_language.specs.Shapes.{fit, opening, side_by_side, slot_of, spawn_argument, start_argument};
 ghost use Rattle.sim_lines.specs.OneWord.{at_item};
 
-use crate::heads::Heads;
-use crate::slot::{Slot, capacity};
+use crate::operand::{Operand, capacity};
+use crate::process_lines::ProcessLines;
 use crate::words::Words;
 use sim_language::{Item, Role};
-use sim_types::Class;
+use sim_types::{Class, MOST_LEVEL};
 use std::alloc::AllocError;
-
-/// The greatest capacity of a container, 2^62.
-const GREATEST_LEVEL: i64 = 4_611_686_018_427_387_904;
 
 /// Fills the slots by the words, where they have this shape; else answers false.
 pub fn fit<'t>(
-    slots: &mut Vec<Slot<'t>>,
-    heads: &Heads<'_>,
+    slots: &mut Vec<Operand<'t>>,
+    heads: &ProcessLines<'_>,
     posters: u32,
     shape: &[Item],
     words: &Words<'t>,
@@ -61,7 +58,7 @@ pub fn fit<'t>(
 
 /// Takes a word for a part of a shape that takes one, where it fits; else answers false.
 fn take_word<'t>(
-    slots: &mut Vec<Slot<'t>>,
+    slots: &mut Vec<Operand<'t>>,
     posters: u32,
     last: &[u8],
     item: Item,
@@ -77,7 +74,7 @@ fn take_word<'t>(
         Item::NextPoster => Role::Within(i64::from(posters), i64::from(posters)),
         _ => return Ok(false),
     };
-    slots.push(Slot::of(role, word))?;
+    slots.push(Operand::of(role, word))?;
     Ok(true)
 }
 
@@ -85,25 +82,26 @@ fn take_word<'t>(
 fn opening(capacity_word: &[u8]) -> Role
     ensures { result ≡ opening capacity_word.now }
 {
-    Role::Within(
-        0,
-        capacity(GREATEST_LEVEL, capacity_word).unwrap_or(i64::MAX),
-    )
+    Role::Within(0, capacity(MOST_LEVEL, capacity_word).unwrap_or(i64::MAX))
 }
 
 /// All further words, each there for the same.
-fn fill<'t>(slots: &mut Vec<Slot<'t>>, role: Role, mut words: Words<'t>) -> Result<(), AllocError>
+fn fill<'t>(
+    slots: &mut Vec<Operand<'t>>,
+    role: Role,
+    mut words: Words<'t>,
+) -> Result<(), AllocError>
     ensures { OnOk result (slots.new.items ≡ slots.old.items ++ map (slot_of role) words.entry) }
 {
     while let Some(word) = words.next() {
-        slots.push(Slot::of(role, word))?;
+        slots.push(Operand::of(role, word))?;
     }
     Ok(())
 }
 
 /// All further words, as arguments that `spawn` gives for parameters of these classes.
 fn fill_spawn<'t>(
-    slots: &mut Vec<Slot<'t>>,
+    slots: &mut Vec<Operand<'t>>,
     classes: &[Class],
     mut words: Words<'t>,
 ) -> Result<(), AllocError>
@@ -113,14 +111,14 @@ fn fill_spawn<'t>(
         let Some(word) = words.next() else {
             return Ok(());
         };
-        slots.push(Slot::of(Role::of_spawn_argument(*class), word))?;
+        slots.push(Operand::of(Role::of_spawn_argument(*class), word))?;
     }
     fill(slots, Role::Free, words)
 }
 
 /// All further words, as arguments that `start` gives for parameters of these classes.
 fn fill_start<'t>(
-    slots: &mut Vec<Slot<'t>>,
+    slots: &mut Vec<Operand<'t>>,
     classes: &[Class],
     mut words: Words<'t>,
 ) -> Result<(), AllocError>
@@ -130,7 +128,7 @@ fn fill_start<'t>(
         let Some(word) = words.next() else {
             return Ok(());
         };
-        slots.push(Slot::of(Role::of_start_argument(*class), word))?;
+        slots.push(Operand::of(Role::of_start_argument(*class), word))?;
     }
     fill(slots, Role::Free, words)
 }

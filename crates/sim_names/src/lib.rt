@@ -1,6 +1,6 @@
-//! Tables of what has a name: looked up by the name, and kept in the order in which the names came.
+//! What has a name: looked up by the name, and kept in the order in which the names came.
 #![tactic(auto)]
 
-mod table;
+mod names;
 
-pub use table::Table;
+pub use names::Names;

@@ -15,6 +15,6 @@ loop-line-preserved-in-Says c =
     let lines = rw c.if-branch.true at c.in_ok-next.ensures.next in
     let count = ap length lines in
     record {
-      variables = variables_further _ _ _ _ _ _ _ _ _ c.in-Says.ensures (sym c.if-ends_process.ensures) c.deep_behind-deep.ensures c.slots.ensures.slots c.in_ok-add_given-2.ensures lines ∙ c.loop-line.invariant.variables;
+      variables = variables_further _ _ _ _ _ _ _ _ _ c.in-Says.ensures (sym c.if-ends_process.ensures) c.deep_behind-deep.ensures c.operands.ensures.operands c.in_ok-add_given-2.ensures lines ∙ c.loop-line.invariant.variables;
       few = omega (arith, deep_few c.loop-line.deep _ c.in-Says.form c.deep_behind-deep.ensures, c.loop-line.invariant.few, count);
     }

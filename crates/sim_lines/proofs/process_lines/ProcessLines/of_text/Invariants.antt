@@ -1,0 +1,17 @@
+use Rattle.std.proofs.Common.{◌≡◌, ◌+◌, ◌≤◌, length}
+use Rattle.std.specs.List.{filter_map}
+use Rattle.sim_language.specs.Lines.{lines}
+use Rattle.sim_language.specs.Named.{with_all}
+use Rattle.sim_language.specs.Sayings.{heads_of}
+use Rattle.sim_lines.proofs.HeadsOfLines.{head_of_line}
+use Rattle.sim_lines.proofs.process_lines.ProcessLines.of_text.Given as goal
+
+-- the process lines so far, and those of what is left
+abbrev pub invariant-loop-line : goal.invariant-loop-line
+invariant-loop-line l = record {
+  heads : with_all l.heads (filter_map head_of_line (lines l.rest)) ≡ heads_of (lines l.text);
+  few : length l.heads + length l.rest ≤ length l.text;
+}
+
+abbrev pub decreases-loop-line : goal.decreases-loop-line
+decreases-loop-line l = length l.rest

@@ -1,0 +1,28 @@
+-- The parts of a scenario, and the text that it was read from.
+use Rattle.std.specs.Prelude.{◌≡◌, ℕ, List, Ok}
+use Rattle.sim_types.specs.Scenarios.{ScenarioOf}
+use Rattle.sim_types.specs.declared.setup.Setup.{Setup}
+use Rattle.sim_types.specs.declared.setup.Arrival.{Arrival}
+use Rattle.sim_types.specs.declared.setup.Post.{Post}
+use Rattle.sim_types.specs.declared.script.Kind.{Kind}
+use Rattle.sim_types.specs.declared.script.Stmt.{Stmt}
+use Rattle.sim_language.specs.Built.{is_built}
+use Rattle.sim_language.specs.Reads.{reads}
+
+-- the scenario of these parts
+abbrev pub of_parts : Setup → ℕ → List (List ℕ) → List Kind → List Stmt → List Arrival → List (List Post) → ScenarioOf
+of_parts setup seed port_names kinds code journal posters =
+    record {
+      setup = setup;
+      seed = seed;
+      port_names = port_names;
+      kinds = kinds;
+      code = code;
+      journal = journal;
+      posters = posters;
+    }
+
+-- some text says this scenario
+pub record IsRead (s : ScenarioOf) : Type 0 where
+  pub text : List ℕ
+  pub says : reads is_built text ≡ Ok s

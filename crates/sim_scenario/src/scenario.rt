@@ -1,0 +1,100 @@
+//! A scenario, as a text says it.
+ghost use Rattle.std.specs.Prelude.{◌≡◌, IsTrue, Ok};
+ghost use Rattle.sim_language.specs.Built.{is_built, is_built_scenario};
+ghost use Rattle.sim_language.specs.Reads.{reads};
+ghost use Rattle.sim_language.specs.WellFormed.{is_well_formed};
+ghost use Rattle.sim_scenario.specs.Parts.{of_parts};
+
+use sim_types::{Arrival, Kind, List, Name, Post, Setup, Stmt};
+use std::marker::Model;
+
+/// What a text says that is a scenario. There is no other: each was read from a text. So it is well-formed: its numbers
+/// are in their ranges, each variable has its class, its blocks are closed, and its statements go on where they should.
+#[derive(Drop)]
+pub struct Scenario {
+    setup: Setup,
+    seed: u64,
+    port_names: List<Name>,
+    kinds: List<Kind>,
+    code: List<Stmt>,
+    journal: List<Arrival>,
+    posters: List<List<Post>>,
+}
+
+impl Model for Scenario {
+    ghost use Rattle.sim_types.specs.Scenarios.{ScenarioOf};
+    ghost use Rattle.sim_scenario.specs.Parts.{IsRead, of_parts};
+
+    ghost Value = { ScenarioOf };
+
+    ghost view = { λ a. of_parts a.setup a.seed a.port_names a.kinds a.code a.journal a.posters };
+
+    ghost invariant = { λ a. IsRead (of_parts a.setup a.seed a.port_names a.kinds a.code a.journal a.posters) };
+}
+
+impl Scenario {
+    /// The scenario of these parts, which is what the text says.
+    pub fn new(
+        _text: &[u8],
+        setup: Setup,
+        seed: u64,
+        port_names: List<Name>,
+        kinds: List<Kind>,
+        code: List<Stmt>,
+        journal: List<Arrival>,
+        posters: List<List<Post>>,
+    ) -> Scenario
+        requires { let parts = of_parts setup seed port_names kinds code journal posters in
+            reads is_built _text.now ≡ Ok parts }
+        ensures { result ≡ of_parts setup seed port_names kinds code journal posters }
+    {
+        Scenario {
+            setup,
+            seed,
+            port_names,
+            kinds,
+            code,
+            journal,
+            posters,
+        }
+    }
+
+    /// What a kernel is opened with.
+    pub fn setup(&self) -> &Setup
+        ensures setup { result.now ≡ self.now.setup }
+        ensures well_formed { IsTrue (is_well_formed self.now) }
+        ensures built { IsTrue (is_built_scenario self.now) }
+    {
+        &self.setup
+    }
+
+    /// The seed of the random words.
+    pub fn seed(&self) -> u64
+        ensures { result ≡ self.now.seed }
+    {
+        self.seed
+    }
+
+    /// The names of the ports, by their numbers.
+    pub fn port_names(&self) -> &[Name]
+        ensures { result.now ≡ self.now.port_names }
+    {
+        self.port_names.as_slice()
+    }
+
+    /// The process kinds.
+    pub fn kinds(&self) -> &[Kind]
+        ensures { result.now ≡ self.now.kinds }
+    {
+        self.kinds.as_slice()
+    }
+
+    /// The statements of all process kinds.
+    pub fn code(&self) -> &[Stmt]
+        ensures code { result.now ≡ self.now.code }
+        ensures well_formed { IsTrue (is_well_formed self.now) }
+        ensures built { IsTrue (is_built_scenario self.now) }
+    {
+        self.code.as_slice()
+    }
+}
