@@ -1,33 +1,26 @@
 -- A process that the code makes is the one that the machine makes.
-use Rattle.std.proofs.Common.{◌≡◌, ℕ, ℤ, pos, Bool, true, false, List, [], ◌∷◌, ◌++◌, length, refl, sym, ap, subst, ◌∙◌, arith, map, filter}
-use Rattle.std.specs.Prelude.{All}
+use Rattle.std.proofs.Common.{◌≡◌, pos, true, List, [], ◌∷◌, ◌++◌, refl, sym, ap, subst, ◌∙◌, map}
 use Rattle.std.specs.List.Sorted.{IsPermutation}
-use Rattle.std.proofs.lemmas.Bool.{ne_eqb}
-use Rattle.std.proofs.lemmas.List.Elements.{All-head, All-tail, All-weaker, All-cons, All-nil, All-append}
+use Rattle.std.proofs.lemmas.List.Elements.{All-cons, All-nil, All-append}
 use Rattle.std.proofs.lemmas.List.Sorted.{IsPermutation-trans, IsPermutation-cons, IsPermutation-map, IsPermutation-to_front, All-permutation}
 use Rattle.sim_types.specs.declared.event.ProcId.{ProcId}
 use Rattle.sim_types.specs.declared.event.EventId.{EventId}
-use Rattle.sim_types.specs.declared.event.Scope.{Scope}
 use Rattle.sim_types.specs.declared.event.EventKind.TheVariants as kind
 use Rattle.sim_types.specs.declared.event.Outcome.TheVariants as outcome
 use Rattle.sim_types.specs.declared.event.Callback.TheVariants as callback
 use Rattle.sim_types.specs.declared.setup.Start.{Start}
-use Rattle.sim_machine.specs.State.{Calendar, ProcessOf, OpenScope, State, Plan, Registration}
-use Rattle.sim_machine.specs.Events.{is_process, next_event, register}
+use Rattle.sim_machine.specs.State.{Calendar, ProcessOf, State, Plan, Registration}
+use Rattle.sim_machine.specs.Events.{next_event, register}
 use Rattle.sim_machine.specs.Triggering.{urgent, make, schedule}
-use Rattle.sim_machine.specs.Processes.{make_events_of_process, make_process}
+use Rattle.sim_machine.specs.Processes.{make_events_of_process}
 use Rattle.sim_machine.specs.Runs.{start_process}
-use Rattle.sim_machine.specs.Tellings.{Telling}
-use Rattle.sim_machine.specs.Lawful.{Lawful}
-use Rattle.sim_machine.specs.LawfulWaiting.{is_scope_well}
-use Rattle.sim_machine.proofs.KeptWaiting.{scope_alive}
-use Rattle.sim_machine.proofs.KeptBodiesUnits.{alive_made}
+use Rattle.sim_machine.specs.Bodies.{BodyOf, start_of}
 use Rattle.sim_procs.specs.RecordOf.{RecordOf}
 use Rattle.sim_kernel.specs.Built.{HasBuiltCallbacks, is_built_callback}
 use Rattle.sim_kernel.specs.Same.{SameCalendar}
 use Rattle.sim_kernel.specs.PartsOf.{PartsOf, RoomOf, plan_of}
-use Rattle.sim_kernel.specs.StandsFor.{StandsFor, LawfulOf, process_of, scopes_of}
-use Rattle.sim_kernel.specs.Opening.{next_process, new_record, Begins, Becomes}
+use Rattle.sim_kernel.specs.StandsFor.{StandsFor, process_of, scopes_of}
+use Rattle.sim_kernel.specs.Opening.{next_process, new_record, Begins, Starts}
 use Rattle.sim_kernel.proofs.SameCalendars.{same_trans, same_make, same_register, same_schedule, next_same}
 
 -- ---- the calendar
@@ -48,21 +41,6 @@ same_process_events a b h =
     subst Q (next_same (make kind.Process a) (make kind.Process b) made)
     (subst P (next_same a b h) (same_init (next_event a) (next_event (make kind.Process a)) (make kind.Process a) (make kind.Process b) made))
 
--- ---- scopes
-
-none_pass : {X : Type 0} (test : X → Bool) (xs : List X) → All (λ x. test x ≡ false) xs → filter test xs ≡ []
-none_pass test [] h = refl
-none_pass test (x ∷ xs) h = rw (All-head (λ z. test z ≡ false) x xs h) (none_pass test xs (All-tail (λ z. test z ≡ false) x xs h))
-
--- no scope is open of a process that is yet to be made
-no_scopes_yet : {B : Type 0} (g : Plan B) (tell : Telling B) (sound : B → Type 0) (s : State B) (p : ProcId) → p.0 ≡ length s.facilities.calendar.events → Lawful g tell sound s → [] ≡ scopes_of p s
-no_scopes_yet g tell sound s p new h =
-    let apart : (x : OpenScope) → is_scope_well g.setup.resources s x ≡ true → is_process x.process p ≡ false = λ x w.
-    ne_eqb x.process.0 p.0 (λ same. omega (arith, same, new, alive_made g.setup.events s x.process h.processes (scope_alive g.setup.resources s x w))) in
-    let none : filter (λ x. is_process x.process p) s.scopes ≡ [] =
-    none_pass (λ x. is_process x.process p) s.scopes (All-weaker (λ x. is_scope_well g.setup.resources s x ≡ true) (λ x. is_process x.process p ≡ false) apart s.scopes h.waiting.scopes) in
-    sym (ap (λ (xs : List OpenScope). map (λ (x : OpenScope). let y : Scope = record { request = x.request; res = x.res } in y) xs) none)
-
 -- ---- the process
 
 -- the processes with the new one are those of the records with the new one
@@ -74,33 +52,33 @@ processes_joined x ps r old new is h k =
     (IsPermutation-trans (process_of r ∷ ps) (process_of r ∷ map process_of old) (map process_of new) (IsPermutation-cons (process_of r) ps (map process_of old) h) (IsPermutation-map process_of (r ∷ old) new k)))
 
 -- a kernel in which the process begins stands for the state in which the process is made
-pub begun_stands : {B Code : Type 0} (filled : Code → ℕ → List ℤ → B) (owned : B → ProcId → B) (tell : Code → Telling B) (sound : Code → B → Type 0) (old new : PartsOf B Code) (k : ℕ) (args : List ℤ) (s : State B) → Begins (owned (filled old.code k args) (next_process old.calendar)) old new → LawfulOf filled owned tell sound old s → StandsFor old s → StandsFor new (make_process (plan_of filled owned old) k args s)
-begun_stands {B} {Code} filled owned tell sound old new k args s b h st =
-    let g : Plan B = plan_of filled owned old in
+begun_stands : {B Code : Type 0} (body : BodyOf B Code) (old new : PartsOf B Code) (x : Start) (s : State B) → Begins (start_of body old.code x.kind x.args (next_process old.calendar)) old new → s.scopes ≡ [] → StandsFor old s → StandsFor new (start_process (plan_of body old) s x)
+begun_stands {B} {Code} body old new x s b none st =
+    let g : Plan B = plan_of body old in
     let c : Calendar = s.facilities.calendar in
-    let body : ProcId → B = λ p. owned (filled old.code k args) p in
-    let r : RecordOf B = new_record (body (next_process old.calendar)) old.calendar in
-    let t : State B = make_process g k args s in
-    let x : ProcessOf B = record { id = next_process c; body = body (next_process c); target = next_event (make kind.Process c) } in
-    let is : x ≡ process_of r = rw st.calendar.events refl in
-    let number : r.id.0 ≡ length c.events = ap length st.calendar.events in
+    let begun : ProcId → B = λ p. start_of body old.code x.kind x.args p in
+    let r : RecordOf B = new_record (begun (next_process old.calendar)) old.calendar in
+    let t : State B = start_process g s x in
+    let y : ProcessOf B = record { id = next_process c; body = begun (next_process c); target = next_event (make kind.Process c) } in
+    let is : y ≡ process_of r = rw st.calendar.events refl in
+    let no_scopes : [] ≡ scopes_of r.id t = rw none refl in
     record {
       calendar = same_trans new.calendar (make_events_of_process old.calendar) (make_events_of_process c) b.calendar (same_process_events old.calendar c st.calendar);
       processed = ap (λ (n : PartsOf B Code). n.processed) b.others ∙ st.processed;
       generator = rw b.others st.generator;
-      processes = processes_joined x s.processes r old.live new.live is st.processes b.live;
-      scopes = All-permutation (λ y. y.scopes ≡ scopes_of y.id t) (r ∷ old.live) new.live b.live (All-cons (λ y. y.scopes ≡ scopes_of y.id t) r old.live (no_scopes_yet g (tell old.code) (sound old.code) s r.id number h) st.scopes);
+      processes = processes_joined y s.processes r old.live new.live is st.processes b.live;
+      scopes = All-permutation (λ y. y.scopes ≡ scopes_of y.id t) (r ∷ old.live) new.live b.live (All-cons (λ y. y.scopes ≡ scopes_of y.id t) r old.live no_scopes st.scopes);
       control = ap (λ (n : PartsOf B Code). n.control) b.others ∙ st.control;
       waiters = st.waiters;
       ledger = st.ledger;
     }
 
--- so it is where room was taken before, and the body was filled
-pub started_becomes : {B Code : Type 0} (filled : Code → ℕ → List ℤ → B) (owned : B → ProcId → B) (tell : Code → Telling B) (sound : Code → B → Type 0) (old new : PartsOf B Code) (room : RoomOf) (x : Start) (b : B) → b ≡ filled old.code x.kind x.args → Begins (owned b (next_process old.calendar)) (record old { room = room }) new → Becomes filled owned tell sound (λ s. start_process (plan_of filled owned old) s x) old new
-started_becomes filled owned tell sound old new room x b is h =
-    let P = λ (d : _). Begins (owned d (next_process old.calendar)) old new in
-    let begins : Begins (owned (filled old.code x.kind x.args) (next_process old.calendar)) old new = subst P is (record { calendar = h.calendar; live = h.live; others = h.others }) in
-    record { each = λ s l st. begun_stands filled owned tell sound old new x.kind x.args s begins l st }
+-- so it is where room was taken before, and the body has begun
+pub begun_starts : {B Code : Type 0} (body : BodyOf B Code) (old new : PartsOf B Code) (room : RoomOf) (x : Start) (b : B) → b ≡ body.begun old.code x.kind x.args → Begins (body.numbered b (next_process old.calendar)) (record old { room = room }) new → Starts body x old new
+begun_starts body old new room x b is h =
+    let P = λ (d : _). Begins (body.numbered d (next_process old.calendar)) old new in
+    let begins : Begins (start_of body old.code x.kind x.args (next_process old.calendar)) old new = subst P is (record { calendar = h.calendar; live = h.live; others = h.others }) in
+    record { each = λ s none st. begun_stands body old new x s begins none st }
 
 -- ---- callbacks
 

@@ -2,8 +2,10 @@
 use Rattle.std.proofs.Common.{◌≡◌, ◌≢◌, ℕ, zero, suc, ◌+◌, ◌<◌, ℤ, ◌+ℤ◌, List, [], ◌∷◌, ◌++◌, length, refl, ap, arith, Some, slice_index_or, slice_set, map, filter, take}
 use Rattle.std.proofs.lemmas.Bool.Decides.{nat_tests}
 use Rattle.std.proofs.lemmas.List.{take_more, map-append, append-nil}
-use Rattle.std.proofs.lemmas.List.Elements.{filter-append}
-use Rattle.std.proofs.lemmas.List.Sorted.{IsPermutation-sym, IsPermutation-to_front}
+use Rattle.std.proofs.lemmas.List.Elements.{All-head, filter-append}
+use Rattle.std.specs.List.{All}
+use Rattle.std.specs.List.Sorted.{IsPermutation}
+use Rattle.std.proofs.lemmas.List.Sorted.{All-permutation}
 use Rattle.sim_types.specs.declared.event.EventId.{EventId}
 use Rattle.sim_types.specs.declared.event.Entry.{Entry}
 use Rattle.sim_types.specs.declared.event.Outcome.{Outcome}
@@ -11,6 +13,7 @@ use Rattle.sim_types.specs.declared.event.Callback.{Callback}
 use Rattle.sim_machine.specs.State.{EventOf, Registration, Calendar}
 use Rattle.sim_machine.specs.Events.{is_same, event_at}
 use Rattle.sim_machine.specs.Triggering.{schedule}
+use Rattle.sim_agenda.specs.Agendas.{TakesFirst}
 use Rattle.sim_kernel.specs.Same.{SameCalendar}
 
 -- the default of a read within the list does not matter
@@ -22,16 +25,20 @@ changed_at (x ∷ xs) (suc i) d e h = changed_at xs i d e (omega (arith, h))
 abbrev pub entry_at : ℤ → ℕ → ℕ → EventId → Entry
 entry_at time priority number e = record { key = record { time = time; priority = priority; number = number }; event = e }
 
--- an entry more stands behind the others, and the event has its outcome
-pub schedule_same : (c : Calendar) (e : EventId) (x : Outcome) (priority : ℕ) (delay time : ℤ) (old new : EventOf) (agenda : List Entry) → time ≡ c.time +ℤ delay → agenda ≡ c.agenda ++ entry_at time priority c.scheduled e ∷ [] → old ≡ event_at c e → new ≡ record old { outcome = Some x } → SameCalendar (record c { scheduled = c.scheduled + 1; agenda = agenda; events = slice_set c.events e.0 new }) (schedule e x priority delay c)
+-- there is an entry more, and the event has its outcome
+pub schedule_same : (c : Calendar) (e : EventId) (x : Outcome) (priority : ℕ) (delay time : ℤ) (old new : EventOf) (agenda : List Entry) → time ≡ c.time +ℤ delay → IsPermutation (entry_at time priority c.scheduled e ∷ c.agenda) agenda → old ≡ event_at c e → new ≡ record old { outcome = Some x } → SameCalendar (record c { scheduled = c.scheduled + 1; agenda = agenda; events = slice_set c.events e.0 new }) (schedule e x priority delay c)
 schedule_same c e x priority delay time old new agenda is_time is_agenda is_old is_new =
     record {
       time = refl;
       scheduled = refl;
-      agenda = rw (is_agenda, is_time) (IsPermutation-sym _ _ (IsPermutation-to_front c.agenda (entry_at (c.time +ℤ delay) priority c.scheduled e)));
+      agenda = rw is_time at is_agenda;
       events = rw (is_new, is_old) refl;
       registered = refl;
     }
+
+-- the event of the entry was made, as those of all entries
+pub taken_made : (n : ℕ) (xs ys : List Entry) (x : Entry) → TakesFirst xs x ys → All (λ y. y.event.0 < n) xs → x.event.0 < n
+taken_made n xs ys x h made = All-head (λ y. y.event.0 < n) x ys (All-permutation (λ y. y.event.0 < n) xs (x ∷ ys) h.others made)
 
 -- ---- the callbacks of an event
 

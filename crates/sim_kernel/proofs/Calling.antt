@@ -1,5 +1,5 @@
 -- Calls of callbacks, and the settling of an event, are those of the machine.
-use Rattle.std.proofs.Common.{◌≡◌, ℕ, ◌<◌, ℤ, Bool, true, false, List, [], ◌∷◌, length, refl, sym, ap, subst, ◌∙◌, if◌then◌else◌}
+use Rattle.std.proofs.Common.{◌≡◌, ◌<◌, Bool, true, false, List, [], ◌∷◌, length, refl, sym, ap, subst, ◌∙◌, if◌then◌else◌}
 use Rattle.std.proofs.lemmas.List.{append-nil}
 use Rattle.sim_types.specs.declared.event.ProcId.{ProcId}
 use Rattle.sim_types.specs.declared.event.EventId.{EventId}
@@ -9,16 +9,18 @@ use Rattle.sim_types.specs.declared.line.End.TheVariants as end
 use Rattle.sim_machine.specs.State.{Calendar, Control, Idle, Calling, Active, Over}
 use Rattle.sim_machine.specs.Events.{event_at, is_fail, defuse}
 use Rattle.sim_machine.specs.Processes.{defuse_failed}
-use Rattle.sim_machine.specs.Tellings.{Telling}
+use Rattle.sim_machine.specs.Bodies.{BodyOf}
 use Rattle.sim_machine.specs.Standing.{left_of, is_event_of}
-use Rattle.sim_machine.specs.Steps.{Turn, IsStep, signal_by, resume, settle, call}
-use Rattle.sim_machine.proofs.EventLaws.{is_same-self}
-use Rattle.sim_machine.proofs.KeptRegistrationsCalendar.{processed_made}
+use Rattle.sim_machine.specs.Steps.{signal_by, resume, settle, call}
+use Rattle.sim_machine_law.proofs.EventLaws.{is_same-self}
+use Rattle.sim_machine_law.proofs.KeptRegistrationsCalendar.{processed_made}
 use Rattle.sim_kernel.specs.declared.mode.Mode.{Mode}
 use Rattle.sim_kernel.specs.declared.mode.Mode.TheVariants as mode
 use Rattle.sim_kernel.specs.declared.mode.Unit.TheVariants as unit
 use Rattle.sim_kernel.specs.Same.{SameCalendar}
-use Rattle.sim_kernel.specs.PartsOf.{PartsOf, RoomOf, control_of, is_unhandled, IsCalling, plan_of}
+use Rattle.sim_kernel.specs.CalendarOf.{is_unhandled, told_by}
+use Rattle.sim_kernel.specs.Changes.{settled_to, stopping, resuming}
+use Rattle.sim_kernel.specs.PartsOf.{PartsOf, RoomOf, control_of, IsCalling, plan_of}
 use Rattle.sim_kernel.specs.StandsFor.{StandsForSome, Moves}
 use Rattle.sim_kernel.proofs.Moving.{at_control}
 
@@ -44,8 +46,8 @@ event_made (Calling e left) event h = rw h (is_same-self event)
 event_made (Active e left p x) event h = absurd h
 event_made (Over why e left) event h = absurd h
 
-pub calling_made : {B Code : Type 0} (filled : Code → ℕ → List ℤ → B) (owned : B → ProcId → B) (tell : Code → Telling B) (sound : Code → B → Type 0) (parts : PartsOf B Code) (event : EventId) → StandsForSome filled owned tell sound parts → IsCalling event parts.control → event.0 < length parts.calendar.events
-calling_made filled owned tell sound parts event h calling =
+pub calling_made : {B Code : Type 0} (body : BodyOf B Code) (parts : PartsOf B Code) (event : EventId) → StandsForSome body parts → IsCalling event parts.control → event.0 < length parts.calendar.events
+calling_made body parts event h calling =
     rw h.stands.calendar.events
     (processed_made h.state.facilities.calendar event (h.lawful.registrations.processing event (event_made h.state.control event (subst (λ c. IsCalling event c) h.stands.control calling))))
 
@@ -65,12 +67,12 @@ same_defuse_failed e a b h = by_test _ _ (defuse e a) (defuse e b) a b (rw h.eve
 
 -- ---- the calls
 
-pub settle_moves : {B Code : Type 0} (filled : Code → ℕ → List ℤ → B) (owned : B → ProcId → B) (tell : Code → Telling B) (sound : Code → B → Type 0) (turn : Turn B) (old : PartsOf B Code) (event : EventId) (room : RoomOf) → old.control ≡ Calling event [] → Moves filled owned tell sound (IsStep (plan_of filled owned old) turn) old unit.Quiet (record old { control = if is_unhandled event old.calendar then Over end.Crash event [] else Idle; room = room })
-settle_moves filled owned tell sound turn old event room calling =
+pub settle_moves : {B Code : Type 0} (body : BodyOf B Code) (old : PartsOf B Code) (event : EventId) (room : RoomOf) → old.control ≡ Calling event [] → Moves body old unit.Quiet (record old { control = settled_to event old.calendar; room = room })
+settle_moves body old event room calling =
     record {
       each = λ s h st. record {
         state = settle event s;
-        stepped = at_control (plan_of filled owned old) turn s (settle event s) (Calling event []) (sym calling ∙ st.control) refl;
+        stepped = at_control (plan_of body old) (body.turn old.code) s (settle event s) (Calling event []) (sym calling ∙ st.control) refl;
         stands = record {
           calendar = st.calendar;
           processed = st.processed;
@@ -85,12 +87,12 @@ settle_moves filled owned tell sound turn old event room calling =
       };
     }
 
-pub stop_moves : {B Code : Type 0} (filled : Code → ℕ → List ℤ → B) (owned : B → ProcId → B) (tell : Code → Telling B) (sound : Code → B → Type 0) (turn : Turn B) (old : PartsOf B Code) (event : EventId) (left : List Callback) (room : RoomOf) → old.control ≡ Calling event (callback.Stop ∷ left) → Moves filled owned tell sound (IsStep (plan_of filled owned old) turn) old unit.Quiet (record old { control = Over (if is_fail (event_at old.calendar event).outcome then end.Crash else end.Until) event left; room = room })
-stop_moves filled owned tell sound turn old event left room calling =
+pub stop_moves : {B Code : Type 0} (body : BodyOf B Code) (old : PartsOf B Code) (event : EventId) (left : List Callback) (room : RoomOf) → old.control ≡ Calling event (callback.Stop ∷ left) → Moves body old unit.Quiet (record old { control = Over (if is_fail (event_at old.calendar event).outcome then end.Crash else end.Until) event left; room = room })
+stop_moves body old event left room calling =
     record {
       each = λ s h st. record {
-        state = call (plan_of filled owned old) event callback.Stop left s;
-        stepped = at_control (plan_of filled owned old) turn s (call (plan_of filled owned old) event callback.Stop left s) (Calling event (callback.Stop ∷ left)) (sym calling ∙ st.control) refl;
+        state = call (plan_of body old) event callback.Stop left s;
+        stepped = at_control (plan_of body old) (body.turn old.code) s (call (plan_of body old) event callback.Stop left s) (Calling event (callback.Stop ∷ left)) (sym calling ∙ st.control) refl;
         stands = record {
           calendar = st.calendar;
           processed = st.processed;
@@ -105,12 +107,12 @@ stop_moves filled owned tell sound turn old event left room calling =
       };
     }
 
-pub resume_moves : {B Code : Type 0} (filled : Code → ℕ → List ℤ → B) (owned : B → ProcId → B) (tell : Code → Telling B) (sound : Code → B → Type 0) (turn : Turn B) (old : PartsOf B Code) (event : EventId) (p : ProcId) (left : List Callback) (room : RoomOf) → old.control ≡ Calling event (callback.Resume p ∷ left) → Moves filled owned tell sound (IsStep (plan_of filled owned old) turn) old unit.Quiet (record old { calendar = defuse_failed event old.calendar; control = Active event left p (signal_by (event_at old.calendar event).kind (event_at old.calendar event).outcome); room = room })
-resume_moves filled owned tell sound turn old event p left room calling =
+pub resume_moves : {B Code : Type 0} (body : BodyOf B Code) (old : PartsOf B Code) (event : EventId) (p : ProcId) (left : List Callback) (room : RoomOf) → old.control ≡ Calling event (callback.Resume p ∷ left) → Moves body old unit.Quiet (record old { calendar = defuse_failed event old.calendar; control = Active event left p (signal_by (event_at old.calendar event).kind (event_at old.calendar event).outcome); room = room })
+resume_moves body old event p left room calling =
     record {
       each = λ s h st. record {
         state = resume event left p s;
-        stepped = at_control (plan_of filled owned old) turn s (resume event left p s) (Calling event (callback.Resume p ∷ left)) (sym calling ∙ st.control) refl;
+        stepped = at_control (plan_of body old) (body.turn old.code) s (resume event left p s) (Calling event (callback.Resume p ∷ left)) (sym calling ∙ st.control) refl;
         stands = record {
           calendar = same_defuse_failed event old.calendar s.facilities.calendar st.calendar;
           processed = st.processed;

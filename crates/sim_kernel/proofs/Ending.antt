@@ -1,5 +1,5 @@
 -- A process that ends is no longer alive, and its event has its outcome, as the machine has it.
-use Rattle.std.proofs.Common.{◌≡◌, ◌≢◌, ℕ, ◌<◌, ℤ, pos, Bool, true, false, List, [], ◌∷◌, length, refl, sym, ap, subst, ◌∙◌, suc, cond, arith, map, filter, Option, Some, if◌then◌else◌}
+use Rattle.std.proofs.Common.{◌≡◌, ◌≢◌, ℕ, ◌<◌, ◌^◌, ℤ, pos, Bool, true, false, List, [], ◌∷◌, length, refl, sym, ap, subst, ◌∙◌, suc, cond, arith, map, filter, Option, Some, if◌then◌else◌}
 use Rattle.std.specs.Prelude.{AllPairs, not, ◌==◌, IsSome, IsSomeAnd}
 use Rattle.std.specs.Option.{option_map}
 use Rattle.std.specs.List.Sorted.{IsPermutation}
@@ -20,17 +20,18 @@ use Rattle.sim_machine.specs.State.{ProcessOf, State}
 use Rattle.sim_machine.specs.Events.{is_process}
 use Rattle.sim_machine.specs.Triggering.{trigger}
 use Rattle.sim_machine.specs.Processes.{event_of, process_at, not_active, rest, end_process, with_body}
-use Rattle.sim_machine.specs.Tellings.{Telling, CodeFacts}
-use Rattle.sim_machine.specs.Tellings.{Place}
+use Rattle.sim_machine.specs.Tellings.{Place, CodeFacts}
 use Rattle.sim_machine.specs.MayAsk.{may_ask}
-use Rattle.sim_machine.specs.BodyLaw.{IsLawfulBody, IsLawfulPoll, scopes_told}
+use Rattle.sim_machine.specs.Bodies.{BodyOf}
+use Rattle.sim_machine.specs.BodyLaw.{IsLawfulPoll, scopes_told}
 use Rattle.sim_machine.specs.LawfulWaiting.{requests_of}
-use Rattle.sim_machine.specs.Steps.{Turn, IsStep, polled}
-use Rattle.sim_machine.proofs.KeptBodies.{find_has, find_passes}
-use Rattle.sim_machine.proofs.KeptTimes.{found_pending}
-use Rattle.sim_machine.proofs.KeptWaitingPolls.{own_scopes}
-use Rattle.sim_machine.proofs.KeptProcessesParts.{is_process-self, is_process-yes}
-use Rattle.sim_machine.proofs.KeptProcessesChanges.{AllPairs-map}
+use Rattle.sim_machine.specs.Steps.{polled}
+use Rattle.sim_machine_law.proofs.LawfulBasis.{basis_of}
+use Rattle.sim_machine_law.proofs.KeptBodies.{find_has, find_passes}
+use Rattle.sim_machine_law.proofs.KeptTimes.{found_pending}
+use Rattle.sim_machine_law.proofs.KeptWaitingPolls.{own_scopes}
+use Rattle.sim_machine_law.proofs.KeptProcessesParts.{is_process-self, is_process-yes}
+use Rattle.sim_machine_law.proofs.KeptProcessesChanges.{AllPairs-map}
 use Rattle.sim_procs.specs.RecordOf.{RecordOf, record_of, change_record}
 use Rattle.sim_kernel.specs.declared.mode.Unit.TheVariants as unit
 use Rattle.sim_kernel.specs.PartsOf.{PartsOf, IsRunning, plan_of}
@@ -38,7 +39,7 @@ use Rattle.sim_kernel.specs.StandsFor.{StandsFor, StandsForSome, Moves, process_
 use Rattle.sim_kernel.specs.Polling.{Asks, Ends}
 use Rattle.sim_kernel.proofs.SameCalendars.{same_trans, same_schedule}
 use Rattle.sim_kernel.proofs.Polls.{running_is, found_record, polled_step, body_stands}
-use Rattle.sim_kernel.proofs.Running.{process_found, running_sound, running_told}
+use Rattle.sim_kernel.proofs.Running.{KeepsLaw, process_found, running_can_be_told}
 
 kept_id : {B : Type 0} (b : B) (x : ProcessOf B) (v : Bool) → (if v then record x { body = b } else x).id ≡ x.id
 kept_id b x true = refl
@@ -76,12 +77,12 @@ end_stands old new s p o distinct k st =
       ledger = st.ledger;
     })
 
-pub finish_moves : {B Code : Type 0} (filled : Code → ℕ → List ℤ → B) (owned : B → ProcId → B) (tell : Code → Telling B) (sound : Code → B → Type 0) (turn : Turn B) (old mid new : PartsOf B Code) (event : EventId) (p : ProcId) (told : Signal) (value given : ℤ) → IsRunning event p told old.control → Asks turn p told old (op.Finish value) mid → given ≡ value → Ends p (outcome.Ok given) mid new → Moves filled owned tell sound (IsStep (plan_of filled owned old) turn) old unit.Quiet new
-finish_moves filled owned tell sound turn old mid new event p told value given running a is_value k =
+pub finish_moves : {B Code : Type 0} (body : BodyOf B Code) (old mid new : PartsOf B Code) (event : EventId) (p : ProcId) (told : Signal) (value given : ℤ) → IsRunning event p told old.control → Asks body p told old (op.Finish value) mid → given ≡ value → Ends p (outcome.Ok given) mid new → Moves body old unit.Quiet new
+finish_moves body old mid new event p told value given running a is_value k =
     record {
       each = λ s h st. record {
-        state = polled (plan_of filled owned old) p (op.Finish value) a.later s;
-        stepped = polled_step filled owned tell sound turn old mid event p told (op.Finish value) s running a h st;
+        state = polled (plan_of body old) p (op.Finish value) a.later s;
+        stepped = polled_step body old mid event p told (op.Finish value) s running a h st;
         stands =
             end_stands (record old { live = change_record p (λ r. record r { body = a.later }) old.live }) new (with_body p a.later s) p (outcome.Ok value)
             (distinct_bodies p a.later s h.processes.distinct) (rw (is_value, a.others) at k) (body_stands old s p a.later st);
@@ -89,12 +90,12 @@ finish_moves filled owned tell sound turn old mid new event p told value given r
       };
     }
 
-pub die_moves : {B Code : Type 0} (filled : Code → ℕ → List ℤ → B) (owned : B → ProcId → B) (tell : Code → Telling B) (sound : Code → B → Type 0) (turn : Turn B) (old mid new : PartsOf B Code) (event : EventId) (p : ProcId) (told : Signal) (what : Throw) → IsRunning event p told old.control → Asks turn p told old (op.Die what) mid → Ends p (outcome.Fail what) mid new → Moves filled owned tell sound (IsStep (plan_of filled owned old) turn) old unit.Quiet new
-die_moves filled owned tell sound turn old mid new event p told what running a k =
+pub die_moves : {B Code : Type 0} (body : BodyOf B Code) (old mid new : PartsOf B Code) (event : EventId) (p : ProcId) (told : Signal) (what : Throw) → IsRunning event p told old.control → Asks body p told old (op.Die what) mid → Ends p (outcome.Fail what) mid new → Moves body old unit.Quiet new
+die_moves body old mid new event p told what running a k =
     record {
       each = λ s h st. record {
-        state = polled (plan_of filled owned old) p (op.Die what) a.later s;
-        stepped = polled_step filled owned tell sound turn old mid event p told (op.Die what) s running a h st;
+        state = polled (plan_of body old) p (op.Die what) a.later s;
+        stepped = polled_step body old mid event p told (op.Die what) s running a h st;
         stands =
             end_stands (record old { live = change_record p (λ r. record r { body = a.later }) old.live }) new (with_body p a.later s) p (outcome.Fail what)
             (distinct_bodies p a.later s h.processes.distinct) (rw a.others at k) (body_stands old s p a.later st);
@@ -113,17 +114,6 @@ record_changed p change ids [] = refl
 record_changed p change ids (r ∷ live) =
     record_at p change r (record_of p (change_record p change live)) (record_of p live) (r.id.0 == p.0) refl (ids r) (record_changed p change ids live)
 
--- the record of the process that was polled
-record_polled : {B Code : Type 0} (turn : Turn B) (old mid : PartsOf B Code) (p : ProcId) (told : Signal) (asked : Op) → (a : Asks turn p told old asked mid) → (r : RecordOf B) × (record_of p old.live ≡ Some r) × (r.body ≡ a.body) × (record_of p mid.live ≡ Some (record r { body = a.later }))
-record_polled {B} turn old mid p told asked a =
-    let change : RecordOf B → RecordOf B = λ x. record x { body = a.later } in
-    let r = found_record (record_of p old.live) a.body a.found in
-    (r.0, r.1, r.2, rw a.others (record_changed p change (λ x. refl) old.live ∙ ap (λ (o : Option (RecordOf B)). option_map change o) r.1))
-
--- the process that was polled is still alive
-pub polled_alive : {B Code : Type 0} (turn : Turn B) (old mid : PartsOf B Code) (p : ProcId) (told : Signal) (asked : Op) → Asks turn p told old asked mid → IsSome (record_of p mid.live)
-polled_alive turn old mid p told asked a = rw (record_polled turn old mid p told asked a).3 refl
-
 map_empty : {X Y Z : Type 0} (f : X → Y) (g : X → Z) (xs : List X) → map g xs ≡ [] → map f xs ≡ []
 map_empty f g [] h = refl
 map_empty f g (x ∷ xs) h = cc
@@ -132,27 +122,48 @@ length_zero : {X : Type 0} (xs : List X) → (length xs == 0) ≡ true → xs �
 length_zero [] h = refl
 length_zero (x ∷ xs) h = absurd (omega (arith, eqb-true (suc (length xs)) 0 h))
 
--- a process whose operation comes only with no open scope has none
-pub ended_scopes : {B Code : Type 0} (filled : Code → ℕ → List ℤ → B) (owned : B → ProcId → B) (tell : Code → Telling B) (sound : Code → B → Type 0) (facts : CodeFacts) (turn : Turn B) (start : ℕ → List ℤ → ProcId → B) (old mid : PartsOf B Code) (event : EventId) (p : ProcId) (told : Signal) (asked : Op) → ((own : ProcId) (places : List Place) (scopes : List EventId) → may_ask facts own places scopes asked ≡ true → (length scopes == 0) ≡ true) → IsLawfulBody facts (tell old.code) (sound old.code) start turn → StandsForSome filled owned tell sound old → IsRunning event p told old.control → Asks turn p told old asked mid → IsSomeAnd (record_of p mid.live) (λ r. r.scopes ≡ [])
-ended_scopes filled owned tell sound facts turn start old mid event p told asked ends law h running a =
-    let s = h.state in
-    let r = record_polled turn old mid p told asked a in
-    let is = running_is old.control event p told running in
-    let found : process_at p s ≡ Some (process_of r.0) = process_found old s p h.lawful.processes.distinct h.stands ∙ ap (λ o. option_map process_of o) r.1 in
-    let poll : IsLawfulPoll facts (tell old.code) a.body told asked a.later =
-    law.polls a.body old.calendar.time told asked a.later (running_sound filled owned tell sound old p a.body h a.found) (running_told filled owned tell sound old event p told a.body h running a.found) a.turned in
-    let none : scopes_told ((tell old.code).scopes a.body) ((tell old.code).last a.body) told ≡ [] = length_zero _ (ends ((tell old.code).own a.later) ((tell old.code).places a.later) _ poll.asks) in
-    let own = (own_scopes (plan_of filled owned old) (tell old.code) s event is.0 p told (process_of r.0) (sym h.stands.control ∙ is.1) found h.lawful.waiting p (is_process-self p)).0 in
-    let requests : requests_of p s ≡ [] = own ∙ rw r.2 none in
-    let told_scopes : r.0.scopes ≡ scopes_of r.0.id s = find_has (λ x. x.scopes ≡ scopes_of x.id s) (λ x. x.id.0 == p.0) old.live r.0 r.1 h.stands.scopes in
-    let same : r.0.id ≡ p = is_process-yes r.0.id p (find_passes (λ x. x.id.0 == p.0) old.live r.0 r.1) in
-    let scopes : scopes_of p s ≡ [] = map_empty _ (λ x. x.request) (filter (λ x. is_process x.process p) s.scopes) requests in
-    rw r.3 (told_scopes ∙ (ap (λ q. scopes_of q s) same ∙ scopes))
+-- an operation that comes only with no open scope
+abbrev pub AsksWithNoScope : CodeFacts → Op → Type 0
+AsksWithNoScope facts asked =
+    (own : ProcId) (places : List Place) (scopes : List EventId) → may_ask facts own places scopes asked ≡ true → (length scopes == 0) ≡ true
 
--- the event of the process that runs was made
-pub running_made : {B Code : Type 0} (filled : Code → ℕ → List ℤ → B) (owned : B → ProcId → B) (tell : Code → Telling B) (sound : Code → B → Type 0) (turn : Turn B) (old mid : PartsOf B Code) (p : ProcId) (told : Signal) (asked : Op) → StandsForSome filled owned tell sound old → Asks turn p told old asked mid → p.0 < length mid.calendar.events
-running_made filled owned tell sound turn old mid p told asked h a =
-    let s = h.state in
-    let r = record_polled turn old mid p told asked a in
-    let found : process_at p s ≡ Some (process_of r.0) = process_found old s p h.lawful.processes.distinct h.stands ∙ ap (λ o. option_map process_of o) r.1 in
-    rw (a.others, h.stands.calendar.events) (found_pending (plan_of filled owned old) (tell old.code) (sound old.code) s p (process_of r.0) found h.lawful).0
+module _ {B Code : Type 0} (body : BodyOf B Code) (old mid : PartsOf B Code) (p : ProcId) (told : Signal) (asked : Op) where
+  -- the record of the process that was polled
+  record_polled : (a : Asks body p told old asked mid) → (r : RecordOf B) × (record_of p old.live ≡ Some r) × (r.body ≡ a.before) × (record_of p mid.live ≡ Some (record r { body = a.later }))
+  record_polled a =
+      let change : RecordOf B → RecordOf B = λ x. record x { body = a.later } in
+      let r = found_record (record_of p old.live) a.before a.found in
+      (r.0, r.1, r.2, rw a.others (record_changed p change (λ x. refl) old.live ∙ ap (λ (o : Option (RecordOf B)). option_map change o) r.1))
+
+  -- it is still alive
+  pub polled_alive : Asks body p told old asked mid → IsSome (record_of p mid.live)
+  polled_alive a = rw (record_polled a).3 refl
+
+  -- where its operation comes only with no open scope, it has none
+  pub ended_scopes : (event : EventId) → AsksWithNoScope (body.facts old.code) asked → KeepsLaw body old.code → StandsForSome body old → length old.calendar.events < 2 ^ 62 → IsRunning event p told old.control → Asks body p told old asked mid → IsSomeAnd (record_of p mid.live) (λ r. r.scopes ≡ [])
+  ended_scopes event ends law h few running a =
+      let s = h.state in
+      let tell = body.tell old.code in
+      let r = record_polled a in
+      let is = running_is old.control event p told running in
+      let found : process_at p s ≡ Some (process_of r.0) = process_found old s p h.lawful.processes.distinct h.stands ∙ ap (λ o. option_map process_of o) r.1 in
+      let can = running_can_be_told body old event p told a.before h running a.found few in
+      let poll : IsLawfulPoll (body.facts old.code) tell a.before told asked a.later = law.polls a.before old.calendar.time told asked a.later can.sound can.told a.turned in
+      let none : scopes_told (tell.scopes a.before) (tell.last a.before) told ≡ [] = length_zero _ (ends (tell.own a.later) (tell.places a.later) _ poll.asks) in
+      let waiting = (basis_of (plan_of body old) tell (body.sound old.code) s h.lawful).waiting in
+      let own = (own_scopes (plan_of body old) tell s event is.0 p told (process_of r.0) (sym h.stands.control ∙ is.1) found waiting p (is_process-self p)).0 in
+      let requests : requests_of p s ≡ [] = own ∙ rw r.2 none in
+      let told_scopes : r.0.scopes ≡ scopes_of r.0.id s = find_has (λ x. x.scopes ≡ scopes_of x.id s) (λ x. x.id.0 == p.0) old.live r.0 r.1 h.stands.scopes in
+      let same : r.0.id ≡ p = is_process-yes r.0.id p (find_passes (λ x. x.id.0 == p.0) old.live r.0 r.1) in
+      let scopes : scopes_of p s ≡ [] = map_empty _ (λ x. x.request) (filter (λ x. is_process x.process p) s.scopes) requests in
+      rw r.3 (told_scopes ∙ (ap (λ q. scopes_of q s) same ∙ scopes))
+
+  -- its event was made
+  pub running_made : StandsForSome body old → Asks body p told old asked mid → p.0 < length mid.calendar.events
+  running_made h a =
+      let s = h.state in
+      let tell = body.tell old.code in
+      let r = record_polled a in
+      let found : process_at p s ≡ Some (process_of r.0) = process_found old s p h.lawful.processes.distinct h.stands ∙ ap (λ o. option_map process_of o) r.1 in
+      let basis = basis_of (plan_of body old) tell (body.sound old.code) s h.lawful in
+      rw (a.others, h.stands.calendar.events) (found_pending (plan_of body old) tell (body.sound old.code) s p (process_of r.0) found basis).0

@@ -1,6 +1,5 @@
 pub mod Calendars
 pub mod Signed
-pub mod Due
 pub mod Moving
 pub mod Calling
 pub mod Drawing
@@ -10,7 +9,7 @@ pub mod Polls
 pub mod Pausing
 pub mod Ending
 pub mod Opened
-pub mod StepsKeep
+pub mod StepAdds
 pub mod Starting
 pub mod Beginning
 pub mod Stopping

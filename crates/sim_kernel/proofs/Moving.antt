@@ -1,22 +1,21 @@
 -- What the code does to a kernel's parts is what the machine does to each state that the kernel stands for.
-use Rattle.std.proofs.Common.{◌≡◌, ◌≢◌, ℕ, ◌+◌, ◌<◌, ℤ, List, [], ◌∷◌, length, refl, sym, ap, subst, ◌∙◌, arith, ◌⊎◌, inl, inr, Option, Some, None}
+use Rattle.std.proofs.Common.{◌≡◌, ◌≢◌, ◌+◌, ◌<◌, List, [], ◌∷◌, length, refl, sym, ap, subst, ◌∙◌, arith, ◌⊎◌, inl, inr, Option, Some, None}
 use Rattle.std.specs.Prelude.{All, AllPairs}
 use Rattle.std.specs.List.Sorted.{IsPermutation}
 use Rattle.std.proofs.lemmas.Int.{ints}
 use Rattle.std.proofs.lemmas.List.Elements.{All-cons, All-head, All-from_recursion}
 use Rattle.std.proofs.lemmas.List.Sorted.{IsPermutation-trans, IsPermutation-sym, All-permutation, length_permutation}
 use Rattle.sim_types.specs.Keys.{KeyOf, IsLess}
-use Rattle.sim_types.specs.declared.event.ProcId.{ProcId}
 use Rattle.sim_types.specs.declared.event.Entry.{Entry}
 use Rattle.sim_types.specs.declared.event.Callback.{Callback}
 use Rattle.sim_types.proofs.Permutations.{AllPairs-head, AllPairs-IsPermutation, IsPermutation-without}
 use Rattle.sim_machine.specs.State.{Calendar, Control, Idle, Calling, State, Plan}
 use Rattle.sim_machine.specs.Agenda.{due}
-use Rattle.sim_machine.specs.Tellings.{Telling}
+use Rattle.sim_machine.specs.Bodies.{BodyOf}
 use Rattle.sim_machine.specs.Steps.{Turn, IsStepAt, IsStep, pop_entry}
-use Rattle.sim_machine.proofs.AgendaLaws.{due_least, due_among}
-use Rattle.sim_machine.proofs.PopLaws.{among_has}
-use Rattle.sim_machine.proofs.KeptTimes.{agenda_made}
+use Rattle.sim_machine_law.proofs.AgendaLaws.{due_least, due_among}
+use Rattle.sim_machine_law.proofs.PopLaws.{among_has}
+use Rattle.sim_machine_law.proofs.KeptTimes.{agenda_made}
 use Rattle.sim_kernel.specs.declared.calendar.Popped.{Popped}
 use Rattle.sim_kernel.specs.declared.mode.Unit.TheVariants as unit
 use Rattle.sim_kernel.specs.Popping.{Pops}
@@ -65,14 +64,14 @@ is_due xs x ys others first distinct =
     this_one x m here (among_has (IsThisOrLater x) xs m each (due_among xs m h)))
     (λ h. let none : length xs ≡ 0 = none_due xs h in omega (arith, none, length_permutation xs (x ∷ ys) others))
 
-pub pop_moves : {B Code : Type 0} (filled : Code → ℕ → List ℤ → B) (owned : B → ProcId → B) (tell : Code → Telling B) (sound : Code → B → Type 0) (turn : Turn B) (old : PartsOf B Code) (answer : Popped) (new : Calendar) (left : List Callback) (room : RoomOf) → old.control ≡ Idle → Pops old.calendar answer new left → Moves filled owned tell sound (IsStep (plan_of filled owned old) turn) old (unit.Line answer.line) (record old { calendar = new; processed = old.processed + 1; control = Calling answer.event left; room = room })
-pop_moves filled owned tell sound turn old answer new left room idle p =
+pub pop_moves : {B Code : Type 0} (body : BodyOf B Code) (old : PartsOf B Code) (answer : Popped) (new : Calendar) (left : List Callback) (room : RoomOf) → old.control ≡ Idle → Pops old.calendar answer new left → Moves body old (unit.Line answer.line) (record old { calendar = new; processed = old.processed + 1; control = Calling answer.event left; room = room })
+pop_moves body old answer new left room idle p =
     record {
       each = λ s h st.
           let d = is_due s.facilities.calendar.agenda p.entry new.agenda (IsPermutation-trans _ _ _ st.calendar.agenda p.due.others) p.due.first h.times.distinct in
           record {
             state = pop_entry p.entry s;
-            stepped = at_control (plan_of filled owned old) turn s (pop_entry p.entry s) Idle (sym idle ∙ st.control) (record { entry = p.entry; is_due = d; then_is = refl });
+            stepped = at_control (plan_of body old) (body.turn old.code) s (pop_entry p.entry s) Idle (sym idle ∙ st.control) (record { entry = p.entry; is_due = d; then_is = refl });
             stands = record {
               calendar = record {
                 time = p.time;
@@ -94,7 +93,7 @@ pop_moves filled owned tell sound turn old answer new left room idle p =
     }
 
 -- the event of each entry was made
-pub entries_made : {B Code : Type 0} (filled : Code → ℕ → List ℤ → B) (owned : B → ProcId → B) (tell : Code → Telling B) (sound : Code → B → Type 0) (parts : PartsOf B Code) → StandsForSome filled owned tell sound parts → All (λ x. x.event.0 < length parts.calendar.events) parts.calendar.agenda
-entries_made filled owned tell sound parts h =
+pub entries_made : {B Code : Type 0} (body : BodyOf B Code) (parts : PartsOf B Code) → StandsForSome body parts → All (λ x. x.event.0 < length parts.calendar.events) parts.calendar.agenda
+entries_made body parts h =
     rw h.stands.calendar.events
     (All-permutation (λ x. x.event.0 < length h.state.facilities.calendar.events) h.state.facilities.calendar.agenda parts.calendar.agenda h.stands.calendar.agenda (agenda_made h.state.facilities.calendar h.lawful.times))

@@ -1,5 +1,5 @@
 -- A process that pauses waits for its timeout, as the machine has it.
-use Rattle.std.proofs.Common.{◌≡◌, ℕ, ◌+◌, ℤ, pos, ◌+ℤ◌, Some, Bool, true, false, List, [], ◌∷◌, ◌++◌, refl, ap, subst, ◌∙◌}
+use Rattle.std.proofs.Common.{◌≡◌, ◌+◌, ℤ, pos, ◌+ℤ◌, Some, Bool, true, false, [], ◌∷◌, ◌++◌, refl, ap, subst, ◌∙◌}
 use Rattle.std.specs.Prelude.{int_lt, IsTrue, IsFalse}
 use Rattle.std.proofs.lemmas.List.{append-nil}
 use Rattle.sim_types.specs.declared.event.EventId.{EventId}
@@ -14,12 +14,12 @@ use Rattle.sim_machine.specs.State.{EventOf, Calendar, State}
 use Rattle.sim_machine.specs.Events.{is_processed, next_event, register}
 use Rattle.sim_machine.specs.Triggering.{normal, is_too_late, make, make_timeout}
 use Rattle.sim_machine.specs.Scopes.{on_events}
-use Rattle.sim_machine.specs.Processes.{told_more, not_active, tell, wait, with_body}
+use Rattle.sim_machine.specs.Processes.{told_more, not_active, wait, with_body}
 use Rattle.sim_machine.specs.Effect.{with_timeout}
-use Rattle.sim_machine.specs.Tellings.{Telling}
-use Rattle.sim_machine.specs.Steps.{Turn, IsStep, polled}
-use Rattle.sim_machine.proofs.EventLaws.{change_event-keeps, make-new}
-use Rattle.sim_machine.proofs.KeptTimesCases.{timeout_cases, wait_cases}
+use Rattle.sim_machine.specs.Bodies.{BodyOf}
+use Rattle.sim_machine.specs.Steps.{polled}
+use Rattle.sim_machine_law.proofs.EventLaws.{change_event-keeps, make-new}
+use Rattle.sim_machine_law.proofs.KeptTimesCases.{timeout_cases, wait_cases}
 use Rattle.sim_procs.specs.RecordOf.{change_record}
 use Rattle.sim_kernel.specs.declared.mode.Unit.TheVariants as unit
 use Rattle.sim_kernel.specs.Same.{SameCalendar}
@@ -67,15 +67,15 @@ pause_stands old new s p delay value false false h l negative late made st =
     let in_time : is_too_late delay s.facilities.calendar ≡ false = rw (← st.calendar.time) l in
     rw (h, in_time) (made_stands old new s p delay value (made refl refl) st)
 
-pub pause_moves : {B Code : Type 0} (filled : Code → ℕ → List ℤ → B) (owned : B → ProcId → B) (tell : Code → Telling B) (sound : Code → B → Type 0) (turn : Turn B) (old mid new : PartsOf B Code) (event : EventId) (p : ProcId) (told : Signal) (delay value lasting given : ℤ) → IsRunning event p told old.control → Asks turn p told old (op.Pause delay value) mid → lasting ≡ delay → given ≡ value →
+pub pause_moves : {B Code : Type 0} (body : BodyOf B Code) (old mid new : PartsOf B Code) (event : EventId) (p : ProcId) (told : Signal) (delay value lasting given : ℤ) → IsRunning event p told old.control → Asks body p told old (op.Pause delay value) mid → lasting ≡ delay → given ≡ value →
     (IsTrue (int_lt lasting (pos 0)) → new ≡ record mid { control = told_more (signal.Raised 1) mid.control }) →
     (IsFalse (int_lt lasting (pos 0)) → IsTrue (is_too_late lasting mid.calendar) → new ≡ record mid { control = told_more (signal.Raised 9) mid.control }) →
-    (IsFalse (int_lt lasting (pos 0)) → IsFalse (is_too_late lasting mid.calendar) → Pauses p lasting given mid new) → Moves filled owned tell sound (IsStep (plan_of filled owned old) turn) old unit.Quiet new
-pause_moves filled owned tell sound turn old mid new event p told delay value lasting given running a is_delay is_value negative late made =
+    (IsFalse (int_lt lasting (pos 0)) → IsFalse (is_too_late lasting mid.calendar) → Pauses p lasting given mid new) → Moves body old unit.Quiet new
+pause_moves body old mid new event p told delay value lasting given running a is_delay is_value negative late made =
     record {
       each = λ s h st. record {
-        state = polled (plan_of filled owned old) p (op.Pause delay value) a.later s;
-        stepped = polled_step filled owned tell sound turn old mid event p told (op.Pause delay value) s running a h st;
+        state = polled (plan_of body old) p (op.Pause delay value) a.later s;
+        stepped = polled_step body old mid event p told (op.Pause delay value) s running a h st;
         stands =
             pause_stands (record old { live = change_record p (λ r. record r { body = a.later }) old.live }) new (with_body p a.later s) p delay value (int_lt delay (pos 0)) (is_too_late delay old.calendar) refl refl
             (rw (is_delay, a.others) at negative) (rw (is_delay, a.others) at late) (rw (is_delay, is_value, a.others) at made) (body_stands old s p a.later st);

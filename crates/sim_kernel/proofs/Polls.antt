@@ -1,5 +1,5 @@
 -- What a polled process asks for is done as the machine does it.
-use Rattle.std.proofs.Common.{◌≡◌, ℕ, ◌+◌, ℤ, Bool, true, false, List, [], ◌∷◌, ◌++◌, refl, sym, ap, subst, ◌∙◌, add-one, Option, Some, None, map, if◌then◌else◌}
+use Rattle.std.proofs.Common.{◌≡◌, ◌+◌, ℤ, Bool, true, false, List, [], ◌∷◌, ◌++◌, refl, sym, ap, subst, ◌∙◌, add-one, Option, Some, None, map, if◌then◌else◌}
 use Rattle.std.specs.Prelude.{All, ◌==◌, int_lt, IsTrue, IsFalse}
 use Rattle.std.specs.Option.{option_map}
 use Rattle.std.specs.List.Sorted.{IsPermutation}
@@ -22,13 +22,13 @@ use Rattle.sim_machine.specs.State.{ProcessOf, Control, Idle, Calling, Active, O
 use Rattle.sim_machine.specs.Events.{is_process}
 use Rattle.sim_machine.specs.Processes.{with_body, change_process, told_more, tell, write_line}
 use Rattle.sim_machine.specs.Effect.{draw, drawn_number}
-use Rattle.sim_machine.specs.Tellings.{Telling}
-use Rattle.sim_machine.specs.Steps.{Turn, IsStep, polled}
-use Rattle.sim_machine.proofs.KeptTimesCases.{draw_cases}
+use Rattle.sim_machine.specs.Bodies.{BodyOf}
+use Rattle.sim_machine.specs.Steps.{polled}
+use Rattle.sim_machine_law.proofs.KeptTimesCases.{draw_cases}
 use Rattle.sim_procs.specs.RecordOf.{RecordOf, record_of, change_record}
 use Rattle.sim_kernel.specs.declared.mode.Unit.TheVariants as unit
 use Rattle.sim_kernel.specs.PartsOf.{PartsOf, IsRunning, plan_of}
-use Rattle.sim_kernel.specs.StandsFor.{StandsFor, LawfulOf, Moves, process_of, scopes_of}
+use Rattle.sim_kernel.specs.StandsFor.{StandsFor, LawfulOf, StepOf, Moves, process_of, scopes_of}
 use Rattle.sim_kernel.specs.Polling.{Asks}
 use Rattle.sim_kernel.proofs.Moving.{at_control}
 use Rattle.sim_kernel.proofs.Running.{process_found}
@@ -42,16 +42,16 @@ running_is (Calling e left) event p told h = absurd h
 running_is (Active e left q x) event p told h = (left, rw (h.0, h.1, h.2) refl)
 running_is (Over why e left) event p told h = absurd h
 
-pub found_record : {B : Type 0} (o : Option (RecordOf B)) (body : B) → option_map (λ r. r.body) o ≡ Some body → (r : RecordOf B) × (o ≡ Some r) × (r.body ≡ body)
-found_record None body h = absurd (none-some body h)
-found_record (Some r) body h = (r, refl, same_Some _ body h)
+pub found_record : {B : Type 0} (o : Option (RecordOf B)) (b : B) → option_map (λ r. r.body) o ≡ Some b → (r : RecordOf B) × (o ≡ Some r) × (r.body ≡ b)
+found_record None b h = absurd (none-some b h)
+found_record (Some r) b h = (r, refl, same_Some _ b h)
 
 -- the poll is one of the machine
-pub polled_step : {B Code : Type 0} (filled : Code → ℕ → List ℤ → B) (owned : B → ProcId → B) (tell : Code → Telling B) (sound : Code → B → Type 0) (turn : Turn B) (old mid : PartsOf B Code) (event : EventId) (p : ProcId) (told : Signal) (asked : Op) (s : State B) → IsRunning event p told old.control → (a : Asks turn p told old asked mid) → LawfulOf filled owned tell sound old s → StandsFor old s → IsStep (plan_of filled owned old) turn s (polled (plan_of filled owned old) p asked a.later s)
-polled_step filled owned tell sound turn old mid event p told asked s running a h st =
-    let r = found_record (record_of p old.live) a.body a.found in
+pub polled_step : {B Code : Type 0} (body : BodyOf B Code) (old mid : PartsOf B Code) (event : EventId) (p : ProcId) (told : Signal) (asked : Op) (s : State B) → IsRunning event p told old.control → (a : Asks body p told old asked mid) → LawfulOf body old s → StandsFor old s → StepOf body old s (polled (plan_of body old) p asked a.later s)
+polled_step body old mid event p told asked s running a h st =
+    let r = found_record (record_of p old.live) a.before a.found in
     let is = running_is old.control event p told running in
-    at_control (plan_of filled owned old) turn s (polled (plan_of filled owned old) p asked a.later s) (Active event is.0 p told) (sym is.1 ∙ st.control)
+    at_control (plan_of body old) (body.turn old.code) s (polled (plan_of body old) p asked a.later s) (Active event is.0 p told) (sym is.1 ∙ st.control)
     (record {
       process = process_of r.0;
       found = process_found old s p h.processes.distinct st ∙ ap (λ o. option_map process_of o) r.1;
@@ -134,23 +134,23 @@ written_stands old s l st =
 
 -- ---- the operations
 
-pub nop_moves : {B Code : Type 0} (filled : Code → ℕ → List ℤ → B) (owned : B → ProcId → B) (tell : Code → Telling B) (sound : Code → B → Type 0) (turn : Turn B) (old mid : PartsOf B Code) (event : EventId) (p : ProcId) (told : Signal) → IsRunning event p told old.control → Asks turn p told old op.Nop mid → Moves filled owned tell sound (IsStep (plan_of filled owned old) turn) old unit.Quiet (record mid { control = told_more signal.Done mid.control })
-nop_moves filled owned tell sound turn old mid event p told running a =
+pub nop_moves : {B Code : Type 0} (body : BodyOf B Code) (old mid : PartsOf B Code) (event : EventId) (p : ProcId) (told : Signal) → IsRunning event p told old.control → Asks body p told old op.Nop mid → Moves body old unit.Quiet (record mid { control = told_more signal.Done mid.control })
+nop_moves body old mid event p told running a =
     rw a.others (record {
       each = λ s h st. record {
-        state = polled (plan_of filled owned old) p op.Nop a.later s;
-        stepped = polled_step filled owned tell sound turn old mid event p told op.Nop s running a h st;
+        state = polled (plan_of body old) p op.Nop a.later s;
+        stepped = polled_step body old mid event p told op.Nop s running a h st;
         stands = told_stands (record old { live = change_record p (λ r. record r { body = a.later }) old.live }) (with_body p a.later s) signal.Done (body_stands old s p a.later st);
         lines = rw append-nil;
       };
     })
 
-pub log_moves : {B Code : Type 0} (filled : Code → ℕ → List ℤ → B) (owned : B → ProcId → B) (tell : Code → Telling B) (sound : Code → B → Type 0) (turn : Turn B) (old mid : PartsOf B Code) (event : EventId) (p : ProcId) (told : Signal) (value time written : ℤ) → IsRunning event p told old.control → Asks turn p told old (op.Log value) mid → time ≡ mid.calendar.time → written ≡ value → Moves filled owned tell sound (IsStep (plan_of filled owned old) turn) old (unit.Line (line.Log time p written)) (record mid { control = told_more signal.Done mid.control })
-log_moves filled owned tell sound turn old mid event p told value time written running a is_time is_written =
+pub log_moves : {B Code : Type 0} (body : BodyOf B Code) (old mid : PartsOf B Code) (event : EventId) (p : ProcId) (told : Signal) (value time written : ℤ) → IsRunning event p told old.control → Asks body p told old (op.Log value) mid → time ≡ mid.calendar.time → written ≡ value → Moves body old (unit.Line (line.Log time p written)) (record mid { control = told_more signal.Done mid.control })
+log_moves body old mid event p told value time written running a is_time is_written =
     rw a.others (record {
       each = λ s h st. record {
-        state = polled (plan_of filled owned old) p (op.Log value) a.later s;
-        stepped = polled_step filled owned tell sound turn old mid event p told (op.Log value) s running a h st;
+        state = polled (plan_of body old) p (op.Log value) a.later s;
+        stepped = polled_step body old mid event p told (op.Log value) s running a h st;
         stands = told_stands (record old { live = change_record p (λ r. record r { body = a.later }) old.live }) (write_line (line.Log s.facilities.calendar.time p value) (with_body p a.later s)) signal.Done (written_stands _ _ _ (body_stands old s p a.later st));
         lines = rw (is_time, is_written) (rw a.others (rw st.calendar.time refl));
       };
@@ -171,21 +171,21 @@ drawn_stands old s st =
       ledger = st.ledger;
     }
 
-draw_stands : {B Code : Type 0} (filled : Code → ℕ → List ℤ → B) (owned : B → ProcId → B) (old new : PartsOf B Code) (s : State B) (lo hi : ℤ) (b : Bool) → int_lt hi lo ≡ b → (b ≡ true → new ≡ record old { control = told_more (signal.Raised 8) old.control }) → (b ≡ false → new ≡ record old { generator = (pcg64 old.generator).1; control = told_more (signal.Number (drawn_number (pcg64 old.generator).0 lo hi)) old.control }) → StandsFor old s → StandsFor new (draw (plan_of filled owned old) lo hi s)
-draw_stands filled owned old new s lo hi true h empty drawn st = rw (h, empty refl) (told_stands old s (signal.Raised 8) st)
-draw_stands filled owned old new s lo hi false h empty drawn st =
+draw_stands : {B Code : Type 0} (body : BodyOf B Code) (old new : PartsOf B Code) (s : State B) (lo hi : ℤ) (b : Bool) → int_lt hi lo ≡ b → (b ≡ true → new ≡ record old { control = told_more (signal.Raised 8) old.control }) → (b ≡ false → new ≡ record old { generator = (pcg64 old.generator).1; control = told_more (signal.Number (drawn_number (pcg64 old.generator).0 lo hi)) old.control }) → StandsFor old s → StandsFor new (draw (plan_of body old) lo hi s)
+draw_stands body old new s lo hi true h empty drawn st = rw (h, empty refl) (told_stands old s (signal.Raised 8) st)
+draw_stands body old new s lo hi false h empty drawn st =
     let number : ℤ = drawn_number (pcg64 old.generator).0 lo hi in
     rw (h, drawn refl) (rw (← st.generator) (told_stands (record old { generator = (pcg64 old.generator).1 }) (record s { drawn = s.drawn + 1 }) (signal.Number number) (drawn_stands old s st)))
 
-pub draw_moves : {B Code : Type 0} (filled : Code → ℕ → List ℤ → B) (owned : B → ProcId → B) (tell : Code → Telling B) (sound : Code → B → Type 0) (turn : Turn B) (old mid new : PartsOf B Code) (event : EventId) (p : ProcId) (told : Signal) (lo hi low high : ℤ) → IsRunning event p told old.control → Asks turn p told old (op.Draw lo hi) mid → low ≡ lo → high ≡ hi → (IsTrue (int_lt high low) → new ≡ record mid { control = told_more (signal.Raised 8) mid.control }) → (IsFalse (int_lt high low) → new ≡ record mid { generator = (pcg64 mid.generator).1; control = told_more (signal.Number (drawn_number (pcg64 mid.generator).0 low high)) mid.control }) → Moves filled owned tell sound (IsStep (plan_of filled owned old) turn) old unit.Quiet new
-draw_moves filled owned tell sound turn old mid new event p told lo hi low high running a is_low is_high empty drawn =
+pub draw_moves : {B Code : Type 0} (body : BodyOf B Code) (old mid new : PartsOf B Code) (event : EventId) (p : ProcId) (told : Signal) (lo hi low high : ℤ) → IsRunning event p told old.control → Asks body p told old (op.Draw lo hi) mid → low ≡ lo → high ≡ hi → (IsTrue (int_lt high low) → new ≡ record mid { control = told_more (signal.Raised 8) mid.control }) → (IsFalse (int_lt high low) → new ≡ record mid { generator = (pcg64 mid.generator).1; control = told_more (signal.Number (drawn_number (pcg64 mid.generator).0 low high)) mid.control }) → Moves body old unit.Quiet new
+draw_moves body old mid new event p told lo hi low high running a is_low is_high empty drawn =
     record {
       each = λ s h st. record {
-        state = polled (plan_of filled owned old) p (op.Draw lo hi) a.later s;
-        stepped = polled_step filled owned tell sound turn old mid event p told (op.Draw lo hi) s running a h st;
+        state = polled (plan_of body old) p (op.Draw lo hi) a.later s;
+        stepped = polled_step body old mid event p told (op.Draw lo hi) s running a h st;
         stands =
-            draw_stands filled owned (record old { live = change_record p (λ r. record r { body = a.later }) old.live }) new (with_body p a.later s) lo hi (int_lt hi lo) refl
+            draw_stands body (record old { live = change_record p (λ r. record r { body = a.later }) old.live }) new (with_body p a.later s) lo hi (int_lt hi lo) refl
             (rw (is_low, is_high, a.others) at empty) (rw (is_low, is_high, a.others) at drawn) (body_stands old s p a.later st);
-        lines = draw_cases (λ t. t.lines ≡ s.lines ++ []) (plan_of filled owned old) lo hi (with_body p a.later s) (rw append-nil) (λ h. rw append-nil);
+        lines = draw_cases (λ t. t.lines ≡ s.lines ++ []) (plan_of body old) lo hi (with_body p a.later s) (rw append-nil) (λ h. rw append-nil);
       };
     }

@@ -1,6 +1,6 @@
 -- What is known of the process that runs.
-use Rattle.std.proofs.Common.{◌≡◌, ◌≢◌, ℕ, ◌<◌, ◌^◌, ℤ, Bool, true, false, List, [], ◌∷◌, length, refl, ap, subst, ◌∙◌, arith, Option, Some, None, map, cond}
-use Rattle.std.specs.Prelude.{All, AllPairs, not, ◌||◌, find, if◌then◌else◌, IsSome, IsTrue}
+use Rattle.std.proofs.Common.{◌≡◌, ◌≢◌, ◌<◌, ◌^◌, Bool, true, false, List, [], ◌∷◌, length, refl, ap, subst, ◌∙◌, arith, Option, Some, None, map, cond}
+use Rattle.std.specs.Prelude.{All, AllPairs, not, ◌||◌, find, if◌then◌else◌, IsSome}
 use Rattle.std.specs.Option.{option_map}
 use Rattle.std.specs.List.{list_any}
 use Rattle.std.proofs.lemmas.Option.{none-some, same_Some}
@@ -19,9 +19,12 @@ use Rattle.sim_machine.specs.NumberBounds.{most_events, tells_within_bound}
 use Rattle.sim_machine.specs.Standing.{was_made, kind_at}
 use Rattle.sim_machine.specs.LawfulProcesses.{is_active}
 use Rattle.sim_machine.specs.LawfulBodies.{told_fits, is_told_well}
-use Rattle.sim_machine.proofs.KeptTimesCases.{found_has}
-use Rattle.sim_machine.proofs.KeptBodies.{four_parts}
-use Rattle.sim_machine.proofs.KeptProcessesParts.{same_process, is_process-yes, is_process-self}
+use Rattle.sim_machine_law.proofs.KeptTimesCases.{found_has}
+use Rattle.sim_machine_law.proofs.KeptBodies.{four_parts}
+use Rattle.sim_machine_law.proofs.KeptProcessesParts.{same_process, is_process-yes, is_process-self}
+use Rattle.sim_machine.specs.Bodies.{BodyOf, start_of}
+use Rattle.sim_machine.specs.BodyLaw.{IsLawfulBody}
+use Rattle.sim_procs.specs.Premises.{CanBeTold}
 use Rattle.sim_procs.specs.RecordOf.{RecordOf, record_of}
 use Rattle.sim_kernel.specs.PartsOf.{PartsOf, IsRunning}
 use Rattle.sim_kernel.specs.StandsFor.{StandsFor, StandsForSome, process_of}
@@ -57,10 +60,6 @@ mapped_is : {X Y : Type 0} (f : X → Y) (o : Option X) (y : Y) → option_map f
 mapped_is f None y h = absurd (none-some y h)
 mapped_is f (Some x) y h = (x, refl, same_Some (f x) y h)
 
-some_is : {X : Type 0} (o : Option X) → IsSome o → (x : X) × (o ≡ Some x)
-some_is None h = absurd (false≢true h)
-some_is (Some x) h = (x, refl)
-
 -- ---- what is known by the control
 
 running_active : (event : EventId) (p : ProcId) (told : Signal) (c : Control) → IsRunning event p told c → is_active c p ≡ true
@@ -90,40 +89,45 @@ fits_bound tell c b (signal.Made e) few h =
     lt-ltb e.0 most_events (omega (arith, below, few))
 fits_bound tell c b _ few h = refl
 
+-- the law of bodies, for bodies of this code
+abbrev pub KeepsLaw : {B Code : Type 0} → BodyOf B Code → Code → Type 0
+KeepsLaw body code = IsLawfulBody (body.facts code) (body.tell code) (body.sound code) (start_of body code) (body.turn code)
+
+-- the body of a process that has a record
+abbrev pub IsBodyOf : {B Code : Type 0} → PartsOf B Code → ProcId → B → Type 0
+IsBodyOf parts p b = option_map (λ r. r.body) (record_of p parts.live) ≡ Some b
+
 -- what holds of each live process and its body holds of one that has a record
-body_has : {B Code : Type 0} (parts : PartsOf B Code) (s : State B) (p : ProcId) (body : B) (P : ProcId → B → Type 0) → AllPairs (λ x y. x.id ≢ y.id) s.processes → StandsFor parts s → option_map (λ r. r.body) (record_of p parts.live) ≡ Some body → All (λ x. P x.id x.body) s.processes → P p body
-body_has {B} parts s p body P distinct st found all =
-    let r = mapped_is (λ (r : RecordOf B). r.body) (record_of p parts.live) body found in
+body_has : {B Code : Type 0} (parts : PartsOf B Code) (s : State B) (p : ProcId) (b : B) (P : ProcId → B → Type 0) → AllPairs (λ x y. x.id ≢ y.id) s.processes → StandsFor parts s → IsBodyOf parts p b → All (λ x. P x.id x.body) s.processes → P p b
+body_has {B} parts s p b P distinct st found all =
+    let r = mapped_is (λ (r : RecordOf B). r.body) (record_of p parts.live) b found in
     let here : process_at p s ≡ Some (process_of r.0) = process_found parts s p distinct st ∙ ap (option_map process_of) r.1 in
     let has = found_has (λ (x : ProcessOf B). P x.id x.body) (λ x. is_process x.id p) s.processes (process_of r.0) here all in
-    subst (λ b. P p b) r.2 (subst (λ q. P q r.0.body) (is_process-yes r.0.id p has.1) has.0)
+    subst (λ d. P p d) r.2 (subst (λ q. P q r.0.body) (is_process-yes r.0.id p has.1) has.0)
 
--- what it is told fits
-told_running : {B Code : Type 0} (filled : Code → ℕ → List ℤ → B) (owned : B → ProcId → B) (tell : Code → Telling B) (sound : Code → B → Type 0) (parts : PartsOf B Code) (event : EventId) (p : ProcId) (told : Signal) (body : B) (h : StandsForSome filled owned tell sound parts) → IsRunning event p told parts.control → option_map (λ r. r.body) (record_of p parts.live) ≡ Some body → told_fits (tell parts.code) h.state.facilities.calendar body told ≡ true
-told_running filled owned tell sound parts event p told body h running found =
-    let s = h.state in
-    let fits = body_has parts s p body (λ q b. is_told_well (tell parts.code) s.facilities.calendar q b s.control ≡ true) h.lawful.processes.distinct h.stands found h.lawful.bodies.told in
-    running_fits (tell parts.code) s.facilities.calendar event p told body s.control (subst (λ c. IsRunning event p told c) h.stands.control running) fits
+module _ {B Code : Type 0} (body : BodyOf B Code) (parts : PartsOf B Code) where
+  -- what the process that runs is told fits
+  told_running : (event : EventId) (p : ProcId) (told : Signal) (b : B) (h : StandsForSome body parts) → IsRunning event p told parts.control → IsBodyOf parts p b → told_fits (body.tell parts.code) h.state.facilities.calendar b told ≡ true
+  told_running event p told b h running found =
+      let s = h.state in
+      let tell = body.tell parts.code in
+      let fits = body_has parts s p b (λ q d. is_told_well tell s.facilities.calendar q d s.control ≡ true) h.lawful.processes.distinct h.stands found h.lawful.bodies.told in
+      running_fits tell s.facilities.calendar event p told b s.control (subst (λ c. IsRunning event p told c) h.stands.control running) fits
 
--- the process that runs has a record
-pub running_alive : {B Code : Type 0} (filled : Code → ℕ → List ℤ → B) (owned : B → ProcId → B) (tell : Code → Telling B) (sound : Code → B → Type 0) (parts : PartsOf B Code) (event : EventId) (p : ProcId) (told : Signal) → StandsForSome filled owned tell sound parts → IsRunning event p told parts.control → IsSome (record_of p parts.live)
-running_alive filled owned tell sound parts event p told h running =
-    let s = h.state in
-    let alive : is_alive p s ≡ true = h.lawful.processes.active p (running_active event p told s.control (subst (λ c. IsRunning event p told c) h.stands.control running)) in
-    some_mapped process_of (record_of p parts.live) (subst IsSome (process_found parts s p h.lawful.processes.distinct h.stands) (any_found (λ x. is_process x.id p) s.processes alive))
+  -- it has a record
+  pub running_alive : (event : EventId) (p : ProcId) (told : Signal) → StandsForSome body parts → IsRunning event p told parts.control → IsSome (record_of p parts.live)
+  running_alive event p told h running =
+      let s = h.state in
+      let alive : is_alive p s ≡ true = h.lawful.processes.active p (running_active event p told s.control (subst (λ c. IsRunning event p told c) h.stands.control running)) in
+      some_mapped process_of (record_of p parts.live) (subst IsSome (process_found parts s p h.lawful.processes.distinct h.stands) (any_found (λ x. is_process x.id p) s.processes alive))
 
--- its body is sound
-pub running_sound : {B Code : Type 0} (filled : Code → ℕ → List ℤ → B) (owned : B → ProcId → B) (tell : Code → Telling B) (sound : Code → B → Type 0) (parts : PartsOf B Code) (p : ProcId) (body : B) → StandsForSome filled owned tell sound parts → option_map (λ r. r.body) (record_of p parts.live) ≡ Some body → sound parts.code body
-running_sound filled owned tell sound parts p body h found = body_has parts h.state p body (λ q b. sound parts.code b) h.lawful.processes.distinct h.stands found h.lawful.bodies.bodies
-
--- and may be told what it is told
-pub running_told : {B Code : Type 0} (filled : Code → ℕ → List ℤ → B) (owned : B → ProcId → B) (tell : Code → Telling B) (sound : Code → B → Type 0) (parts : PartsOf B Code) (event : EventId) (p : ProcId) (told : Signal) (body : B) → StandsForSome filled owned tell sound parts → IsRunning event p told parts.control → option_map (λ r. r.body) (record_of p parts.live) ≡ Some body → IsTrue (may_be_told ((tell parts.code).last body) told)
-running_told filled owned tell sound parts event p told body h running found =
-    fits_told (tell parts.code) h.state.facilities.calendar body told (told_running filled owned tell sound parts event p told body h running found)
-
--- an event that it is told was made
-pub running_bound : {B Code : Type 0} (filled : Code → ℕ → List ℤ → B) (owned : B → ProcId → B) (tell : Code → Telling B) (sound : Code → B → Type 0) (parts : PartsOf B Code) (event : EventId) (p : ProcId) (told : Signal) → StandsForSome filled owned tell sound parts → IsRunning event p told parts.control → length parts.calendar.events < 2 ^ 62 → IsTrue (tells_within_bound told)
-running_bound {B} filled owned tell sound parts event p told h running few =
-    let r = some_is (record_of p parts.live) (running_alive filled owned tell sound parts event p told h running) in
-    let fits = told_running filled owned tell sound parts event p told r.0.body h running (ap (option_map (λ (x : RecordOf B). x.body)) r.1) in
-    fits_bound (tell parts.code) h.state.facilities.calendar r.0.body told (subst (λ es. length es < 2 ^ 62) h.stands.calendar.events few) fits
+  -- its body is sound, may be told what it is told, and an event that it is told was made
+  pub running_can_be_told : (event : EventId) (p : ProcId) (told : Signal) (b : B) → StandsForSome body parts → IsRunning event p told parts.control → IsBodyOf parts p b → length parts.calendar.events < 2 ^ 62 → CanBeTold body parts.code b told
+  running_can_be_told event p told b h running found few =
+      let tell = body.tell parts.code in
+      let fits = told_running event p told b h running found in
+      record {
+        sound = body_has parts h.state p b (λ q d. body.sound parts.code d) h.lawful.processes.distinct h.stands found h.lawful.bodies.bodies;
+        told = fits_told tell h.state.facilities.calendar b told fits;
+        bound = fits_bound tell h.state.facilities.calendar b told (subst (λ es. length es < 2 ^ 62) h.stands.calendar.events few) fits;
+      }

@@ -1,28 +1,36 @@
 -- What is known where a process is to be started.
-use Rattle.std.proofs.Common.{◌≡◌, ℕ, ◌+◌, ◌<◌, ◌≤◌, ℤ, pos, negsuc, true, false, ◌||◌, List, [], ◌∷◌, ◌++◌, length, refl, ap, arith, None, map}
+use Rattle.std.proofs.Common.{◌≡◌, ℕ, ◌+◌, ◌<◌, ◌≤◌, ℤ, pos, negsuc, true, false, ◌||◌, List, [], ◌∷◌, ◌++◌, length, refl, ap, ◌∙◌, arith, Some, None, map}
 use Rattle.std.specs.Prelude.{All, ◌==◌, IsTrue, int_lt, slice_index_or, replicate}
 use Rattle.std.proofs.lemmas.Bool.{false≢true, and_parts, and_from}
 use Rattle.std.proofs.lemmas.Bool.Decides.{nat_tests}
 use Rattle.std.proofs.lemmas.Int.{ints}
-use Rattle.std.proofs.lemmas.List.{replicate-append-replicate}
-use Rattle.std.proofs.lemmas.List.Elements.{All-head, All-tail, All-weaker}
-use Rattle.std.proofs.lemmas.List.Sorted.{All-permutation}
+use Rattle.std.proofs.lemmas.List.{length-replicate, replicate-append-replicate}
+use Rattle.std.proofs.lemmas.List.Elements.{All-head, All-tail, All-weaker, All-cons, All-nil}
+use Rattle.std.proofs.lemmas.List.Sorted.{All-permutation, IsPermutation-map}
 use Rattle.sim_types.specs.declared.event.ProcId.{ProcId}
+use Rattle.sim_types.specs.declared.event.EventKind.TheVariants as kind
+use Rattle.sim_types.specs.declared.event.Outcome.TheVariants as outcome
 use Rattle.sim_types.specs.declared.setup.Class.{Class}
 use Rattle.sim_types.specs.declared.setup.Class.TheVariants as class
 use Rattle.sim_types.specs.declared.setup.Start.{Start}
 use Rattle.sim_types.specs.declared.setup.Setup.{Setup}
-use Rattle.sim_machine.specs.State.{ProcessOf}
-use Rattle.sim_machine.specs.Tellings.{Telling, CodeFacts, is_class}
+use Rattle.sim_machine.specs.Tellings.{CodeFacts, is_class}
 use Rattle.sim_machine.specs.NumberBounds.{most_events, arguments_within_bound}
 use Rattle.sim_machine.specs.Setups.{FitsCode, start_argument_fits, start_arguments_fit, start_fits}
-use Rattle.sim_machine.specs.LawfulProcesses.{is_living_well}
-use Rattle.sim_machine.proofs.KeptProcessesParts.{lives_well}
-use Rattle.sim_machine.proofs.KeptRegistrations.{named_within}
+use Rattle.sim_machine.specs.State.{Calendar, ProcessOf, Plan}
+use Rattle.sim_machine.specs.Events.{next_event, pending_event}
+use Rattle.sim_machine.specs.Triggering.{make}
+use Rattle.sim_machine.specs.Processes.{make_events_of_process}
+use Rattle.sim_machine.specs.Runs.{blank_state}
+use Rattle.sim_machine_law.proofs.EventLaws.{change_event-length, make-length}
+use Rattle.sim_machine_law.proofs.KeptRegistrations.{named_within}
+use Rattle.sim_machine_law.proofs.OpeningLaws.{start_fits_starts}
+use Rattle.sim_procs.specs.Premises.{CanBegin}
 use Rattle.sim_procs.specs.RecordOf.{RecordOf, record_of}
-use Rattle.sim_kernel.specs.PartsOf.{PartsOf}
-use Rattle.sim_kernel.specs.StandsFor.{StandsForSome, process_of}
-use Rattle.sim_kernel.specs.Opening.{next_process}
+use Rattle.sim_kernel.specs.Built.{HasBuiltCallbacks, is_built_callback}
+use Rattle.sim_kernel.specs.PartsOf.{PartsOf, RoomOf}
+use Rattle.sim_kernel.specs.StandsFor.{StandsFor, process_of}
+use Rattle.sim_kernel.specs.Opening.{next_process, new_record, Begins, IsOpening}
 
 -- one element more of a kind
 pub replicate_more : {X : Type 0} (x : X) (n : ℕ) → replicate n x ++ x ∷ [] ≡ replicate (n + 1) x
@@ -45,10 +53,10 @@ arguments_within named (c ∷ cs) [] few h = refl
 arguments_within named (c ∷ cs) (v ∷ vs) few h =
     and_from _ _ (argument_within named c v few (and_parts _ _ h).0) (arguments_within named cs vs few (and_parts _ _ h).1)
 
-pub start_within : (f : CodeFacts) (setup : Setup) (x : Start) → FitsCode f setup → IsTrue (start_fits f x) → IsTrue (arguments_within_bound (slice_index_or f.params x.kind []) x.args)
-start_within f setup x fits h =
+pub start_can_begin : (f : CodeFacts) (setup : Setup) (x : Start) → FitsCode f setup → IsTrue (start_fits f x) → CanBegin f x.kind x.args
+start_can_begin f setup x fits h =
     let few : f.named ≤ 1024 = omega (arith, fits.events, fits.few_events) in
-    arguments_within f.named (slice_index_or f.params x.kind []) x.args few (and_parts _ _ h).1
+    record { fits = start_fits_starts f x h; bound = arguments_within f.named (slice_index_or f.params x.kind []) x.args few (and_parts _ _ h).1 }
 
 -- ---- the process that is made next is not alive
 
@@ -60,9 +68,42 @@ none_of {B} p (r ∷ live) h =
     let other : (r.id.0 == p.0) ≡ false = grind (arith, nat_tests) in
     rw other (none_of p live (All-tail P (process_of r) (map process_of live) h))
 
-pub next_not_alive : {B Code : Type 0} (filled : Code → ℕ → List ℤ → B) (owned : B → ProcId → B) (tell : Code → Telling B) (sound : Code → B → Type 0) (parts : PartsOf B Code) → StandsForSome filled owned tell sound parts → record_of (next_process parts.calendar) parts.live ≡ None
-next_not_alive {B} filled owned tell sound parts h =
-    let n : ℕ = length h.state.facilities.calendar.events in
-    let same : length parts.calendar.events ≡ n = ap length h.stands.calendar.events in
-    let made : All (λ x. x.id.0 < n) h.state.processes = All-weaker (λ x. is_living_well h.state x ≡ true) (λ x. x.id.0 < n) (λ x w. (lives_well h.state x w).made) h.state.processes h.lawful.processes.living in
-    none_of (next_process parts.calendar) parts.live (rw same (All-permutation (λ x. x.id.0 < n) h.state.processes (map process_of parts.live) h.stands.processes made))
+pub next_not_alive : {B Code : Type 0} (parts : PartsOf B Code) → IsOpening parts → record_of (next_process parts.calendar) parts.live ≡ None
+next_not_alive parts h = none_of (next_process parts.calendar) parts.live h.older
+
+-- ---- only processes that run from the start were made
+
+-- before any process is made
+pub blank_opening : {B Code : Type 0} (g : Plan B) (parts : PartsOf B Code) → StandsFor parts (blank_state g) → IsOpening parts
+blank_opening {B} g parts h =
+    let P : ProcessOf B → Type 0 = λ x. x.id.0 < length parts.calendar.events in
+    record { time = h.calendar.time; older = All-permutation P [] (map process_of parts.live) h.processes (All-nil P) }
+
+pub blank_built : {B Code : Type 0} (g : Plan B) (parts : PartsOf B Code) → StandsFor parts (blank_state g) → HasBuiltCallbacks parts
+blank_built g parts h =
+    record {
+      registered = rw h.calendar.registered (All-nil (λ r. is_built_callback r.callback ≡ true));
+      left = rw h.control (All-nil (λ x. is_built_callback x ≡ true));
+    }
+
+pub blank_events : {B Code : Type 0} (g : Plan B) (parts : PartsOf B Code) → StandsFor parts (blank_state g) → length parts.calendar.events ≡ g.setup.events + 1
+blank_events g parts h = omega (arith, ap length h.calendar.events, length-replicate g.setup.events (pending_event kind.Plain))
+
+of_process_events : (c : Calendar) → length (make_events_of_process c).events ≡ length c.events + 2
+of_process_events c =
+    let d : Calendar = make kind.Process c in
+    omega (arith, change_event-length (next_event d) (λ y. record y { outcome = Some (outcome.Ok (pos 0)) }) (make kind.Init d), make-length kind.Init d, make-length kind.Process c)
+
+-- and with each that is made
+pub begun_opening : {B Code : Type 0} (b : B) (old new : PartsOf B Code) (room : RoomOf) → Begins b (record old { room = room }) new → IsOpening old → IsOpening new
+begun_opening {B} b old new room h k =
+    let n : ℕ = length old.calendar.events in
+    let more : length new.calendar.events ≡ n + 2 = ap length h.calendar.events ∙ of_process_events old.calendar in
+    let r : RecordOf B = new_record b old.calendar in
+    let P : ProcessOf B → Type 0 = λ x. x.id.0 < length new.calendar.events in
+    let older : All P (map process_of old.live) = All-weaker (λ x. x.id.0 < n) P (λ x w. omega (arith, w, more)) (map process_of old.live) k.older in
+    let here : P (process_of r) = omega (arith, more) in
+    record {
+      time = h.calendar.time ∙ k.time;
+      older = All-permutation P (process_of r ∷ map process_of old.live) (map process_of new.live) (IsPermutation-map process_of (r ∷ old.live) new.live h.live) (All-cons P (process_of r) (map process_of old.live) here older);
+    }

@@ -1,20 +1,20 @@
 -- What the code sets to stop a run is what the machine sets.
-use Rattle.std.proofs.Common.{Some, ◌≡◌, ℕ, ◌+◌, ◌<◌, ◌≤◌, ℤ, pos, true, List, [], ◌∷◌, ◌++◌, length, refl, sym, ap, subst, ◌∙◌, arith}
+use Rattle.std.proofs.Common.{Some, ◌≡◌, ◌+◌, ◌<◌, ◌≤◌, pos, true, List, [], ◌∷◌, ◌++◌, length, refl, sym, ap, subst, ◌∙◌, arith}
 use Rattle.std.specs.Prelude.{All, fold}
 use Rattle.std.proofs.lemmas.List.Elements.{All-cons, All-nil, All-append}
 use Rattle.sim_types.specs.declared.event.EventId.{EventId}
-use Rattle.sim_types.specs.declared.event.ProcId.{ProcId}
 use Rattle.sim_types.specs.declared.event.EventKind.TheVariants as kind
 use Rattle.sim_types.specs.declared.event.Outcome.TheVariants as outcome
 use Rattle.sim_types.specs.declared.event.Callback.TheVariants as callback
 use Rattle.sim_types.specs.declared.setup.Until.{Until}
 use Rattle.sim_types.specs.declared.setup.Until.TheVariants as until
 use Rattle.sim_machine.specs.State.{Calendar, Registration, State, Plan}
+use Rattle.sim_machine.specs.Bodies.{BodyOf}
 use Rattle.sim_machine.specs.Events.{next_event, register}
 use Rattle.sim_machine.specs.Triggering.{urgent, make, schedule}
 use Rattle.sim_machine.specs.Scopes.{on_events}
 use Rattle.sim_machine.specs.Runs.{blank_state, start_process, set_stop, opening}
-use Rattle.sim_machine.proofs.EventLaws.{change_event-length, make-length}
+use Rattle.sim_machine_law.proofs.EventLaws.{change_event-length, make-length}
 use Rattle.sim_kernel.specs.Built.{HasBuiltCallbacks, IsBounded, is_built_callback, most_opened}
 use Rattle.sim_kernel.specs.Same.{SameCalendar}
 use Rattle.sim_kernel.specs.PartsOf.{PartsOf, plan_of}
@@ -67,11 +67,11 @@ stop_built x old new h built =
     }
 
 -- once all that run from the start are started, the kernel stands for the opening state
-pub opened_stands : {B Code : Type 0} (filled : Code → ℕ → List ℤ → B) (owned : B → ProcId → B) (first old new : PartsOf B Code) (x : Until) → x ≡ first.setup.until → old ≡ record first { calendar = old.calendar; live = old.live; room = old.room } → StopsBy x old new → StandsFor old (fold (start_process (plan_of filled owned first)) (blank_state (plan_of filled owned first)) first.setup.starts) → StandsFor new (opening (plan_of filled owned new))
-opened_stands {B} {Code} filled owned first old new x is kept stops st =
-    let g : Plan B = plan_of filled owned first in
+pub opened_stands : {B Code : Type 0} (body : BodyOf B Code) (first old new : PartsOf B Code) (x : Until) → x ≡ first.setup.until → old ≡ record first { calendar = old.calendar; live = old.live; room = old.room } → StopsBy x old new → StandsFor old (fold (start_process (plan_of body first)) (blank_state (plan_of body first)) first.setup.starts) → StandsFor new (opening (plan_of body new))
+opened_stands {B} {Code} body first old new x is kept stops st =
+    let g : Plan B = plan_of body first in
     let s : State B = fold (start_process g) (blank_state g) g.setup.starts in
-    let plan : PartsOf B Code → Plan B = λ parts. plan_of filled owned parts in
+    let plan : PartsOf B Code → Plan B = λ parts. plan_of body parts in
     let same : plan new ≡ g = ap plan stops.kept ∙ ap plan kept in
     let P : Until → Type 0 = λ y. StandsFor new (on_events (set_stop y) s) in
     let Q : Plan B → Type 0 = λ h. StandsFor new (opening h) in
@@ -84,18 +84,12 @@ stop_events until.Never c = omega arith
 stop_events (until.At time) c = omega (arith, change_event-length (next_event c) (λ y. record y { outcome = Some (outcome.Ok (pos 0)) }) (make kind.Stop c), make-length kind.Stop c)
 stop_events (until.Event e) c = omega arith
 
-stop_scheduled : (x : Until) (c : Calendar) → (set_stop x c).scheduled ≤ c.scheduled + 1
-stop_scheduled until.Never c = omega arith
-stop_scheduled (until.At time) c = omega arith
-stop_scheduled (until.Event e) c = omega arith
-
 -- what is to stop the run makes one event at most
-pub stop_bounded : {B Code : Type 0} (x : Until) (old new : PartsOf B Code) → StopsBy x old new → length old.calendar.events < most_opened → old.calendar.scheduled < most_opened → old.processed ≡ 0 → IsBounded 0 new
-stop_bounded {B} {Code} x old new h events scheduled processed =
+pub stop_bounded : {B Code : Type 0} (x : Until) (old new : PartsOf B Code) → StopsBy x old new → length old.calendar.events < most_opened → old.processed ≡ 0 → IsBounded 0 new
+stop_bounded {B} {Code} x old new h events processed =
     let made : length new.calendar.events ≡ length (set_stop x old.calendar).events = ap length h.calendar.events in
     let done : new.processed ≡ 0 = ap (λ (n : PartsOf B Code). n.processed) h.kept ∙ processed in
     record {
       events = omega (arith, made, stop_events x old.calendar);
-      scheduled = omega (arith, h.calendar.scheduled, stop_scheduled x old.calendar);
       processed = omega (arith, done);
     }

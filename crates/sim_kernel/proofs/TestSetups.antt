@@ -7,10 +7,10 @@ use Rattle.sim_types.specs.declared.setup.Until.{Until}
 use Rattle.sim_types.specs.declared.setup.Until.TheVariants as until
 use Rattle.sim_types.specs.declared.op.Op.{Op}
 use Rattle.sim_types.specs.declared.op.Op.TheVariants as op
-use Rattle.sim_machine.proofs.PlainBodies.{is_plain, IsPlainBody}
+use Rattle.sim_machine_law.proofs.PlainBodies.{is_plain}
 use Rattle.sim_machine.specs.Setups.{FitsCode, start_fits, until_fits, resource_fits, port_fits}
-use Rattle.sim_kernel.specs.Travellers.{traveller_facts, IsTravellerTurn, next_is_plain}
-use Rattle.sim_kernel.specs.Clocks.{clock_facts, IsClockTurn, tick_plain}
+use Rattle.sim_kernel.specs.Travellers.{traveller_facts, traveller_body, next_is_plain}
+use Rattle.sim_kernel.specs.Clocks.{clock_facts, clock_body, tick_plain}
 use Rattle.sim_kernel.specs.Built.{AsksForBuilt, is_built}
 
 plain_built : (asked : Op) → is_plain asked ≡ true → IsTrue (is_built asked)
@@ -39,10 +39,10 @@ land_fits until starts fits few pass =
     }
 
 -- travellers and clocks ask for operations that are built
-pub travellers_ask_for_built : AsksForBuilt (IsPlainBody (λ b. b.last)) IsTravellerTurn
-travellers_ask_for_built = record { asks = λ b time told asked later sound turned. rw turned.0 (plain_built _ (next_is_plain b told)) }
+pub travellers_ask_for_built : {Code : Type 0} (code : Code) → AsksForBuilt traveller_body code
+travellers_ask_for_built code = record { asks = λ b time told asked later sound turned. rw turned.0 (plain_built _ (next_is_plain b told)) }
 
-pub clocks_ask_for_built : (pace : ℤ) → AsksForBuilt (IsPlainBody (λ b. b.last)) (IsClockTurn pace)
+pub clocks_ask_for_built : (pace : ℤ) → AsksForBuilt clock_body pace
 clocks_ask_for_built pace = record { asks = λ b time told asked later sound turned. rw turned.0 (plain_built _ (tick_plain pace time b.last)) }
 
 -- a setup with one clock

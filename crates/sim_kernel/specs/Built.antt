@@ -7,6 +7,7 @@ use Rattle.sim_types.specs.declared.event.Signal.{Signal}
 use Rattle.sim_types.specs.declared.op.Op.{Op}
 use Rattle.sim_types.specs.declared.op.Op.TheVariants as op
 use Rattle.sim_machine.specs.Standing.{left_of}
+use Rattle.sim_machine.specs.Bodies.{BodyOf}
 use Rattle.sim_kernel.specs.PartsOf.{PartsOf}
 
 -- the operations that are built
@@ -19,9 +20,9 @@ is_built (op.Finish value) = true
 is_built (op.Die what) = true
 is_built _ = false
 
--- a body that in its sound states asks for operations that are built, and for no others
-pub record AsksForBuilt {B : Type 0} (sound : B → Type 0) (turn : B → ℤ → Signal → Op → B → Type 0) : Type 0 where
-  pub asks : (b : B) (time : ℤ) (told : Signal) (asked : Op) (later : B) → sound b → turn b time told asked later → IsTrue (is_built asked)
+-- bodies of this code ask in their sound states for operations that are built, and for no others
+pub record AsksForBuilt {B Code : Type 0} (body : BodyOf B Code) (code : Code) : Type 0 where
+  pub asks : (b : B) (time : ℤ) (told : Signal) (asked : Op) (later : B) → body.sound code b → body.turn code b time told asked later → IsTrue (is_built asked)
 
 -- the callbacks that come from such operations, and from what stops a run
 abbrev pub is_built_callback : Callback → Bool
@@ -34,7 +35,7 @@ pub record HasBuiltCallbacks {B Code : Type 0} (parts : PartsOf B Code) : Type 0
   pub registered : AllPass (λ r. is_built_callback r.callback) parts.calendar.registered
   pub left : AllPass is_built_callback (left_of parts.control)
 
--- one unit makes at most so many events, and schedules no more
+-- one unit makes at most so many events
 abbrev pub most_made : ℕ
 most_made = 40
 
@@ -45,5 +46,4 @@ most_opened = 2 ^ 18
 -- the numbers of a kernel that has made so many units
 pub record IsBounded {B Code : Type 0} (units : ℕ) (parts : PartsOf B Code) : Type 0 where
   pub events : length parts.calendar.events ≤ most_opened + most_made * units
-  pub scheduled : parts.calendar.scheduled ≤ most_opened + most_made * units
   pub processed : parts.processed ≤ units

@@ -2,6 +2,7 @@ pub mod Same
 pub mod CalendarOf
 pub mod Popping
 pub mod PartsOf
+pub mod Changes
 pub mod StandsFor
 pub mod Built
 pub mod Polling

@@ -1,5 +1,5 @@
 -- What contracts see of a kernel.
-use Rattle.std.specs.Prelude.{◌≡◌, ℕ, ◌≤◌, ℤ, Bool, not, ◌&&◌, List, [], length}
+use Rattle.std.specs.Prelude.{◌≡◌, ℕ, ◌≤◌, List, [], length}
 use Rattle.rand_pcg.specs.Lcg.{Lcg}
 use Rattle.sim_types.specs.declared.event.EventId.{EventId}
 use Rattle.sim_types.specs.declared.event.ProcId.{ProcId}
@@ -7,8 +7,8 @@ use Rattle.sim_types.specs.declared.event.Signal.{Signal}
 use Rattle.sim_types.specs.declared.event.Callback.{Callback}
 use Rattle.sim_types.specs.declared.setup.Setup.{Setup}
 use Rattle.sim_machine.specs.State.{Calendar, Control, Idle, Calling, Active, Over, Plan}
-use Rattle.sim_machine.specs.Events.{event_at, is_fail}
 use Rattle.sim_machine.specs.RandomWords.{word_of}
+use Rattle.sim_machine.specs.Bodies.{BodyOf, start_of}
 use Rattle.sim_procs.specs.RecordOf.{RecordOf}
 use Rattle.sim_kernel.specs.CalendarOf.{Room, HasRoom}
 use Rattle.sim_kernel.specs.declared.mode.Mode.{Mode}
@@ -47,10 +47,6 @@ pub record PartsOf (B Code : Type 0) : Type 0 where
   pub seed : ℕ
   pub room : RoomOf
 
--- the event failed and nobody defused it
-abbrev pub is_unhandled : EventId → Calendar → Bool
-is_unhandled event c = is_fail (event_at c event).outcome && not (event_at c event).defused
-
 -- the callbacks of this event are being called
 abbrev pub IsCalling : EventId → Control → Type 0
 IsCalling event (Calling e left) = e ≡ event
@@ -82,11 +78,15 @@ pub record HasUnitRoom {B Code : Type 0} (parts : PartsOf B Code) : Type 0 where
   pub calendar : HasRoom 1 parts.room.calendar
   pub left : length parts.calendar.registered ≤ parts.room.left
 
--- the plan of the machine that a kernel was opened with, by how a body is filled and told its number
-abbrev pub plan_of : {B Code : Type 0} → (Code → ℕ → List ℤ → B) → (B → ProcId → B) → PartsOf B Code → Plan B
-plan_of filled owned parts = record { setup = parts.setup; word = word_of parts.seed; start = λ kind args id. owned (filled parts.code kind args) id }
+-- the plan of the machine that a kernel was opened with
+abbrev pub plan_of : {B Code : Type 0} → BodyOf B Code → PartsOf B Code → Plan B
+plan_of body parts = record { setup = parts.setup; word = word_of parts.seed; start = start_of body parts.code }
 
 -- a kernel, and how many units it has made
 pub record KernelOf (B Code : Type 0) : Type 0 where
   pub parts : PartsOf B Code
   pub units : ℕ
+
+-- all stays but the room
+abbrev pub IsAsBefore : {B Code : Type 0} → KernelOf B Code → KernelOf B Code → Type 0
+IsAsBefore old new = new ≡ record old { parts = record old.parts { room = new.parts.room } }

@@ -10,16 +10,17 @@ use Rattle.sim_types.specs.declared.event.Callback.TheVariants as callback
 use Rattle.sim_machine.specs.Events.{next_event, register}
 use Rattle.sim_machine.specs.Triggering.{make_timeout, trigger}
 use Rattle.sim_machine.specs.Processes.{event_of, not_active}
+use Rattle.sim_machine.specs.Bodies.{BodyOf}
 use Rattle.sim_procs.specs.RecordOf.{RecordOf, change_record, record_of}
 use Rattle.sim_kernel.specs.Same.{SameCalendar}
 use Rattle.sim_kernel.specs.PartsOf.{PartsOf}
 
 -- the process is polled: it is told this, it asks for an operation, and its body is in a new state
-pub record Asks {B Code : Type 0} (turn : B → ℤ → Signal → Op → B → Type 0) (p : ProcId) (told : Signal) (old : PartsOf B Code) (asked : Op) (new : PartsOf B Code) : Type 0 where
-  pub body : B
+pub record Asks {B Code : Type 0} (body : BodyOf B Code) (p : ProcId) (told : Signal) (old : PartsOf B Code) (asked : Op) (new : PartsOf B Code) : Type 0 where
+  pub before : B
   pub later : B
-  pub found : option_map (λ r. r.body) (record_of p old.live) ≡ Some body
-  pub turned : turn body old.calendar.time told asked later
+  pub found : option_map (λ r. r.body) (record_of p old.live) ≡ Some before
+  pub turned : body.turn old.code before old.calendar.time told asked later
   pub others : new ≡ record old { live = change_record p (λ r. record r { body = later }) old.live }
 
 -- a timeout is made that resumes the process, which waits for it

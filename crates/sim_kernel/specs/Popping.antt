@@ -1,18 +1,12 @@
 -- What the code does where an event is popped.
-use Rattle.std.specs.Prelude.{◌≡◌, true, not, List, ◌∷◌, filter, slice_set, All}
-use Rattle.std.specs.List.Sorted.{IsPermutation}
-use Rattle.sim_types.specs.Keys.{IsLess}
+use Rattle.std.specs.Prelude.{◌≡◌, true, not, Option, List, [], filter, slice_set, MatchOption}
 use Rattle.sim_types.specs.declared.event.Entry.{Entry}
 use Rattle.sim_types.specs.declared.event.Callback.{Callback}
+use Rattle.sim_agenda.specs.Agendas.{TakesFirst}
 use Rattle.sim_kernel.specs.declared.calendar.Popped.{Popped}
 use Rattle.sim_machine.specs.State.{Calendar}
 use Rattle.sim_machine.specs.Events.{is_same, event_at, callbacks_of}
 use Rattle.sim_machine.specs.Steps.{line_of}
-
--- the entry that no other comes before is taken out
-pub record TakesFirst (old : List Entry) (x : Entry) (new : List Entry) : Type 0 where
-  pub others : IsPermutation old (x ∷ new)
-  pub first : All (λ y. ¬ IsLess y.key x.key) new
 
 -- the entry that is due is popped: it is its time, and its event is processed; the answer tells the event and its line,
 -- and the event's callbacks are those that are to be called
@@ -26,3 +20,7 @@ pub record Pops (old : Calendar) (answer : Popped) (new : Calendar) (left : List
   pub calls : left ≡ callbacks_of entry.event old
   pub event : answer.event ≡ entry.event
   pub line : answer.line ≡ line_of entry old
+
+-- so it is where the agenda has an entry
+abbrev pub PopsDue : Option Popped → Calendar → Calendar → List Callback → Type 0
+PopsDue result old new left = MatchOption result (old.agenda ≡ []) (λ x. Pops old x new left)

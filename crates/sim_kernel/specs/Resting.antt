@@ -1,7 +1,8 @@
 -- Where a kernel stands.
-use Rattle.std.specs.Prelude.{Bool, true, false, List, [], ◌∷◌}
+use Rattle.std.specs.Prelude.{Bool, true, false, List, [], ◌∷◌, IsTrue}
 use Rattle.sim_types.specs.declared.event.Entry.{Entry}
 use Rattle.sim_machine.specs.State.{Control, Idle, Calling, Active, Over}
+use Rattle.sim_kernel.specs.PartsOf.{PartsOf}
 use Rattle.sim_kernel.specs.declared.mode.Rest.{Rest}
 use Rattle.sim_kernel.specs.declared.mode.Rest.TheVariants as rest
 
@@ -18,3 +19,11 @@ abbrev pub can_step : Rest → Bool
 can_step rest.Busy = true
 can_step rest.Idle = true
 can_step _ = false
+
+-- where a kernel stands
+abbrev pub rest_in : {B Code : Type 0} → PartsOf B Code → Rest
+rest_in parts = rest_of parts.control parts.calendar.agenda
+
+-- a kernel in which a unit can be made
+abbrev pub CanStep : {B Code : Type 0} → PartsOf B Code → Type 0
+CanStep parts = IsTrue (can_step (rest_in parts))

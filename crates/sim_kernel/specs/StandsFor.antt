@@ -1,5 +1,5 @@
 -- Which states of the machine a kernel stands for, and what it means that it makes a unit of the machine.
-use Rattle.std.specs.Prelude.{◌≡◌, ℕ, ℤ, List, [], ◌∷◌, ◌++◌, map, filter, All}
+use Rattle.std.specs.Prelude.{◌≡◌, List, [], ◌∷◌, ◌++◌, map, filter, All}
 use Rattle.std.specs.List.Sorted.{IsPermutation}
 use Rattle.sim_types.specs.declared.event.ProcId.{ProcId}
 use Rattle.sim_types.specs.declared.event.Scope.{Scope}
@@ -7,7 +7,9 @@ use Rattle.sim_types.specs.declared.line.Line.{Line}
 use Rattle.sim_machine.specs.State.{ProcessOf, State}
 use Rattle.sim_machine.specs.Events.{is_process}
 use Rattle.sim_machine.specs.RandomWords.{generator_of, generator_after}
-use Rattle.sim_machine.specs.Tellings.{Telling}
+use Rattle.sim_machine.specs.Bodies.{BodyOf}
+use Rattle.sim_machine.specs.Steps.{IsStep}
+use Rattle.sim_machine.specs.Runs.{opening}
 use Rattle.sim_machine.specs.Lawful.{Lawful}
 use Rattle.sim_procs.specs.RecordOf.{RecordOf}
 use Rattle.sim_kernel.specs.Same.{SameCalendar}
@@ -36,15 +38,27 @@ pub record StandsFor {B Code : Type 0} (parts : PartsOf B Code) (s : State B) : 
   pub waiters : s.facilities.waiters ≡ []
   pub ledger : s.facilities.ledger ≡ []
 
--- a lawful state of the machine that the kernel was opened with, for a body of these members
-abbrev pub LawfulOf : {B Code : Type 0} → (Code → ℕ → List ℤ → B) → (B → ProcId → B) → (Code → Telling B) → (Code → B → Type 0) → PartsOf B Code → State B → Type 0
-LawfulOf filled owned tell sound parts s = Lawful (plan_of filled owned parts) (tell parts.code) (sound parts.code) s
+-- a lawful state of the machine that the kernel was opened with, for bodies of this kind
+abbrev pub LawfulOf : {B Code : Type 0} → BodyOf B Code → PartsOf B Code → State B → Type 0
+LawfulOf body parts s = Lawful (plan_of body parts) (body.tell parts.code) (body.sound parts.code) s
+
+-- a step of that machine
+abbrev pub StepOf : {B Code : Type 0} → BodyOf B Code → PartsOf B Code → State B → State B → Type 0
+StepOf body parts = IsStep (plan_of body parts) (body.turn parts.code)
 
 -- the kernel stands for some lawful state
-pub record StandsForSome {B Code : Type 0} (filled : Code → ℕ → List ℤ → B) (owned : B → ProcId → B) (tell : Code → Telling B) (sound : Code → B → Type 0) (parts : PartsOf B Code) : Type 0 where
+pub record StandsForSome {B Code : Type 0} (body : BodyOf B Code) (parts : PartsOf B Code) : Type 0 where
   pub state : State B
-  pub lawful : LawfulOf filled owned tell sound parts state
+  pub lawful : LawfulOf body parts state
   pub stands : StandsFor parts state
+
+-- the kernel stands for the opening state of its machine
+abbrev pub StandsForOpening : {B Code : Type 0} → BodyOf B Code → PartsOf B Code → Type 0
+StandsForOpening body parts = StandsFor parts (opening (plan_of body parts))
+
+-- and that state is lawful
+abbrev pub IsLawfulOpening : {B Code : Type 0} → BodyOf B Code → PartsOf B Code → Type 0
+IsLawfulOpening body parts = LawfulOf body parts (opening (plan_of body parts))
 
 -- the lines that the answer of a unit tells
 abbrev pub lines_of : Unit → List Line
@@ -59,5 +73,5 @@ pub record Later {B Code : Type 0} (step : State B → State B → Type 0) (s : 
   pub lines : state.lines ≡ s.lines ++ lines_of answer
 
 -- so it is from whatever lawful state the kernel stood for
-pub record Moves {B Code : Type 0} (filled : Code → ℕ → List ℤ → B) (owned : B → ProcId → B) (tell : Code → Telling B) (sound : Code → B → Type 0) (step : State B → State B → Type 0) (old : PartsOf B Code) (answer : Unit) (new : PartsOf B Code) : Type 0 where
-  pub each : (s : State B) → LawfulOf filled owned tell sound old s → StandsFor old s → Later step s answer new
+pub record Moves {B Code : Type 0} (body : BodyOf B Code) (old : PartsOf B Code) (answer : Unit) (new : PartsOf B Code) : Type 0 where
+  pub each : (s : State B) → LawfulOf body old s → StandsFor old s → Later (StepOf body old) s answer new

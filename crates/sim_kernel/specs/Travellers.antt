@@ -7,8 +7,9 @@ use Rattle.sim_types.specs.declared.op.Op.{Op}
 use Rattle.sim_types.specs.declared.op.Op.TheVariants as op
 use Rattle.sim_types.specs.declared.setup.Class.TheVariants as class
 use Rattle.sim_machine.specs.Tellings.{CodeFacts, Telling}
+use Rattle.sim_machine.specs.Bodies.{BodyOf, start_of}
 use Rattle.sim_machine.specs.BodyLaw.{IsLawfulBody}
-use Rattle.sim_machine.proofs.PlainBodies.{plain_tells, is_plain, IsPlainBody, PollsPlain, plain_lawful}
+use Rattle.sim_machine_law.proofs.PlainBodies.{plain_tells, is_plain, IsPlainBody, PollsPlain, plain_lawful}
 
 -- its number, its kind, the two numbers that it was given, and what it asked for last
 pub record TravellerOf : Type 0 where
@@ -31,12 +32,9 @@ abbrev pub traveller_tells : Telling TravellerOf
 traveller_tells = plain_tells (λ b. b.own) (λ b. b.last)
 
 -- before it is told its number
-abbrev pub filled_traveller : ℕ → List ℤ → TravellerOf
-filled_traveller kind args =
+abbrev pub begun_traveller : ℕ → List ℤ → TravellerOf
+begun_traveller kind args =
     record { own = record { 0 = 0 }; kind = kind; first = slice_index_or args 0 (pos 0); second = slice_index_or args 1 (pos 0); last = None }
-
-abbrev pub owned_traveller : TravellerOf → ProcId → TravellerOf
-owned_traveller b id = record b { own = id }
 
 -- the number in what it was told
 abbrev pub heard : Signal → ℤ
@@ -68,6 +66,17 @@ next_of b x = after b.last
 abbrev pub IsTravellerTurn : TravellerOf → ℤ → Signal → Op → TravellerOf → Type 0
 IsTravellerTurn b time x asked d = (asked ≡ next_of b x) × (d ≡ record b { last = Some asked })
 
+-- travellers, whatever their code is
+abbrev pub traveller_body : {Code : Type 0} → BodyOf TravellerOf Code
+traveller_body = record {
+  begun = λ code. begun_traveller;
+  numbered = λ b id. record b { own = id };
+  turn = λ code. IsTravellerTurn;
+  tell = λ code. traveller_tells;
+  facts = λ code. traveller_facts;
+  sound = λ code. IsPlainBody (λ b. b.last);
+}
+
 -- ---- the law
 
 sets_out_plain : (kind : ℕ) (first second : ℤ) → is_plain (sets_out kind first second) ≡ true
@@ -90,5 +99,5 @@ next_is_plain b x = next_plain b x b.last
 turn_plain : (b : TravellerOf) (time : ℤ) (x : Signal) (asked : Op) (d : TravellerOf) → IsTravellerTurn b time x asked d → PollsPlain (λ c. c.own) (λ c. c.last) b asked d
 turn_plain b time x asked d turned = record { plain = rw turned.0 (next_is_plain b x); same = rw turned.1 refl; asks_last = rw turned.1 refl }
 
-pub traveller_lawful : IsLawfulBody traveller_facts traveller_tells (IsPlainBody (λ b. b.last)) (λ kind args id. owned_traveller (filled_traveller kind args) id) IsTravellerTurn
-traveller_lawful = plain_lawful traveller_facts _ _ _ IsTravellerTurn (λ k args p. record { numbered = refl; unpolled = refl }) turn_plain
+pub traveller_lawful : {Code : Type 0} (code : Code) → IsLawfulBody traveller_facts traveller_tells (IsPlainBody (λ b. b.last)) (start_of traveller_body code) IsTravellerTurn
+traveller_lawful code = plain_lawful traveller_facts _ _ _ IsTravellerTurn (λ k args p. record { numbered = refl; unpolled = refl }) turn_plain

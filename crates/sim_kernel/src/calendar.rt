@@ -1,16 +1,14 @@
-ghost use Rattle.std.specs.Prelude.{◌≡◌, ◌↔◌, IsTrue, true, ℕ, ◌+◌, ◌<◌, ◌≤◌, ◌^◌, pos, ◌≤ℤ◌, ◌+ℤ◌, length, IfOk, OnOk, List, [], All, filter, not, ◌==◌, ◌&&◌, MatchOption};
+ghost use Rattle.std.specs.Prelude.{◌≡◌, ◌↔◌, IsTrue, ◌+◌, ◌<◌, ◌≤◌, ◌^◌, pos, ◌≤ℤ◌, ◌+ℤ◌, length, IfOk, OnOk, [], not, ◌==◌};
 ghost use Rattle.std.specs.VecDeque.{deque_capacity};
 ghost use Rattle.sim_machine.specs.Events as events;
 ghost use Rattle.sim_machine.specs.Triggering as triggering;
 ghost use Rattle.sim_machine.specs.Runs.{first_calendar};
 ghost use Rattle.sim_machine.specs.Processes.{defuse_failed};
-ghost use Rattle.sim_machine.specs.Steps.{outcome_or_zero, signal_by};
-ghost use Rattle.sim_kernel.specs.CalendarOf.{HasRoom};
-ghost use Rattle.sim_kernel.specs.Popping.{Pops};
-ghost use Rattle.sim_kernel.specs.Same.{SameCalendar};
+ghost use Rattle.sim_kernel.specs.CalendarOf.{HasRoom, TakesRegistrations, Schedules, AreEntriesMade, is_unhandled, told_by, outcome_at, processing, unregistering};
+ghost use Rattle.sim_kernel.specs.Popping.{PopsDue};
 
-use crate::agenda::take_first;
 use crate::event::{Event, Registration};
+use sim_agenda::Agenda;
 use sim_types::{Callback, Entry, EventId, EventKind, Key, Line, Outcome, Signal};
 use std::alloc::{AllocError, Global};
 use std::collections::VecDeque;
@@ -21,7 +19,7 @@ use std::marker::Model;
 pub(crate) struct Calendar {
     time: i64,
     scheduled: u64,
-    agenda: Vec<Entry>,
+    agenda: Agenda,
     events: Vec<Event>,
     registered: Vec<Registration>,
 }
@@ -39,7 +37,7 @@ impl Model for Calendar {
 
     ghost Value = { CalendarOf };
 
-    ghost view = { λ a. record { calendar = record { time = a.time; scheduled = a.scheduled; agenda = a.agenda.items; events = a.events.items; registered = a.registered.items }; room = record { events = vec_capacity a.events - vec_len a.events; entries = vec_capacity a.agenda - vec_len a.agenda; registrations = vec_capacity a.registered - vec_len a.registered } } };
+    ghost view = { λ a. record { calendar = record { time = a.time; scheduled = a.scheduled; agenda = a.agenda.entries; events = a.events.items; registered = a.registered.items }; room = record { events = vec_capacity a.events - vec_len a.events; entries = a.agenda.spare; registrations = vec_capacity a.registered - vec_len a.registered } } };
 }
 
 impl Calendar {
@@ -56,7 +54,7 @@ impl Calendar {
         Ok(Calendar {
             time: 0,
             scheduled: 0,
-            agenda: Vec::new(alloc),
+            agenda: Agenda::new(alloc),
             events,
             registered: Vec::new(alloc),
         })
@@ -96,7 +94,7 @@ impl Calendar {
         requires room { 1 ≤ self.old.room.registrations }
         ensures calendar { self.new.calendar ≡ events.register event callback self.old.calendar }
         ensures registrations { self.new.room.registrations + 1 ≡ self.old.room.registrations }
-        ensures room { self.new.room ≡ record self.old.room { registrations = self.new.room.registrations } }
+        ensures room { TakesRegistrations self.old.room self.new.room }
     {
         self.registered
             .push_reserved(Registration { event, callback });
@@ -128,7 +126,7 @@ impl Calendar {
     /// What a process is told by an event that resumes it.
     pub(crate) fn signal_by(&self, event: EventId) -> Signal
         requires made { event.0 < length self.now.calendar.events }
-        ensures { result ≡ signal_by (events.event_at self.now.calendar event).kind (events.event_at self.now.calendar event).outcome }
+        ensures { result ≡ told_by event self.now.calendar }
     {
         let event = &self.events[event.0 as usize];
         match (event.kind(), event.outcome()) {
@@ -153,7 +151,7 @@ impl Calendar {
     /// Whether an event failed and nobody defused it.
     pub(crate) fn is_unhandled(&self, event: EventId) -> bool
         requires made { event.0 < length self.now.calendar.events }
-        ensures { result ≡ (events.is_fail (events.event_at self.now.calendar event).outcome && not (events.event_at self.now.calendar event).defused) }
+        ensures { result ≡ is_unhandled event self.now.calendar }
     {
         self.is_failed(event) && !self.events[event.0 as usize].is_defused()
     }
@@ -176,13 +174,13 @@ impl Calendar {
         requires low { pos 0 ≤ℤ self.old.calendar.time }
         requires not_past { pos 0 ≤ℤ delay }
         requires high { (self.old.calendar.time +ℤ delay) ≤ℤ pos (2 ^ 62) }
-        ensures calendar { SameCalendar self.new.calendar (triggering.schedule event outcome priority delay self.old.calendar) }
+        ensures calendar { Schedules event outcome priority delay self.old.calendar self.new.calendar }
         ensures entries { self.new.room.entries + 1 ≡ self.old.room.entries }
         ensures room { self.new.room ≡ record self.old.room { entries = self.new.room.entries } }
     {
         let key = Key::new(self.time + delay, priority, self.scheduled);
         self.scheduled += 1;
-        self.agenda.push_reserved(Entry { key, event });
+        self.agenda.insert(Entry { key, event });
         self.events[event.0 as usize].trigger(outcome);
     }
 
@@ -190,8 +188,8 @@ impl Calendar {
     fn process(&mut self, event: EventId) -> (EventKind, Outcome)
         requires made { event.0 < length self.old.calendar.events }
         ensures kind { result.0 ≡ (events.event_at self.old.calendar event).kind }
-        ensures outcome { result.1 ≡ outcome_or_zero (events.event_at self.old.calendar event).outcome }
-        ensures events { self.new ≡ record self.old { calendar = events.change_event event (λ x. record x { processed = true }) self.old.calendar } }
+        ensures outcome { result.1 ≡ outcome_at event self.old.calendar }
+        ensures events { self.new ≡ record self.old { calendar = processing event self.old.calendar } }
     {
         let event = &mut self.events[event.0 as usize];
         event.process();
@@ -205,7 +203,7 @@ impl Calendar {
         requires empty { left.old.items ≡ [] }
         requires room { length self.old.calendar.registered ≤ deque_capacity left.old }
         ensures left { left.new.items ≡ events.callbacks_of event self.old.calendar }
-        ensures registered { self.new.calendar ≡ record self.old.calendar { registered = filter (λ r. not (events.is_same r.event event)) self.old.calendar.registered } }
+        ensures registered { self.new.calendar ≡ unregistering event self.old.calendar }
     {
         for registration in &self.registered {
             if registration.event.0 == event.0 {
@@ -227,10 +225,10 @@ impl Calendar {
     pub(crate) fn pop(&mut self, left: &mut VecDeque<Callback>) -> Option<Popped>
         requires empty { left.old.items ≡ [] }
         requires room { length self.old.calendar.registered ≤ deque_capacity left.old }
-        requires made { All (λ x. x.event.0 < length self.old.calendar.events) self.old.calendar.agenda }
-        ensures popped { MatchOption result (self.old.calendar.agenda ≡ []) (λ x. Pops self.old.calendar x self.new.calendar left.new.items) }
+        requires made { AreEntriesMade self.old.calendar }
+        ensures popped { PopsDue result self.old.calendar self.new.calendar left.new.items }
     {
-        let Entry { key, event } = take_first(&mut self.agenda)?;
+        let Entry { key, event } = self.agenda.pop()?;
         let (time, priority, number) = key.parts();
         let (kind, outcome) = self.process(event);
         self.time = time;

@@ -1,5 +1,6 @@
 //! Clocks: bodies for tests.
 use crate::traveller::again;
+use sim_machine::LawfulBody;
 use sim_procs::Body;
 use sim_types::{Args, EventId, Op, ProcId, Signal};
 use std::alloc::{AllocError, Global};
@@ -34,29 +35,21 @@ impl Model for Clock {
     ghost view = { λ a. record { own = a.own; last = a.last } };
 }
 
-impl Body for Clock {
-    ghost use Rattle.std.specs.Prelude.{[], refl};
-    ghost use Rattle.std.proofs.Common.{lit≤};
-    ghost use Rattle.sim_machine.proofs.PlainBodies.{IsPlainBody};
-    ghost use Rattle.sim_kernel.specs.Clocks.{filled_clock, owned_clock, IsClockTurn, clock_tells, clock_facts, clock_lawful};
+impl LawfulBody for Clock {
+    ghost use Rattle.sim_kernel.specs.Clocks.{clock_body, clock_lawful};
 
     type Code = Pace;
 
-    ghost filled = { λ code. filled_clock };
-
-    ghost owned = { owned_clock };
-
-    ghost turn = { IsClockTurn };
-
-    ghost tell = { λ code. clock_tells };
-
-    ghost facts = { λ code. clock_facts };
-
-    ghost sound = { λ code. IsPlainBody (λ b. b.last) };
-
-    ghost held = { λ b. [] };
+    ghost body = { clock_body };
 
     ghost lawful = { clock_lawful };
+}
+
+impl Body for Clock {
+    ghost use Rattle.std.specs.Prelude.{[], refl};
+    ghost use Rattle.std.proofs.Common.{lit≤};
+
+    ghost events_held = { λ b. [] };
 
     ghost places = { λ code b sound. refl };
 

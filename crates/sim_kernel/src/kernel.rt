@@ -1,12 +1,10 @@
 //! A kernel stands for a lawful state of the machine, and makes one unit of it at a time.
-ghost use Rattle.std.specs.Prelude.{◌≡◌, ◌+◌, ◌<◌, ◌^◌, IfOk, OnOk, OnErr, IsTrue};
-ghost use Rattle.sim_machine.specs.Runs.{opening};
+ghost use Rattle.std.specs.Prelude.{◌≡◌, ◌+◌, ◌<◌, ◌^◌, IfOk, OnOk, OnErr};
 ghost use Rattle.sim_machine.specs.Setups.{FitsCode};
-ghost use Rattle.sim_machine.specs.Steps.{IsStep};
 ghost use Rattle.sim_kernel.specs.Built.{AsksForBuilt};
-ghost use Rattle.sim_kernel.specs.PartsOf.{IsOpenedAs, plan_of};
-ghost use Rattle.sim_kernel.specs.Resting.{can_step, rest_of};
-ghost use Rattle.sim_kernel.specs.StandsFor.{LawfulOf, StandsFor};
+ghost use Rattle.sim_kernel.specs.PartsOf.{IsOpenedAs, IsAsBefore};
+ghost use Rattle.sim_kernel.specs.Resting.{CanStep, rest_in};
+ghost use Rattle.sim_kernel.specs.StandsFor.{IsLawfulOpening, StandsForOpening};
 ghost use Rattle.sim_kernel.specs.Stepping.{MakesStep};
 
 use crate::mode::{Rest, Unit};
@@ -31,7 +29,7 @@ impl<B: Body> Model for Kernel<B> {
 
     ghost view = { λ a. record { parts = a.parts; units = a.units } };
 
-    ghost invariant = { λ a. Holds B.filled B.owned B.tell B.sound a.units a.parts };
+    ghost invariant = { λ a. Holds B.body a.units a.parts };
 }
 
 impl<B: Body> Kernel<B> {
@@ -43,13 +41,13 @@ impl<B: Body> Kernel<B> {
         setup: &Setup,
         seed: u64,
     ) -> Result<Kernel<B>, AllocError>
-        requires fits { FitsCode (B.facts code.now) setup.now }
+        requires fits { FitsCode (B.body.facts code.now) setup.now }
         ensures code { IfOk result (λ k. k.parts.code ≡ code.now) }
         ensures setup { IfOk result (λ k. k.parts.setup ≡ setup.now) }
         ensures seed { IfOk result (λ k. k.parts.seed ≡ seed) }
         ensures units { IfOk result (λ k. k.units ≡ 0) }
-        ensures stands { IfOk result (λ k. StandsFor k.parts (opening (plan_of B.filled B.owned k.parts))) }
-        ensures lawful { IfOk result (λ k. LawfulOf B.filled B.owned B.tell B.sound k.parts (opening (plan_of B.filled B.owned k.parts))) }
+        ensures stands { IfOk result (λ k. StandsForOpening B.body k.parts) }
+        ensures lawful { IfOk result (λ k. IsLawfulOpening B.body k.parts) }
     {
         let mut parts = Parts::<B>::blank(alloc, code, setup, seed)?;
         match parts.open(alloc, code, setup) {
@@ -63,7 +61,7 @@ impl<B: Body> Kernel<B> {
 
     /// Where the kernel stands.
     pub fn rest(&self) -> Rest
-        ensures { result ≡ rest_of self.now.parts.control self.now.parts.calendar.agenda }
+        ensures { result ≡ rest_in self.now.parts }
     {
         self.parts.rest_now()
     }
@@ -72,15 +70,15 @@ impl<B: Body> Kernel<B> {
     /// is taken first.
     pub fn unit(&mut self, code: &B::Code) -> Result<Unit, AllocError>
         requires code { code.now ≡ self.old.parts.code }
-        requires can { IsTrue (can_step (rest_of self.old.parts.control self.old.parts.calendar.agenda)) }
-        requires asks { AsksForBuilt (B.sound code.now) (B.turn code.now) }
+        requires can { CanStep self.old.parts }
+        requires asks { AsksForBuilt B.body code.now }
         requires units { self.old.units < 2 ^ 32 }
         // From each lawful state that it stood for, and by the invariant there is one.
-        ensures steps { IfOk result (λ unit. MakesStep B.filled B.owned B.tell B.sound (IsStep (plan_of B.filled B.owned self.old.parts) (B.turn code.now)) self.old.parts unit self.new.parts) }
+        ensures steps { IfOk result (λ unit. MakesStep B.body self.old.parts unit self.new.parts) }
 
         ensures opened { OnOk result (IsOpenedAs self.old.parts self.new.parts) }
         ensures units { OnOk result (self.new.units ≡ self.old.units + 1) }
-        ensures err { OnErr result (self.new ≡ record self.old { parts = record self.old.parts { room = self.new.parts.room } }) }
+        ensures err { OnErr result (IsAsBefore self.old self.new) }
     {
         self.parts.reserve()?;
         let unit = self.parts.unit(code);

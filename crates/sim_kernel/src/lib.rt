@@ -1,7 +1,6 @@
 //! The kernel: one unit of the machine at a time, for every body, over plain lists.
 #![tactic(auto)]
 
-mod agenda;
 mod calendar;
 #[cfg(test)]
 mod clock;

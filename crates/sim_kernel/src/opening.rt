@@ -1,18 +1,18 @@
-ghost use Rattle.std.specs.Prelude.{◌≡◌, ◌+◌, ◌*◌, ◌<◌, ◌≤◌, ◌^◌, pos, ◌≤ℤ◌, length, IfOk, OnOk, OnErr, IsTrue, fold, None};
+ghost use Rattle.std.specs.Prelude.{◌≡◌, ◌+◌, ◌*◌, ◌<◌, ◌≤◌, ◌^◌, pos, ◌≤ℤ◌, length, IfOk, OnOk, OnErr, IsTrue, None};
 ghost use Rattle.sim_machine.specs.Events.{next_event};
 ghost use Rattle.sim_machine.specs.Triggering.{make};
 ghost use Rattle.sim_machine.specs.Processes.{make_events_of_process};
 ghost use Rattle.sim_machine.specs.Scopes.{on_events};
-ghost use Rattle.sim_machine.specs.Runs.{blank_state, start_process, set_stop, opening};
+ghost use Rattle.sim_machine.specs.Runs.{blank_state, set_stop};
 ghost use Rattle.sim_machine.specs.Setups.{FitsCode, start_fits, until_fits};
 ghost use Rattle.sim_procs.specs.RecordOf.{record_of};
 ghost use Rattle.sim_kernel.specs.Built.{HasBuiltCallbacks};
 ghost use Rattle.sim_kernel.specs.CalendarOf.{HasRoom};
 ghost use Rattle.sim_kernel.specs.Same.{SameCalendar};
 ghost use Rattle.sim_kernel.specs.PartsOf.{IsOpenedAs, plan_of};
-ghost use Rattle.sim_kernel.specs.StandsFor.{StandsFor, StandsForSome};
+ghost use Rattle.sim_kernel.specs.StandsFor.{StandsFor, StandsForOpening};
 ghost use Rattle.sim_kernel.specs.Holding.{Holds};
-ghost use Rattle.sim_kernel.specs.Opening.{next_process, Begins, Becomes};
+ghost use Rattle.sim_kernel.specs.Opening.{next_process, Begins, IsOpening, Starts, HasMadeStarts, MakesProcess, MakesEvents, SchedulesOne, SetsStop, events_of_starts, KeepsButCalendar, KeepsButProcesses};
 
 use crate::calendar::Calendar;
 use crate::mode::Mode;
@@ -37,7 +37,7 @@ impl Calendar {
         requires high { self.old.calendar.time ≤ℤ pos (2 ^ 62) }
         ensures process { result.0 ≡ next_process self.old.calendar }
         ensures init { result.1 ≡ next_event (make EventKind.Process self.old.calendar) }
-        ensures calendar { SameCalendar self.new.calendar (make_events_of_process self.old.calendar) }
+        ensures calendar { MakesProcess self.old.calendar self.new.calendar }
     {
         let event = self.make(EventKind::Process);
         let process = ProcId(event.0);
@@ -73,7 +73,7 @@ impl<B: Body> Parts<B> {
         ensures code { IfOk result (λ p. p.code ≡ code.now) }
         ensures setup { IfOk result (λ p. p.setup ≡ setup.now) }
         ensures seed { IfOk result (λ p. p.seed ≡ seed) }
-        ensures stands { IfOk result (λ p. StandsFor p (blank_state (plan_of B.filled B.owned p))) }
+        ensures stands { IfOk result (λ p. StandsFor p (blank_state (plan_of B.body p))) }
     {
         let calendar = Calendar::opened(alloc, setup.events)?;
         let generator = Pcg64::seed_from_u64(seed);
@@ -101,7 +101,7 @@ impl<B: Body> Parts<B> {
         requires low { pos 0 ≤ℤ self.old.calendar.time }
         requires high { self.old.calendar.time ≤ℤ pos (2 ^ 62) }
         requires not_alive { record_of (next_process self.old.calendar) self.old.live ≡ None }
-        ensures { Begins (B.owned body (next_process self.old.calendar)) self.old self.new }
+        ensures { Begins (B.body.numbered body (next_process self.old.calendar)) self.old self.new }
     {
         let (process, init) = self.calendar.make_process();
         let mut body = body;
@@ -117,17 +117,18 @@ impl<B: Body> Parts<B> {
         start: &Start,
     ) -> Result<(), AllocError>
         requires code { code.now ≡ self.old.code }
-        requires setup { FitsCode (B.facts code.now) self.old.setup }
-        requires fits { IsTrue (start_fits (B.facts code.now) start.now) }
-        requires stands { StandsForSome B.filled B.owned B.tell B.sound self.old }
+        requires setup { FitsCode (B.body.facts code.now) self.old.setup }
+        requires fits { IsTrue (start_fits (B.body.facts code.now) start.now) }
+        requires opening { IsOpening self.old }
         requires events { length self.old.calendar.events < 2 ^ 62 }
         requires number { self.old.calendar.scheduled < 2 ^ 62 }
-        ensures kept { self.new ≡ record self.old { calendar = self.new.calendar; live = self.new.live; room = self.new.room } }
+        ensures kept { KeepsButProcesses self.old self.new }
         ensures err { OnErr result (self.new ≡ record self.old { room = self.new.room }) }
-        ensures becomes { OnOk result (Becomes B.filled B.owned B.tell B.sound (λ s. start_process (plan_of B.filled B.owned self.old) s start.now) self.old self.new) }
+        ensures starts { OnOk result (Starts B.body start.now self.old self.new) }
+        ensures opening { OnOk result (IsOpening self.new) }
         ensures built { OnOk result (HasBuiltCallbacks self.old → HasBuiltCallbacks self.new) }
-        ensures events { OnOk result (length self.new.calendar.events ≡ length self.old.calendar.events + 2) }
-        ensures scheduled { OnOk result (self.new.calendar.scheduled ≡ self.old.calendar.scheduled + 1) }
+        ensures events { OnOk result (MakesEvents 2 self.old.calendar self.new.calendar) }
+        ensures scheduled { OnOk result (SchedulesOne self.old.calendar self.new.calendar) }
     {
         self.calendar.reserve(2)?;
         self.processes.reserve()?;
@@ -142,9 +143,9 @@ impl<B: Body> Parts<B> {
         requires fits { IsTrue (until_fits self.old.setup.events until) }
         requires number { self.old.calendar.scheduled < 2 ^ 62 }
         requires at_start { self.old.calendar.time ≡ pos 0 }
-        ensures kept { self.new ≡ record self.old { calendar = self.new.calendar; room = self.new.room } }
+        ensures kept { KeepsButCalendar self.old self.new }
         ensures err { OnErr result (self.new ≡ record self.old { room = self.new.room }) }
-        ensures calendar { OnOk result (SameCalendar self.new.calendar (set_stop until self.old.calendar)) }
+        ensures calendar { OnOk result (SetsStop until self.old.calendar self.new.calendar) }
     {
         self.calendar.reserve(1)?;
         match until {
@@ -159,12 +160,12 @@ impl<B: Body> Parts<B> {
     fn start_all(&mut self, alloc: Global, code: &B::Code, setup: &Setup) -> Result<(), AllocError>
         requires code { code.now ≡ self.old.code }
         requires setup { setup.now ≡ self.old.setup }
-        requires fits { FitsCode (B.facts code.now) setup.now }
-        requires blank { StandsFor self.old (blank_state (plan_of B.filled B.owned self.old)) }
-        ensures kept { self.new ≡ record self.old { calendar = self.new.calendar; live = self.new.live; room = self.new.room } }
-        ensures stands { OnOk result (StandsFor self.new (fold (start_process (plan_of B.filled B.owned self.old)) (blank_state (plan_of B.filled B.owned self.old)) self.old.setup.starts)) }
+        requires fits { FitsCode (B.body.facts code.now) setup.now }
+        requires blank { StandsFor self.old (blank_state (plan_of B.body self.old)) }
+        ensures kept { KeepsButProcesses self.old self.new }
+        ensures stands { OnOk result (HasMadeStarts B.body self.old self.new) }
         ensures built { OnOk result (HasBuiltCallbacks self.new) }
-        ensures events { OnOk result (length self.new.calendar.events ≡ setup.now.events + 1 + 2 * length setup.now.starts) }
+        ensures events { OnOk result (length self.new.calendar.events ≡ events_of_starts setup.now) }
         ensures scheduled { OnOk result (self.new.calendar.scheduled ≡ length setup.now.starts) }
     {
         for start in setup.starts.as_slice() {
@@ -182,11 +183,11 @@ impl<B: Body> Parts<B> {
     ) -> Result<(), AllocError>
         requires code { code.now ≡ self.old.code }
         requires setup { setup.now ≡ self.old.setup }
-        requires fits { FitsCode (B.facts code.now) setup.now }
-        requires blank { StandsFor self.old (blank_state (plan_of B.filled B.owned self.old)) }
+        requires fits { FitsCode (B.body.facts code.now) setup.now }
+        requires blank { StandsFor self.old (blank_state (plan_of B.body self.old)) }
         ensures opened { IsOpenedAs self.old self.new }
-        ensures stands { OnOk result (StandsFor self.new (opening (plan_of B.filled B.owned self.new))) }
-        ensures holds { OnOk result (Holds B.filled B.owned B.tell B.sound 0 self.new) }
+        ensures stands { OnOk result (StandsForOpening B.body self.new) }
+        ensures holds { OnOk result (Holds B.body 0 self.new) }
     {
         self.start_all(alloc, code, setup)?;
         self.set_stop(setup.until)

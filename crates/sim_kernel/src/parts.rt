@@ -1,21 +1,14 @@
-ghost use Rattle.std.specs.Prelude.{◌≡◌, ◌≢◌, ℕ, ◌+◌, ◌<◌, ◌≤◌, ◌^◌, pos, ◌≤ℤ◌, int_lt, IsTrue, IsFalse, IsSome, IsSomeAnd, List, [], ◌∷◌, length, OnOk, if◌then◌else◌};
-ghost use Rattle.sim_types.specs.declared.event.EventId.{EventId};
-ghost use Rattle.sim_types.specs.declared.event.Callback.{Callback};
-ghost use Rattle.sim_machine.specs.State.{Idle, Calling, Active, Over};
-ghost use Rattle.sim_machine.specs.Events.{event_at, is_fail};
-ghost use Rattle.sim_machine.specs.Processes.{defuse_failed, told_more, not_active};
-ghost use Rattle.rand_pcg.specs.Pcg.{pcg64};
-ghost use Rattle.sim_machine.specs.Effect.{drawn_number};
-ghost use Rattle.sim_machine.specs.Standing.{left_of};
-ghost use Rattle.sim_machine.specs.Triggering.{is_too_late};
+ghost use Rattle.std.specs.Prelude.{◌≡◌, ◌≢◌, ◌<◌, ◌^◌, pos, ◌≤ℤ◌, int_lt, IsTrue, IsFalse, IsSome, IsSomeAnd, [], length, OnOk};
+ghost use Rattle.sim_types.specs.Throws.{negative_delay, time_too_late, empty_range};
+ghost use Rattle.sim_machine.specs.State.{Idle, Calling};
+ghost use Rattle.sim_machine.specs.Processes.{not_active};
 ghost use Rattle.sim_procs.specs.RecordOf.{record_of};
 ghost use Rattle.sim_kernel.specs.Built.{AsksForBuilt, is_built, HasBuiltCallbacks};
 ghost use Rattle.sim_kernel.specs.CalendarOf.{HasRoom};
-ghost use Rattle.sim_kernel.specs.Resting.{can_step, rest_of};
+ghost use Rattle.sim_kernel.specs.Resting.{CanStep, rest_in};
 ghost use Rattle.sim_kernel.specs.Polling.{Asks, Pauses, Ends};
-ghost use Rattle.sim_machine.specs.Steps.{IsStep, signal_by};
-ghost use Rattle.sim_types.specs.declared.line.End.TheVariants as end;
-ghost use Rattle.sim_kernel.specs.PartsOf.{HasUnitRoom, IsOpenedAs, IsCalling, IsRunning, IsRunningIn, IsRunningAt, is_unhandled, plan_of};
+ghost use Rattle.sim_kernel.specs.PartsOf.{HasUnitRoom, IsOpenedAs, IsCalling, IsRunning, IsRunningIn, IsRunningAt};
+ghost use Rattle.sim_kernel.specs.Changes.{settled_to, stopping, resuming, telling, drawing, IfNegative, IfTooLate, IfInTime};
 ghost use Rattle.sim_kernel.specs.StandsFor.{StandsForSome, Moves};
 
 use crate::calendar::Calendar;
@@ -25,13 +18,13 @@ use rand_core::utils::NextWord;
 use rand_pcg::Pcg64;
 use sim_memo::Memo;
 use sim_procs::{Body, Procs};
-use sim_types::{Callback, End, EventId, EventKind, Line, Op, Outcome, ProcId, Setup, Signal};
+use sim_types::{
+    Callback, EMPTY_RANGE, End, EventId, EventKind, LAST_TIME, Line, NEGATIVE_DELAY, Op, Outcome,
+    ProcId, Setup, Signal, TIME_TOO_LATE,
+};
 use std::alloc::AllocError;
 use std::collections::VecDeque;
 use std::marker::Model;
-
-/// The last time.
-const LAST_TIME: i64 = 4_611_686_018_427_387_904;
 
 /// The priority of what comes after all that is urgent at a time.
 const NORMAL: u8 = 1;
@@ -72,12 +65,12 @@ impl<B: Body> Parts<B> {
 
     /// Pops the event that is due.
     fn pop(&mut self) -> Unit
-        requires stands { StandsForSome B.filled B.owned B.tell B.sound self.old }
+        requires stands { StandsForSome B.body self.old }
         requires idle { self.old.control ≡ Idle }
         requires due { self.old.calendar.agenda ≢ [] }
         requires room { HasUnitRoom self.old }
         requires number { self.old.processed < 2 ^ 62 }
-        ensures moves { Moves B.filled B.owned B.tell B.sound (IsStep (plan_of B.filled B.owned self.old) (B.turn self.old.code)) self.old result self.new }
+        ensures moves { Moves B.body self.old result self.new }
         ensures opened { IsOpenedAs self.old self.new }
     {
         match self.calendar.pop(&mut self.left) {
@@ -94,7 +87,7 @@ impl<B: Body> Parts<B> {
     fn settle(&mut self, event: EventId)
         requires done { self.old.control ≡ Calling event [] }
         requires made { event.0 < length self.old.calendar.events }
-        ensures { self.new ≡ record self.old { control = if is_unhandled event self.old.calendar then Over end.Crash event [] else Idle } }
+        ensures { self.new ≡ record self.old { control = settled_to event self.old.calendar } }
     {
         self.mode = if self.calendar.is_unhandled(event) {
             Mode::Over(End::Crash, event)
@@ -107,7 +100,7 @@ impl<B: Body> Parts<B> {
     fn stop(&mut self, event: EventId)
         requires calling { IsCalling event self.old.control }
         requires made { event.0 < length self.old.calendar.events }
-        ensures { self.new ≡ record self.old { control = Over (if is_fail (event_at self.old.calendar event).outcome then end.Crash else end.Until) event (left_of self.old.control) } }
+        ensures { self.new ≡ stopping event self.old }
     {
         let why = if self.calendar.is_failed(event) {
             End::Crash
@@ -121,7 +114,7 @@ impl<B: Body> Parts<B> {
     fn resume(&mut self, event: EventId, process: ProcId)
         requires calling { IsCalling event self.old.control }
         requires made { event.0 < length self.old.calendar.events }
-        ensures { self.new ≡ record self.old { calendar = defuse_failed event self.old.calendar; control = Active event (left_of self.old.control) process (signal_by (event_at self.old.calendar event).kind (event_at self.old.calendar event).outcome) } }
+        ensures { self.new ≡ resuming event process self.old }
     {
         let told = self.calendar.signal_by(event);
         self.calendar.defuse_failed(event);
@@ -130,10 +123,10 @@ impl<B: Body> Parts<B> {
 
     // Calls the first callback that is left, or settles the event where none is.
     fn call(&mut self, event: EventId)
-        requires stands { StandsForSome B.filled B.owned B.tell B.sound self.old }
+        requires stands { StandsForSome B.body self.old }
         requires calling { IsCalling event self.old.control }
         requires built { HasBuiltCallbacks self.old }
-        ensures moves { Moves B.filled B.owned B.tell B.sound (IsStep (plan_of B.filled B.owned self.old) (B.turn self.old.code)) self.old Unit.Quiet self.new }
+        ensures moves { Moves B.body self.old Unit.Quiet self.new }
         ensures opened { IsOpenedAs self.old self.new }
     {
         match self.left.pop_front() {
@@ -147,7 +140,7 @@ impl<B: Body> Parts<B> {
     // The running process goes on, and is told this.
     fn tell(&mut self, event: EventId, process: ProcId, told: Signal)
         requires running { IsRunningIn event process self.old.control }
-        ensures { self.new ≡ record self.old { control = told_more told self.old.control } }
+        ensures { self.new ≡ telling told self.old }
     {
         self.mode = Mode::Active(event, process, told);
     }
@@ -168,15 +161,15 @@ impl<B: Body> Parts<B> {
         requires number { self.old.calendar.scheduled < 2 ^ 62 }
         requires low { pos 0 ≤ℤ self.old.calendar.time }
         requires high { self.old.calendar.time ≤ℤ pos (2 ^ 62) }
-        ensures negative { IsTrue (int_lt delay (pos 0)) → self.new ≡ record self.old { control = told_more (Signal.Raised 1) self.old.control } }
-        ensures late { IsFalse (int_lt delay (pos 0)) → IsTrue (is_too_late delay self.old.calendar) → self.new ≡ record self.old { control = told_more (Signal.Raised 9) self.old.control } }
-        ensures made { IsFalse (int_lt delay (pos 0)) → IsFalse (is_too_late delay self.old.calendar) → Pauses process delay value self.old self.new }
+        ensures negative { IfNegative delay (self.new ≡ telling (Signal.Raised negative_delay) self.old) }
+        ensures late { IfTooLate delay self.old (self.new ≡ telling (Signal.Raised time_too_late) self.old) }
+        ensures made { IfInTime delay self.old (Pauses process delay value self.old self.new) }
         ensures opened { IsOpenedAs self.old self.new }
     {
         if delay < 0 {
-            self.tell(event, process, Signal::Raised(1));
+            self.tell(event, process, Signal::Raised(NEGATIVE_DELAY));
         } else if delay > LAST_TIME - self.calendar.time() {
-            self.tell(event, process, Signal::Raised(9));
+            self.tell(event, process, Signal::Raised(TIME_TOO_LATE));
         } else {
             let timeout = self.calendar.make(EventKind::Timeout);
             self.calendar
@@ -190,12 +183,12 @@ impl<B: Body> Parts<B> {
     // The running process draws a number of a range, unless the range is empty.
     fn draw(&mut self, event: EventId, process: ProcId, lo: i64, hi: i64)
         requires running { IsRunningIn event process self.old.control }
-        ensures empty { IsTrue (int_lt hi lo) → self.new ≡ record self.old { control = told_more (Signal.Raised 8) self.old.control } }
-        ensures drawn { IsFalse (int_lt hi lo) → self.new ≡ record self.old { generator = (pcg64 self.old.generator).1; control = told_more (Signal.Number (drawn_number (pcg64 self.old.generator).0 lo hi)) self.old.control } }
+        ensures empty { IsTrue (int_lt hi lo) → self.new ≡ telling (Signal.Raised empty_range) self.old }
+        ensures drawn { IsFalse (int_lt hi lo) → self.new ≡ drawing lo hi self.old }
         ensures opened { IsOpenedAs self.old self.new }
     {
         if hi < lo {
-            self.tell(event, process, Signal::Raised(8));
+            self.tell(event, process, Signal::Raised(EMPTY_RANGE));
         } else {
             let word = self.generator.next_word();
             self.tell(event, process, Signal::Number(number_between(word, lo, hi)));
@@ -226,11 +219,11 @@ impl<B: Body> Parts<B> {
     // Polls the running process: it is told this, and asks for an operation, which is built.
     fn ask(&mut self, code: &B::Code, event: EventId, process: ProcId, told: Signal) -> Op
         requires code { code.now ≡ self.old.code }
-        requires stands { StandsForSome B.filled B.owned B.tell B.sound self.old }
+        requires stands { StandsForSome B.body self.old }
         requires running { IsRunning event process told self.old.control }
-        requires built { AsksForBuilt (B.sound code.now) (B.turn code.now) }
+        requires built { AsksForBuilt B.body code.now }
         requires events { length self.old.calendar.events < 2 ^ 62 }
-        ensures asked { Asks (B.turn self.old.code) process told self.old result self.new }
+        ensures asked { Asks B.body process told self.old result self.new }
         ensures built { IsTrue (is_built result) }
         ensures opened { IsOpenedAs self.old self.new }
     {
@@ -242,13 +235,13 @@ impl<B: Body> Parts<B> {
     #[tactic(auto, using(crate::proofs::Opened::opened_then))]
     fn poll(&mut self, code: &B::Code, event: EventId, process: ProcId, told: Signal) -> Unit
         requires code { code.now ≡ self.old.code }
-        requires stands { StandsForSome B.filled B.owned B.tell B.sound self.old }
+        requires stands { StandsForSome B.body self.old }
         requires running { IsRunning event process told self.old.control }
-        requires built { AsksForBuilt (B.sound code.now) (B.turn code.now) }
+        requires built { AsksForBuilt B.body code.now }
         requires room { HasRoom 1 self.old.room.calendar }
         requires events { length self.old.calendar.events < 2 ^ 62 }
         requires number { self.old.calendar.scheduled < 2 ^ 62 }
-        ensures moves { Moves B.filled B.owned B.tell B.sound (IsStep (plan_of B.filled B.owned self.old) (B.turn self.old.code)) self.old result self.new }
+        ensures moves { Moves B.body self.old result self.new }
         ensures opened { IsOpenedAs self.old self.new }
     {
         match self.ask(code, event, process, told) {
@@ -273,7 +266,7 @@ impl<B: Body> Parts<B> {
 
     /// Where the kernel stands.
     pub(crate) fn rest_now(&self) -> Rest
-        ensures { result ≡ rest_of self.now.control self.now.calendar.agenda }
+        ensures { result ≡ rest_in self.now }
     {
         match self.mode {
             Mode::Idle if self.calendar.is_empty() => Rest::Empty,
@@ -286,15 +279,15 @@ impl<B: Body> Parts<B> {
     /// One unit: an event is popped, a callback is called, an event is settled, or a process is polled.
     pub(crate) fn unit(&mut self, code: &B::Code) -> Unit
         requires code { code.now ≡ self.old.code }
-        requires stands { StandsForSome B.filled B.owned B.tell B.sound self.old }
-        requires can { IsTrue (can_step (rest_of self.old.control self.old.calendar.agenda)) }
-        requires asks { AsksForBuilt (B.sound code.now) (B.turn code.now) }
+        requires stands { StandsForSome B.body self.old }
+        requires can { CanStep self.old }
+        requires asks { AsksForBuilt B.body code.now }
         requires built { HasBuiltCallbacks self.old }
         requires room { HasUnitRoom self.old }
         requires events { length self.old.calendar.events < 2 ^ 62 }
         requires scheduled { self.old.calendar.scheduled < 2 ^ 62 }
         requires processed { self.old.processed < 2 ^ 62 }
-        ensures moves { Moves B.filled B.owned B.tell B.sound (IsStep (plan_of B.filled B.owned self.old) (B.turn self.old.code)) self.old result self.new }
+        ensures moves { Moves B.body self.old result self.new }
         ensures opened { IsOpenedAs self.old self.new }
     {
         match self.mode {

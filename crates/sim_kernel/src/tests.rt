@@ -28,7 +28,7 @@ fn lines_of_units<B: Body>(
     limit: u32,
 ) -> Result<Vec<Line>, AllocError>
     requires code { code.now ≡ kernel.old.parts.code }
-    requires asks { AsksForBuilt (B.sound code.now) (B.turn code.now) }
+    requires asks { AsksForBuilt B.body code.now }
     requires units { kernel.old.units ≡ 0 }
 {
     let mut lines = Vec::new(alloc);
@@ -60,8 +60,8 @@ fn lines_of_run<B: Body>(
     seed: u64,
     limit: u32,
 ) -> Result<Vec<Line>, AllocError>
-    requires fits { FitsCode (B.facts code.now) setup.now }
-    requires asks { AsksForBuilt (B.sound code.now) (B.turn code.now) }
+    requires fits { FitsCode (B.body.facts code.now) setup.now }
+    requires asks { AsksForBuilt B.body code.now }
 {
     let mut kernel = Kernel::<B>::new(alloc, code, setup, seed)?;
     let lines = lines_of_units(alloc, &mut kernel, code, limit);

@@ -1,8 +1,9 @@
 //! Travellers: bodies for tests.
 ghost use Rattle.std.specs.Prelude.{◌≡◌, [], ◌∷◌, IsTrue, pos, slice_index_or};
-ghost use Rattle.sim_machine.proofs.PlainBodies.{is_plain};
+ghost use Rattle.sim_machine_law.proofs.PlainBodies.{is_plain};
 ghost use Rattle.sim_kernel.specs.Travellers.{heard};
 
+use sim_machine::LawfulBody;
 use sim_procs::Body;
 use sim_types::{Args, EventId, Op, ProcId, Signal, Throw};
 use std::alloc::{AllocError, Global};
@@ -30,29 +31,21 @@ impl Model for Traveller {
     ghost view = { λ a. record { own = a.own; kind = a.kind; first = a.first; second = a.second; last = a.last } };
 }
 
-impl Body for Traveller {
-    ghost use Rattle.std.specs.Prelude.{[], refl};
-    ghost use Rattle.std.proofs.Common.{lit≤};
-    ghost use Rattle.sim_machine.proofs.PlainBodies.{IsPlainBody};
-    ghost use Rattle.sim_kernel.specs.Travellers.{filled_traveller, owned_traveller, IsTravellerTurn, traveller_tells, traveller_facts, traveller_lawful};
+impl LawfulBody for Traveller {
+    ghost use Rattle.sim_kernel.specs.Travellers.{traveller_body, traveller_lawful};
 
     type Code = Land;
 
-    ghost filled = { λ code. filled_traveller };
+    ghost body = { traveller_body };
 
-    ghost owned = { owned_traveller };
+    ghost lawful = { traveller_lawful };
+}
 
-    ghost turn = { λ code. IsTravellerTurn };
+impl Body for Traveller {
+    ghost use Rattle.std.specs.Prelude.{[], refl};
+    ghost use Rattle.std.proofs.Common.{lit≤};
 
-    ghost tell = { λ code. traveller_tells };
-
-    ghost facts = { λ code. traveller_facts };
-
-    ghost sound = { λ code. IsPlainBody (λ b. b.last) };
-
-    ghost held = { λ b. [] };
-
-    ghost lawful = { λ code. traveller_lawful };
+    ghost events_held = { λ b. [] };
 
     ghost places = { λ code b sound. refl };
 

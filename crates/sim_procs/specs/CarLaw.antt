@@ -8,8 +8,9 @@ use Rattle.sim_types.specs.declared.op.Op.{Op}
 use Rattle.sim_types.specs.declared.op.Op.TheVariants as op
 use Rattle.sim_machine.specs.MayFollow.{may_be_told, is_enter}
 use Rattle.sim_machine.specs.MayAsk.{may_ask}
+use Rattle.sim_machine.specs.Bodies.{start_of}
 use Rattle.sim_machine.specs.BodyLaw.{scopes_told, scopes_asked, IsLawfulPoll, IsLawfulBody}
-use Rattle.sim_procs.specs.Cars.{CarOf, road_facts, car_tells, car_filled, next_of, IsCarTurn}
+use Rattle.sim_procs.specs.Cars.{CarOf, road_facts, car_tells, car_body, next_of, IsCarTurn}
 
 -- what a car asks for next, once it was told x, is in order
 abbrev IsInOrder : ProcId → Option Op → Signal → Op → Type 0
@@ -52,11 +53,8 @@ car_poll b time x asked d told turned =
     let P : CarOf → Type 0 = λ c. IsLawfulPoll road_facts car_tells b x asked c in
     subst P (sym turned.1) (record { asks = order.0; own = refl; places = refl; one_place = omega arith; scopes = order.1; last = refl })
 
-abbrev car_start : ℕ → List ℤ → ProcId → CarOf
-car_start kind args id = record (car_filled kind args) { own = id }
-
-pub car_lawful : IsLawfulBody road_facts car_tells (λ b. Unit {0}) car_start IsCarTurn
-car_lawful = record {
+pub car_lawful : {Code : Type 0} (code : Code) → IsLawfulBody road_facts car_tells (λ b. Unit {0}) (start_of car_body code) IsCarTurn
+car_lawful code = record {
   starts = λ kind args id fits. record { own = refl; places = refl; scopes = refl; last = refl };
   begins = λ kind args id fits. tt;
   polls = λ b time x asked d sound told turned. car_poll b time x asked d told turned;

@@ -1,10 +1,11 @@
-ghost use Rattle.std.specs.Prelude.{◌≡◌, ◌<◌, IfOk, IsTrue, pos, slice_index_or, []};
+ghost use Rattle.std.specs.Prelude.{◌≡◌, ◌<◌, IfOk, pos, []};
+ghost use Rattle.sim_machine.specs.Bodies.{start_of};
+ghost use Rattle.sim_machine.specs.NumberBounds.{most_events};
+ghost use Rattle.sim_procs.specs.Premises.{CanBegin, CanBeTold};
 ghost use Rattle.sim_procs.specs.RecordOf.{record_of};
-ghost use Rattle.sim_machine.specs.MayFollow.{may_be_told};
-ghost use Rattle.sim_machine.specs.BodyLaw.{may_begin};
-ghost use Rattle.sim_machine.specs.NumberBounds.{most_events, tells_within_bound, arguments_within_bound};
 
 use crate::{Body, ProcRecord, Procs};
+use sim_machine::LawfulBody;
 use sim_types::{Args, EventId, Op, ProcId, Scope, Signal};
 use std::alloc::{AllocError, Global};
 use std::marker::Model;
@@ -31,29 +32,22 @@ impl Model for Car {
     ghost view = { λ a. record { own = a.own; charges = a.charges; last = a.last } };
 }
 
-impl Body for Car {
-    ghost use Rattle.std.specs.Prelude.{[], refl};
-    ghost use Rattle.std.proofs.Common.{lit≤};
-    ghost use Rattle.sim_procs.specs.Cars.{road_facts, car_tells, car_filled, IsCarTurn};
+impl LawfulBody for Car {
+    ghost use Rattle.sim_procs.specs.Cars.{car_body};
     ghost use Rattle.sim_procs.specs.CarLaw.{car_lawful};
 
     type Code = Road;
 
-    ghost filled = { λ code kind args. car_filled kind args };
+    ghost body = { car_body };
 
-    ghost owned = { λ b id. record b { own = id } };
+    ghost lawful = { car_lawful };
+}
 
-    ghost turn = { λ code. IsCarTurn };
+impl Body for Car {
+    ghost use Rattle.std.specs.Prelude.{[], refl};
+    ghost use Rattle.std.proofs.Common.{lit≤};
 
-    ghost tell = { λ code. car_tells };
-
-    ghost facts = { λ code. road_facts };
-
-    ghost sound = { λ code b. Unit {0} };
-
-    ghost held = { λ b. [] };
-
-    ghost lawful = { λ code. car_lawful };
+    ghost events_held = { λ b. [] };
 
     ghost places = { λ code b sound. refl };
 
@@ -105,10 +99,9 @@ impl Body for Car {
 
 // A body of this kind as it starts, by the trait alone.
 fn started<B: Body>(alloc: Global, code: &B::Code, kind: u32, id: ProcId) -> Result<B, AllocError>
-    requires fits { IsTrue (may_begin (B.facts code.now) kind []) }
-    requires arguments { IsTrue (arguments_within_bound (slice_index_or (B.facts code.now).params kind []) []) }
+    requires can { CanBegin (B.body.facts code.now) kind [] }
     requires bound { id.0 < most_events }
-    ensures { IfOk result (λ body. body ≡ B.owned (B.filled code.now kind []) id) }
+    ensures { IfOk result (λ b. b ≡ start_of B.body code.now kind [] id) }
 {
     let mut body = B::blank(alloc, code)?;
     body.fill(code, kind, Args::new());
@@ -118,10 +111,8 @@ fn started<B: Body>(alloc: Global, code: &B::Code, kind: u32, id: ProcId) -> Res
 
 // One poll at time 0, by the trait alone.
 fn polled<B: Body>(body: &mut B, code: &B::Code, signal: Signal) -> Op
-    requires sound { B.sound code.now body.old }
-    requires told { IsTrue (may_be_told ((B.tell code.now).last body.old) signal) }
-    requires bound { IsTrue (tells_within_bound signal) }
-    ensures { B.turn code.now body.old (pos 0) signal result body.new }
+    requires { CanBeTold B.body code.now body.old signal }
+    ensures { B.body.turn code.now body.old (pos 0) signal result body.new }
 {
     body.poll(code, 0, signal)
 }

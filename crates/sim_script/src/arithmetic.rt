@@ -1,15 +1,10 @@
 //! What `let` computes.
 ghost use Rattle.std.specs.Prelude.{◌≡◌, pos, ok_or, if◌then◌else◌};
+ghost use Rattle.sim_types.specs.Throws.{overflow, zero_divisor};
 ghost use Rattle.sim_script_model.specs.Arithmetic.{compute, is_equal};
 ghost use Rattle.sim_script.specs.Kept.{answer_of};
 
-use sim_types::Arith;
-
-/// The error of a result that is out of range.
-const OVERFLOW: u8 = 6;
-
-/// The error of a division by 0.
-const ZERO_DIVISOR: u8 = 7;
+use sim_types::{Arith, OVERFLOW, ZERO_DIVISOR};
 
 /// What the operation gives for two numbers: a number, or the number of an error.
 pub(crate) fn compute(op: Arith, a: i64, b: i64) -> Result<i64, u8>
@@ -32,7 +27,7 @@ pub(crate) fn compute(op: Arith, a: i64, b: i64) -> Result<i64, u8>
 
 /// The answer of a division by this divisor.
 fn divided(number: Option<i64>, divisor: i64) -> Result<i64, u8>
-    ensures { result ≡ ok_or number (if is_equal divisor (pos 0) then 7 else 6) }
+    ensures { result ≡ ok_or number (if is_equal divisor (pos 0) then zero_divisor else overflow) }
 {
     let error = if divisor == 0 { ZERO_DIVISOR } else { OVERFLOW };
     number.ok_or(error)

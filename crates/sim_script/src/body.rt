@@ -1,32 +1,27 @@
 //! Scripts as the bodies of processes.
 use crate::script::Script;
-use sim_code::Scenario;
+use sim_machine::LawfulBody;
 use sim_procs::Body;
+use sim_scenario::Scenario;
 use sim_types::{Args, EventId, Op, ProcId, Signal};
 use std::alloc::{AllocError, Global};
 
-impl Body for Script {
-    ghost use Rattle.sim_script_law.specs.ScriptMembers.{filled_script, owned_script, IsScriptTurn, script_tells, script_facts, script_holds};
-    ghost use Rattle.sim_script_law.specs.SoundScripts.{IsSoundScript};
-    ghost use Rattle.sim_script_law.proofs.ScriptLaw.{script_lawful, script_has_places, script_has_few_places};
+impl LawfulBody for Script {
+    ghost use Rattle.sim_script_law.specs.ScriptMembers.{script_body};
+    ghost use Rattle.sim_script_law.proofs.ScriptLaw.{script_lawful};
 
     type Code = Scenario;
 
-    ghost filled = { filled_script };
-
-    ghost owned = { owned_script };
-
-    ghost turn = { IsScriptTurn };
-
-    ghost tell = { script_tells };
-
-    ghost facts = { script_facts };
-
-    ghost sound = { IsSoundScript };
-
-    ghost held = { script_holds };
+    ghost body = { script_body };
 
     ghost lawful = { script_lawful };
+}
+
+impl Body for Script {
+    ghost use Rattle.sim_script_law.specs.ScriptMembers.{script_holds};
+    ghost use Rattle.sim_script_law.proofs.ScriptLaw.{script_has_places, script_has_few_places};
+
+    ghost events_held = { script_holds };
 
     ghost places = { script_has_places };
 

@@ -10,12 +10,9 @@ use crate::frames::{Frame, Frames};
 use crate::mode::Mode;
 use sim_memo::Memo;
 use sim_types::{
-    Class, Classes, EventId, Kind, Num, Op, ProcId, Ref, Signal, SpawnArg, Stmt, Throw,
+    Class, Classes, ERROR, EventId, Kind, Num, Op, ProcId, Ref, Signal, SpawnArg, Stmt, Throw,
 };
 use std::marker::Model;
-
-/// What is thrown for an error that a process made itself has this kind.
-const ERROR: u8 = 4;
 
 /// A process that does the statements of its kind.
 #[derive(Drop)]

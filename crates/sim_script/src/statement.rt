@@ -12,10 +12,7 @@ use crate::arithmetic::compute;
 use crate::frames::Frame;
 use crate::mode::Mode;
 use crate::script::Script;
-use sim_types::{Args, Members, Op, Refs, SpawnArgs, Stmt, Throw};
-
-/// What `raise` throws has this kind.
-const FAILURE: u8 = 3;
+use sim_types::{Args, FAILURE, Members, Op, Refs, SpawnArgs, Stmt, Throw};
 
 impl Script {
     /// Does a statement. The script stands behind it already.

@@ -1,9 +1,9 @@
 use Rattle.std.proofs.Common.{length}
-use Rattle.sim_kernel.proofs.Due.{taken_made}
+use Rattle.sim_kernel.proofs.Calendars.{taken_made}
 use Rattle.sim_kernel.proofs.calendar.Calendar.pop.Goals as goal
 
 pub process-kind-requires : goal.process-kind-requires
 process-kind-requires c =
     record {
-      made = taken_made (length c.self.inside.events.items) c.self.inside.agenda.items c.take_first.new.agenda.items c.in_ok-key.field-0 c.in_ok-key.ensures (rw (← c.self.view_is) at c.requires.made);
+      made = taken_made (length c.self.inside.events.items) c.self.inside.agenda.entries c.pop.new.self.entries c.in_ok-key.field-0 c.in_ok-key.ensures.due (rw (← c.self.view_is) at c.requires.made);
     }

@@ -8,10 +8,10 @@ use Rattle.sim_kernel.proofs.calendar.Calendar.schedule.Goals as goal
 
 pub returns-clause-calendar : goal.returns-clause-calendar
 returns-clause-calendar c =
-    let inside : Calendar = record { time = c.self.inside.time; scheduled = c.self.inside.scheduled; agenda = c.self.inside.agenda.items; events = c.self.inside.events.items; registered = c.self.inside.registered.items } in
+    let inside : Calendar = record { time = c.self.inside.time; scheduled = c.self.inside.scheduled; agenda = c.self.inside.agenda.entries; events = c.self.inside.events.items; registered = c.self.inside.registered.items } in
     let low : pos 0 ≤ℤ inside.time = rw (← c.self.view_is) at c.requires.low in
     let high : (inside.time +ℤ c.args.delay) ≤ℤ pos (2 ^ 62) = rw (← c.self.view_is) at c.requires.high in
     let a : FitsSigned w64 inside.time = search rules in
     let b : FitsSigned w64 c.args.delay = search rules in
     let time = sum_kept inside.time c.args.delay a b (time_fits inside.time c.args.delay low c.requires.not_past high) in
-    rw (← c.self.view_is) (schedule_same inside c.args.event c.args.outcome c.args.priority c.args.delay _ c.index_mut.result.now c.trigger.new.self c.push_reserved.new.self.items time (rw c.new-key.ensures at c.push_reserved.ensures.items) (c.index_mut.ensures.value ∙ changed_at inside.events c.args.event.0 c.index_mut.result.now (pending_event kind.Plain) (rw (← c.self.view_is) at c.requires.made)) c.trigger.ensures)
+    rw (← c.self.view_is) (schedule_same inside c.args.event c.args.outcome c.args.priority c.args.delay _ c.index_mut.result.now c.trigger.new.self c.insert.new.self.entries time (rw c.new-key.ensures at c.insert.ensures.entries) (c.index_mut.ensures.value ∙ changed_at inside.events c.args.event.0 c.index_mut.result.now (pending_event kind.Plain) (rw (← c.self.view_is) at c.requires.made)) c.trigger.ensures)

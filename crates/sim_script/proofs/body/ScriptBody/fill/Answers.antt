@@ -1,16 +1,16 @@
 use Rattle.std.proofs.Common.{◌≡◌, get_or}
 use Rattle.sim_script_law.proofs.Starts.{has_kind, few_arguments}
-use Rattle.sim_script.proofs.Filling.{filled}
+use Rattle.sim_script.proofs.Filling.{begun}
 use Rattle.sim_script.proofs.body.ScriptBody.fill.Goals as goal
 
 pub bounds-kinds-kind : goal.bounds-kinds-kind
 bounds-kinds-kind c = rw c.kinds.ensures (has_kind c.args.code.now c.args.kind c.args.args c.requires.fits)
 
 pub begin-requires : goal.begin-requires
-begin-requires c = rw c.as_slice.ensures (few_arguments c.args.code.now c.args.kind c.args.args c.requires.fits)
+begin-requires c = rw c.as_slice.ensures.values (few_arguments c.args.code.now c.args.kind c.args.args c.requires.fits)
 
 pub returns : goal.returns
 returns c =
     let lt = has_kind c.args.code.now c.args.kind c.args.args c.requires.fits in
     let is : c.index-kinds-kind.result ≡ get_or c.args.code.now.kinds c.args.kind c.index-kinds-kind.result = rw (← c.kinds.ensures) c.index-kinds-kind.is in
-    rw (c.begin.ensures, c.as_slice.ensures) (filled c.args.code.now c.args.kind c.args.args c.index-kinds-kind.result lt is)
+    rw (c.begin.ensures, c.as_slice.ensures.values) (begun c.args.code.now c.args.kind c.args.args c.index-kinds-kind.result lt is)

@@ -1,7 +1,7 @@
 use Rattle.std.proofs.Common.{ℕ, ◌<◌, ◌≤◌, slice_index_or}
 use Rattle.sim_types.specs.Keys.{IsLess}
 use Rattle.sim_types.specs.declared.event.Entry.{Entry}
-use Rattle.sim_kernel.proofs.agenda.first_place.Given as goal
+use Rattle.sim_agenda.proofs.agenda.first_place.Given as goal
 
 -- none of those looked at comes before the first
 abbrev pub invariant-loop-at : goal.invariant-loop-at
@@ -9,5 +9,5 @@ invariant-loop-at l =
     record {
       within : l.first < l.at;
       count : l.count ≤ l.at;
-      first : (k : ℕ) (d : Entry) → k < l.at → ¬ IsLess (slice_index_or l.agenda k d).key (slice_index_or l.agenda l.first d).key;
+      first : (k : ℕ) (d : Entry) → k < l.at → ¬ IsLess (slice_index_or l.entries k d).key (slice_index_or l.entries l.first d).key;
     }

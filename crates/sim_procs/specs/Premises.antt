@@ -1,0 +1,24 @@
+-- What is to hold where a body begins and where it is polled, and the events that it remembers.
+use Rattle.std.specs.Prelude.{ℕ, ℤ, List, [], map, slice_index_or, IsTrue}
+use Rattle.sim_types.specs.declared.event.EventId.{EventId}
+use Rattle.sim_types.specs.declared.event.Signal.{Signal}
+use Rattle.sim_machine.specs.Tellings.{CodeFacts}
+use Rattle.sim_machine.specs.Bodies.{BodyOf}
+use Rattle.sim_machine.specs.BodyLaw.{may_begin}
+use Rattle.sim_machine.specs.MayFollow.{may_be_told}
+use Rattle.sim_machine.specs.NumberBounds.{arguments_within_bound, tells_within_bound}
+
+-- the events in the places of a body
+abbrev pub events_in_places : {B Code : Type 0} → BodyOf B Code → Code → B → List EventId
+events_in_places body code b = map (λ x. x.event) ((body.tell code).places b)
+
+-- a process of this kind may begin with these arguments, and those that name events are within the bound of events
+pub record CanBegin (f : CodeFacts) (kind : ℕ) (args : List ℤ) : Type 0 where
+  pub fits : IsTrue (may_begin f kind args)
+  pub bound : IsTrue (arguments_within_bound (slice_index_or f.params kind []) args)
+
+-- the body is in a sound state and may be told this, and an event that it is told is within the bound of events
+pub record CanBeTold {B Code : Type 0} (body : BodyOf B Code) (code : Code) (b : B) (x : Signal) : Type 0 where
+  pub sound : body.sound code b
+  pub told : IsTrue (may_be_told ((body.tell code).last b) x)
+  pub bound : IsTrue (tells_within_bound x)
