@@ -1,8 +1,1 @@
-pub mod LineTexts
-pub mod RunEnds
-pub mod RunTexts
-pub mod RunUnits
-pub mod ScriptsRun
 pub mod Telling
-mod CommandWords
-mod WorkedRuns

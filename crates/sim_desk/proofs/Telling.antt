@@ -7,21 +7,25 @@ use Rattle.std.proofs.lemmas.Bool.{false≢true}
 use Rattle.std.proofs.lemmas.Bool.Decides.{nat_tests}
 use Rattle.std.proofs.lemmas.List.{take_all, length-take-le}
 use Rattle.sim_types.specs.Scenarios.{ScenarioOf}
-use Rattle.sim_types.specs.declared.command.Command.{Command}
-use Rattle.sim_types.specs.declared.command.Command.TheVariants as command
+use Rattle.sim_command.specs.declared.commands.Command.{Command}
+use Rattle.sim_command.specs.declared.commands.Command.TheVariants as command
 use Rattle.sim_types.specs.declared.fault.Fault.{Fault}
 use Rattle.sim_types.specs.declared.fault.FaultKind.TheVariants as fault
 use Rattle.sim_types.specs.declared.line.End.{End}
 use Rattle.sim_types.specs.declared.line.End.TheVariants as end
-use Rattle.sim_types.specs.declared.status.Status.{Status}
+use Rattle.sim_command.specs.declared.status.Status.{Status}
 use Rattle.sim_language.specs.Built.{is_built}
 use Rattle.sim_language.specs.Lines.{lines}
 use Rattle.sim_language.specs.Sayings.{heads_of}
 use Rattle.sim_language.specs.Reads.{is_too_long, reads_text}
 use Rattle.sim_outside.specs.Reads.{TakesFirst}
-use Rattle.sim_outside.specs.Writes.{AppendsPrefix}
-use Rattle.sim_desk.specs.Answers.{is_whole, AnswersWhole, AnswersPrefix}
-use Rattle.sim_desk.specs.Headline.{read_of, answer_to, answer_of, status_of_end, status_to, status_of, end_of_scenario}
+use Rattle.sim_outside.specs.Writes.{AppendsPrefix, SinkOf}
+use Rattle.sim_language_law.proofs.BuiltTexts.{read_built}
+use Rattle.sim_language_law.proofs.WellFormedTexts.{read_well_formed}
+use Rattle.sim_engine.proofs.InOrder.{in_order}
+use Rattle.sim_desk.specs.Answers.{IsInOrderFor, is_whole, AnswersWhole, AnswersPrefix}
+use Rattle.sim_engine.specs.RunOfScenario.{end_of_scenario}
+use Rattle.sim_desk.specs.Headline.{read_of, answer_to, answer_of, status_of_end, status_to, status_of}
 
 -- ---- a text that is too long
 
@@ -63,31 +67,44 @@ unfolding text_of
 same_reading None rest bytes takes = refl
 same_reading (Some left) rest bytes takes = ap read_of takes.0 ∙ read_of_front left
 
+-- every state of the run of a text is in order
+in_order_for : (asked : Command) (text : List ℕ) (read : Result ScenarioOf Fault) → read_of text ≡ read → IsInOrderFor asked read
+in_order_for command.Check text read is = tt
+in_order_for (command.Run limit) text (Err fault) is = tt
+in_order_for (command.Run limit) text (Ok s) is = in_order s limit (read_well_formed is_built text s is) (read_built text s is)
+
 -- an answer to the bytes taken, which the text holds, is one to the text that was read
-pub whole_answer : (asked : Command) (left rest : Option (List ℕ)) (text bytes : List ℕ) (before after : Option (List ℕ)) (answer : Status) → TakesFirst 4194305 left rest bytes
-    → text ≡ bytes → Appends before after (answer_of asked text) → answer ≡ status_of asked text → AnswersWhole asked left before after answer
-whole_answer asked left rest text bytes before after answer takes held written is =
+pub whole_answer : (asked : Command) (left rest : Option (List ℕ)) (text bytes : List ℕ) (old new : SinkOf) (answer : Status) → TakesFirst 4194305 left rest bytes
+    → text ≡ bytes → Appends old.taken new.taken (answer_of asked text) → answer ≡ status_of asked text → AnswersWhole asked left old new answer
+whole_answer asked left rest text bytes old new answer takes held written is =
     let same = ap read_of held ∙ same_reading left rest bytes takes in
     record {
       text = text_of left bytes;
       told = text_told left bytes;
-      written = subst (λ r. Appends before after (answer_to asked r)) same written;
+      written = subst (λ r. Appends old.taken new.taken (answer_to asked r)) same written;
       status = is ∙ ap (λ r. status_to asked r) same;
+      throughout = in_order_for asked (text_of left bytes) (read_of (text_of left bytes)) refl;
     }
 
-pub prefix_answer : (asked : Command) (left rest : Option (List ℕ)) (text bytes : List ℕ) (before after : Option (List ℕ)) → TakesFirst 4194305 left rest bytes → text ≡ bytes
-    → AppendsPrefix before after (answer_of asked text) → AnswersPrefix asked left before after
-prefix_answer asked left rest text bytes before after takes held written =
+pub prefix_answer : (asked : Command) (left rest : Option (List ℕ)) (text bytes : List ℕ) (old new : SinkOf) → TakesFirst 4194305 left rest bytes → text ≡ bytes
+    → AppendsPrefix old.taken new.taken (answer_of asked text) → AnswersPrefix asked left old new
+prefix_answer asked left rest text bytes old new takes held written =
     let same = ap read_of held ∙ same_reading left rest bytes takes in
-    record { text = text_of left bytes; told = text_told left bytes; written = subst (λ r. AppendsPrefix before after (answer_to asked r)) same written }
+    record {
+      text = text_of left bytes;
+      told = text_told left bytes;
+      written = subst (λ r. AppendsPrefix old.taken new.taken (answer_to asked r)) same written;
+    }
 
--- nothing written is a prefix of each
-pub none_written : (before : Option (List ℕ)) (bytes : List ℕ) → AppendsPrefix before before bytes
-none_written before bytes = record { rest = bytes; front = record { front = []; parts = refl; appended = Appends-nil before } }
-
-pub none_answered : (asked : Command) (left before : Option (List ℕ)) → AnswersPrefix asked left before before
-none_answered asked left before =
-    record { text = text_of left []; told = text_told left []; written = none_written before (answer_of asked (text_of left [])) }
+-- nothing written is a prefix of each answer
+pub none_answered : (asked : Command) (left : Option (List ℕ)) (old : SinkOf) → AnswersPrefix asked left old old
+none_answered asked left old =
+    let bytes : List ℕ = answer_of asked (text_of left []) in
+    record {
+      text = text_of left [];
+      told = text_told left [];
+      written = record { rest = bytes; front = record { front = []; parts = refl; appended = Appends-nil old.taken } };
+    }
 
 -- ---- the status
 
@@ -102,9 +119,6 @@ reading_whole : (asked : Command) (read : Result ScenarioOf Fault) → is_whole 
 reading_whole asked (Err fault) = refl
 reading_whole command.Check (Ok s) = refl
 reading_whole (command.Run limit) (Ok s) = end_whole (end_of_scenario s limit)
-reading_whole (command.Batch count limit) (Ok s) = refl
-reading_whole (command.Load size) (Ok s) = refl
-reading_whole (command.Live limit) (Ok s) = refl
 
 -- where nothing fails, the answer is whole
 pub status_whole : (asked : Command) (text : List ℕ) → IsTrue (is_whole (status_of asked text))

@@ -1,8 +1,7 @@
-//! The calls that the program makes.
+//! The call that the program makes.
 #![tactic(auto)]
 
-mod run;
-mod text;
+mod fault;
 mod top;
 
 pub use top::desk;

@@ -3,6 +3,7 @@
 
 mod fault;
 mod fault_count;
+mod flushes;
 mod memory;
 mod null;
 mod sink;

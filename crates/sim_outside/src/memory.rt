@@ -1,9 +1,11 @@
 //! Sources and sinks in memory. They tell their bytes.
-ghost use Rattle.std.specs.Prelude.{◌≡◌, ◌-◌, ◌<◌, ◌↔◌, [], ◌++◌, length, min, take, drop, IfOk, OnErr, IsErr, IsOk, Contains};
+ghost use Rattle.std.specs.Prelude.{◌≡◌, ◌-◌, ◌<◌, ◌↔◌, [], ◌++◌, length, false, min, take, drop, IfOk, OnOk, OnErr, IsErr, IsOk, Contains};
 ghost use Rattle.sim_outside.specs.Causes.{raised, HasCause};
+ghost use Rattle.sim_outside.specs.Writes.{flushed, taking};
 
 use crate::fault::Failed;
 use crate::fault_count::FaultCount;
+use crate::flushes::Flushes;
 use crate::sink::Sink;
 use crate::source::Source;
 use crate::unread::Unread;
@@ -138,6 +140,7 @@ pub struct MemSink {
     /// How many bytes more it takes.
     room: usize,
     faults: FaultCount,
+    flushes: Flushes,
 }
 
 impl Model for MemSink {
@@ -146,7 +149,8 @@ impl Model for MemSink {
 
     ghost Value = { MemSinkOf };
 
-    ghost view = { λ a. record { taken = a.bytes.items; room = a.room; faults = a.faults } };
+    ghost view = { λ a. record
+        { taken = a.bytes.items; room = a.room; faults = a.faults; flushing = a.flushes } };
 
     ghost invariant = { λ a. vec_len a.bytes + a.room ≤ vec_capacity a.bytes };
 }
@@ -154,7 +158,8 @@ impl Model for MemSink {
 impl MemSink {
     /// A sink that takes `room` bytes. Its memory is taken here.
     pub fn new(alloc: Global, room: u64) -> Result<MemSink, AllocError>
-        ensures { IfOk result (λ sink. sink ≡ record { taken = []; room = room; faults = 0 }) }
+        ensures { IfOk result (λ sink. sink ≡ record
+            { taken = []; room = room; faults = 0; flushing = record { count = 0; held_back = false } }) }
     {
         let room = room as usize;
         let bytes = Vec::with_capacity(alloc, room)?;
@@ -162,6 +167,7 @@ impl MemSink {
             bytes,
             room,
             faults: FaultCount::new(),
+            flushes: Flushes::new(),
         })
     }
 
@@ -174,17 +180,17 @@ impl MemSink {
 }
 
 impl Sink for MemSink {
-    ghost use Rattle.std.specs.Prelude.{Some};
+    ghost use Rattle.sim_outside.specs.Memory.{told_in_memory};
 
-    ghost taken = { λ sink. Some sink.taken };
-
-    ghost faults = { λ sink. sink.faults };
+    ghost tells = { told_in_memory };
 
     fn write(&mut self, piece: &[u8]) -> Result<usize, Failed>
         ensures full { IsErr result ↔ (0 < length piece.now) × (self.old.room ≡ 0) }
         ensures count { IfOk result (λ n. n ≡ min (length piece.now) self.old.room) }
-        ensures ok { IfOk result (λ n. self.new
-            ≡ record self.old { taken = self.old.taken ++ take n piece.now; room = self.old.room - n }) }
+        ensures taken { IfOk result (λ n. self.new.taken ≡ self.old.taken ++ take n piece.now) }
+        ensures room { IfOk result (λ n. self.new.room ≡ self.old.room - n) }
+        ensures ok { OnOk result (self.new.faults ≡ self.old.faults) }
+        ensures held_back { IfOk result (λ n. self.new.flushing ≡ taking n self.old.flushing) }
         ensures err { OnErr result (self.new ≡ record self.old { faults = raised self.old.faults }) }
 
         // As every sink.
@@ -196,13 +202,15 @@ impl Sink for MemSink {
         let count = piece.len().min(self.room);
         self.bytes.extend_from_slice(&piece[..count]).unwrap();
         self.room -= count;
+        self.flushes.take(count);
         Ok(count)
     }
 
     fn flush(&mut self) -> Result<(), Failed>
         ensures ok { IsOk result }
-        ensures kept { self.new ≡ self.old }
+        ensures flushed { self.new ≡ record self.old { flushing = flushed self.old.flushing } }
     {
+        self.flushes.flush();
         Ok(())
     }
 }

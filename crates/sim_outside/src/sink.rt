@@ -1,41 +1,41 @@
 //! What is written to.
-ghost use Rattle.std.specs.Prelude.{ℕ, ◌<◌, List, length, IfOk, OnOk};
-ghost use Rattle.std.specs.declared.option.Option.{Option};
+ghost use Rattle.std.specs.Prelude.{◌≡◌, ◌<◌, length, true, IfOk, OnOk, OnErr};
 ghost use Rattle.std.specs.Io.{WritesAtMost};
-ghost use Rattle.std.specs.Io.KnownBytes.{WriteAppends, Appends, Keeps};
+ghost use Rattle.std.specs.Io.KnownBytes.{WriteAppends, Keeps};
 ghost use Rattle.sim_outside.specs.Causes.{HasCause};
-ghost use Rattle.sim_outside.specs.Writes.{AppendsPrefix};
+ghost use Rattle.sim_outside.specs.Writes.{SinkOf, taking, IsUnflushed, IsFlushedOnce, Writes};
 
 use crate::fault::Failed;
 
 /// A sink of bytes.
 pub trait Sink {
-    /// The bytes taken, in order, where the sink tells them.
-    ghost taken: { Self → Option (List ℕ) };
-
-    /// How many faults it has had. A count that reached 2^64 - 1 may stand there.
-    ghost faults: { Self → ℕ };
+    /// The bytes taken, in order, where the sink tells them; how many faults it has had; how many flushes went well, and
+    /// whether bytes were taken since. A count that reached 2^64 - 1 may stand there.
+    ghost tells: { Self → SinkOf };
 
     /// Takes a front of `piece` and answers how many bytes it has. Of a piece that is not empty it takes at least one
     /// byte, or it fails.
     fn write(&mut self, piece: &[u8]) -> Result<usize, Failed>
         ensures bound { WritesAtMost result piece.now }
         ensures some { IfOk result (λ n. 0 < length piece.now → 0 < n) }
-        ensures bytes { WriteAppends (taken self.old) (taken self.new) result piece.now }
-        ensures cause { HasCause (faults self.old) (faults self.new) result };
+        ensures bytes { WriteAppends (tells self.old).taken (tells self.new).taken result piece.now }
+        ensures cause { HasCause (tells self.old).faults (tells self.new).faults result }
+        ensures held_back { IfOk result (λ n. (tells self.new).flushing ≡ taking n (tells self.old).flushing) }
+        ensures unflushed { IsUnflushed (tells self.old) (tells self.new) };
 
     /// Hands on what the sink holds back. The bytes taken stay as they are.
     fn flush(&mut self) -> Result<(), Failed>
-        ensures bytes { Keeps (taken self.old) (taken self.new) }
-        ensures cause { HasCause (faults self.old) (faults self.new) result };
+        ensures bytes { Keeps (tells self.old).taken (tells self.new).taken }
+        ensures cause { HasCause (tells self.old).faults (tells self.new).faults result }
+        ensures flushed { OnOk result (IsFlushedOnce (tells self.old) (tells self.new)) }
+        ensures unflushed { OnErr result (IsUnflushed (tells self.old) (tells self.new)) };
 }
 
-/// Writes the whole piece. Where that fails, a prefix of the piece was written.
-#[tactic(auto, using(crate::proofs::Fronts::front_none, crate::proofs::Fronts::front_more, crate::proofs::Fronts::front_whole, crate::proofs::Fronts::prefix_kept))]
+/// Writes the whole piece. Where that fails, a prefix of the piece was written. Nothing is flushed.
+#[tactic(auto, using(crate::proofs::Fronts::front_none, crate::proofs::Fronts::front_more, crate::proofs::Fronts::all_written, crate::proofs::Fronts::cut_short))]
 pub fn write_all<K: Sink>(out: &mut K, piece: &[u8]) -> Result<(), Failed>
-    ensures whole { OnOk result (Appends (K.taken out.old) (K.taken out.new) piece.now) }
-    ensures prefix { AppendsPrefix (K.taken out.old) (K.taken out.new) piece.now }
-    ensures cause { HasCause (K.faults out.old) (K.faults out.new) result }
+    ensures writes { Writes (λ _. true) (K.tells out.old) (K.tells out.new) result piece.now }
+    ensures unflushed { IsUnflushed (K.tells out.old) (K.tells out.new) }
 {
     let mut rest = piece;
     while !rest.is_empty() {
@@ -62,7 +62,7 @@ mod tests {
             assert_eq!(rt; sink.bytes(), &piece[..room], "room {room}");
             assert!(rt; write_all(&mut sink, b"").is_ok(), "room {room}");
         }
-        assert!(rt; write_all(&mut NullSink, piece).is_ok());
+        assert!(rt; write_all(&mut NullSink::new(), piece).is_ok());
         Ok(())
     }
 }

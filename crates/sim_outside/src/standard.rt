@@ -1,8 +1,9 @@
 //! Standard input and output. What they carry is known to no contract, so of them no bytes are told.
-ghost use Rattle.std.specs.Prelude.{◌≡◌};
+ghost use Rattle.std.specs.Prelude.{◌≡◌, false};
 
 use crate::fault::Failed;
 use crate::fault_count::FaultCount;
+use crate::flushes::Flushes;
 use crate::sink::Sink;
 use crate::source::{CHUNK, Source};
 use std::io::{Read, Write};
@@ -61,6 +62,7 @@ impl<R: Read> Source for StdSource<R> {
 pub struct StdSink<W> {
     output: W,
     faults: FaultCount,
+    flushes: Flushes,
 }
 
 impl<W> Model for StdSink<W> {
@@ -68,37 +70,45 @@ impl<W> Model for StdSink<W> {
 
     ghost Value = { StdSinkOf W };
 
-    ghost view = { λ a. record { output = a.output; faults = a.faults } };
+    ghost view = { λ a. record { output = a.output; faults = a.faults; flushing = a.flushes } };
 }
 
 impl<W: Write> StdSink<W> {
-    /// A sink over `output` that has had no fault.
+    /// A sink over `output` that has had no fault and was never flushed.
     pub fn new(output: W) -> StdSink<W>
-        ensures { result ≡ record { output = output; faults = 0 } }
+        ensures { result ≡ record
+            { output = output; faults = 0; flushing = record { count = 0; held_back = false } } }
     {
         StdSink {
             output,
             faults: FaultCount::new(),
+            flushes: Flushes::new(),
         }
     }
 }
 
 impl<W: Write> Sink for StdSink<W> {
-    ghost taken = { λ sink. W.contents sink.output };
+    ghost use Rattle.sim_outside.specs.Standard.{told_by_writer};
 
-    ghost faults = { λ sink. sink.faults };
+    ghost tells = { told_by_writer W.contents };
 
     fn write(&mut self, piece: &[u8]) -> Result<usize, Failed> {
         match self.output.write(piece) {
             Ok(0) if !piece.is_empty() => Err(self.faults.fail()),
-            Ok(count) => Ok(count),
+            Ok(count) => {
+                self.flushes.take(count);
+                Ok(count)
+            }
             Err(_) => Err(self.faults.fail()),
         }
     }
 
     fn flush(&mut self) -> Result<(), Failed> {
         match self.output.flush() {
-            Ok(()) => Ok(()),
+            Ok(()) => {
+                self.flushes.flush();
+                Ok(())
+            }
             Err(_) => Err(self.faults.fail()),
         }
     }
@@ -109,6 +119,7 @@ mod tests {
     use super::*;
     use crate::sink::write_all;
     use crate::source::take_all;
+    use std::io::{self, ErrorKind};
     use std::test::Fail;
 
     #[test]
@@ -119,6 +130,39 @@ mod tests {
         let mut sink = StdSink::new(rt.stdout());
         write_all(&mut sink, b"read and written\n")?;
         sink.flush()?;
+        Ok(())
+    }
+
+    /// A writer whose first flush fails.
+    #[derive(Drop)]
+    struct SlowToFlush {
+        flushes: u8,
+    }
+
+    impl Write for SlowToFlush {
+        fn write(&mut self, piece: &[u8]) -> io::Result<usize> {
+            Ok(piece.len())
+        }
+
+        fn flush(&mut self) -> io::Result<()> {
+            self.flushes = self.flushes.saturating_add(1);
+            if self.flushes == 1 {
+                return Err(ErrorKind::BrokenPipe.into());
+            }
+            Ok(())
+        }
+    }
+
+    /// Each flush is one of the writer, and fails as that does.
+    #[test]
+    fn flushes_the_writer(rt: HostRuntime) -> Result<(), Fail> {
+        let mut sink = StdSink::new(SlowToFlush { flushes: 0 });
+        write_all(&mut sink, b"written\n")?;
+        assert_eq!(rt; sink.output.flushes, 0);
+        assert!(rt; sink.flush().is_err());
+        assert_eq!(rt; sink.output.flushes, 1);
+        assert!(rt; sink.flush().is_ok());
+        assert_eq!(rt; sink.output.flushes, 2);
         Ok(())
     }
 }

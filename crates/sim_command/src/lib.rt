@@ -1,0 +1,12 @@
+//! The command that the program is called with, and how a call ends.
+#![tactic(auto)]
+
+mod commands;
+mod reading;
+mod status;
+mod word;
+
+pub use commands::Command;
+pub use reading::command;
+pub use status::Status;
+pub use word::Word;

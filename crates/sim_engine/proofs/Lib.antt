@@ -1,0 +1,5 @@
+pub mod ScriptsRun
+pub mod RunUnits
+pub mod RunEnds
+pub mod RunTexts
+pub mod InOrder

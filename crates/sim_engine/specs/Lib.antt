@@ -1,0 +1,4 @@
+pub mod RunOfScenario
+pub mod StandsForRun
+pub mod EngineFaults
+pub mod Throughout

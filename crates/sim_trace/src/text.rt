@@ -1,0 +1,269 @@
+//! The lines of a trace.
+ghost use Rattle.std.specs.Prelude.{◌≡◌, ℕ, ◌+◌, ◌≤◌, List, [], ◌∷◌, ◌++◌, All, length, codes, decimal};
+ghost use Rattle.std.specs.Fmt.{signed_decimal};
+ghost use Rattle.std.specs.List.{join_with_byte};
+ghost use Rattle.sim_trace.specs.Texts.{AreNamesShort, kind_word, end_word, outcome_words, port_word, line_text};
+
+use crate::buffer::LineBuf;
+use itoa::{Buffer, Integer};
+use sim_types::{End, EventId, EventKind, Line, Name, Outcome, ProcId};
+
+/// Puts a line of a trace into the buffer, with a line feed at its end, in place of what stood there. The ports are
+/// called by these names; one that is not among them has no name.
+pub fn render(line: &Line, ports: &[Name], out: &mut LineBuf)
+    requires names { AreNamesShort ports.now }
+    ensures { out.new ≡ line_text ports.now line.now }
+{
+    out.clear();
+    match line {
+        Line::Event {
+            time,
+            priority,
+            number,
+            kind,
+            event,
+            outcome,
+        } => append_event(*time, *priority, *number, *kind, *event, *outcome, out),
+        Line::Log {
+            time,
+            process,
+            value,
+        } => append_log(*time, *process, *value, out),
+        Line::Arrive { after, port, value } => append_arrival(*after, *port, *value, ports, out),
+        Line::Finish {
+            end,
+            time,
+            processed,
+        } => append_finish(*end, *time, *processed, out),
+    }
+}
+
+#[tactic(auto, using(crate::proofs::LineTexts::join_outcome))]
+fn append_event(
+    time: i64,
+    priority: u8,
+    number: u64,
+    kind: EventKind,
+    event: EventId,
+    outcome: Outcome,
+    out: &mut LineBuf,
+)
+    requires { out.old ≡ [] }
+    ensures { out.new ≡ line_text [] (Line.Event time priority number kind event outcome) }
+{
+    append_key(time, priority, number, out);
+    append_word(kind_word(kind), out);
+    append_number(event.0, out);
+    append_outcome(outcome, out);
+    out.append(b"\n");
+}
+
+/// Appends what an event is ordered by.
+fn append_key(time: i64, priority: u8, number: u64, out: &mut LineBuf)
+    requires { length out.old + 46 ≤ 160 }
+    ensures items { out.new ≡ out.old ++ 64 ∷ signed_decimal time ++ 32 ∷ decimal priority ++ 32 ∷ decimal number }
+    ensures len { length out.new ≤ length out.old + 46 }
+{
+    out.append(b"@");
+    append_digits(time, out);
+    append_number(priority, out);
+    append_number(number, out);
+}
+
+/// Appends a space and the words of the outcome.
+fn append_outcome(outcome: Outcome, out: &mut LineBuf)
+    requires { length out.old + 31 ≤ 160 }
+    ensures items { out.new ≡ out.old ++ 32 ∷ join_with_byte 32 (outcome_words outcome) }
+    ensures len { length out.new ≤ length out.old + 31 }
+{
+    match outcome {
+        Outcome::Ok(value) => {
+            out.append(b" ok");
+            append_number(value, out);
+        }
+        Outcome::Fail(thrown) => {
+            out.append(b" fail");
+            append_number(thrown.kind, out);
+            append_number(thrown.value, out);
+        }
+    }
+}
+
+fn append_log(time: i64, process: ProcId, value: i64, out: &mut LineBuf)
+    requires { out.old ≡ [] }
+    ensures { out.new ≡ line_text [] (Line.Log time process value) }
+{
+    out.append(b"log");
+    append_number(time, out);
+    append_number(process.0, out);
+    append_number(value, out);
+    out.append(b"\n");
+}
+
+fn append_arrival(after: u64, port: u32, value: i64, ports: &[Name], out: &mut LineBuf)
+    requires empty { out.old ≡ [] }
+    requires names { AreNamesShort ports.now }
+    ensures { out.new ≡ line_text ports.now (Line.Arrive after port value) }
+{
+    out.append(b"arrive");
+    append_number(after, out);
+    append_word(port_word(ports, port), out);
+    append_number(value, out);
+    out.append(b"\n");
+}
+
+/// The name of the port, which is empty where there is none.
+fn port_word<'a>(ports: &'a [Name], port: u32) -> &'a [u8]
+    requires { AreNamesShort ports.now }
+    ensures word { result.now ≡ port_word ports.now port }
+    ensures short { length result.now ≤ 32 }
+{
+    match ports.get(port as usize) {
+        Some(name) => name.bytes(),
+        None => b"",
+    }
+}
+
+fn append_finish(end: End, time: i64, processed: u64, out: &mut LineBuf)
+    requires { out.old ≡ [] }
+    ensures { out.new ≡ line_text [] (Line.Finish end time processed) }
+{
+    out.append(b"end");
+    append_word(end_word(end), out);
+    append_number(time, out);
+    append_number(processed, out);
+    out.append(b"\n");
+}
+
+/// Appends a space and the number.
+fn append_number<I: Integer>(number: I, out: &mut LineBuf)
+    requires { length out.old + 1 + I.MAX_STR_LEN ≤ 160 }
+    ensures items { out.new ≡ out.old ++ 32 ∷ I.text number }
+    ensures len { length out.new ≤ length out.old + 1 + I.MAX_STR_LEN }
+{
+    out.append(b" ");
+    append_digits(number, out);
+}
+
+fn append_digits<I: Integer>(number: I, out: &mut LineBuf)
+    requires { length out.old + I.MAX_STR_LEN ≤ 160 }
+    ensures items { out.new ≡ out.old ++ I.text number }
+    ensures len { length out.new ≤ length out.old + I.MAX_STR_LEN }
+{
+    let mut digits = Buffer::new();
+    out.append(digits.format(number).as_bytes());
+}
+
+/// Appends a space and the word.
+fn append_word(word: &[u8], out: &mut LineBuf)
+    requires { length out.old + 1 + length word.now ≤ 160 }
+    ensures items { out.new ≡ out.old ++ 32 ∷ word.now }
+    ensures len { length out.new ≡ length out.old + 1 + length word.now }
+{
+    out.append(b" ");
+    out.append(word);
+}
+
+fn kind_word(kind: EventKind) -> &'static [u8]
+    ensures word { result.now ≡ kind_word kind }
+    ensures short { length result.now ≤ 9 }
+{
+    match kind {
+        EventKind::Init => b"init",
+        EventKind::Timeout => b"timeout",
+        EventKind::Plain => b"event",
+        EventKind::Process => b"process",
+        EventKind::Interrupt => b"interrupt",
+        EventKind::Cond => b"cond",
+        EventKind::Request => b"request",
+        EventKind::Release => b"release",
+        EventKind::Put => b"put",
+        EventKind::Get => b"get",
+        EventKind::Stop => b"stop",
+    }
+}
+
+fn end_word(end: End) -> &'static [u8]
+    ensures word { result.now ≡ end_word end }
+    ensures short { length result.now ≤ 7 }
+{
+    match end {
+        End::Empty => b"empty",
+        End::Until => b"until",
+        End::Crash => b"crash",
+        End::Limit => b"limit",
+        End::Starved => b"starved",
+    }
+}
+
+#[cfg(test)]
+mod tests {
+    use super::*;
+    use sim_types::Throw;
+    use std::test::Fail;
+
+    #[test]
+    fn writes_lines(rt: HostRuntime) -> Result<(), Fail> {
+        let cases = [
+            (
+                Line::Event {
+                    time: 5,
+                    priority: 1,
+                    number: 2,
+                    kind: EventKind::Plain,
+                    event: EventId(7),
+                    outcome: Outcome::Ok(-3),
+                },
+                "@5 1 2 event 7 ok -3\n",
+            ),
+            (
+                Line::Event {
+                    time: i64::MIN,
+                    priority: 255,
+                    number: u64::MAX,
+                    kind: EventKind::Interrupt,
+                    event: EventId(u64::MAX),
+                    outcome: Outcome::Fail(Throw {
+                        kind: 255,
+                        value: i64::MIN,
+                    }),
+                },
+                "@-9223372036854775808 255 18446744073709551615 interrupt 18446744073709551615 fail 255 -9223372036854775808\n",
+            ),
+            (
+                Line::Log {
+                    time: 5,
+                    process: ProcId(1),
+                    value: 9,
+                },
+                "log 5 1 9\n",
+            ),
+            (
+                Line::Arrive {
+                    after: 4,
+                    port: 1,
+                    value: -2,
+                },
+                "arrive 4 a_gate_with_the_longest_name____ -2\n",
+            ),
+            (
+                Line::Finish {
+                    end: End::Starved,
+                    time: 5,
+                    processed: 3,
+                },
+                "end starved 5 3\n",
+            ),
+        ];
+        let ports = [
+            Name::new(rt.alloc(), b"door")?,
+            Name::new(rt.alloc(), b"a_gate_with_the_longest_name____")?,
+        ];
+        let mut out = LineBuf::new();
+        for (line, text) in cases {
+            render(&line, &ports, &mut out);
+            assert_eq!(rt; out.bytes(), text.as_bytes(), "{text}");
+        }
+        Ok(())
+    }
+}
