@@ -1,0 +1,19 @@
+mod ChainsAndStops
+mod Conditions
+mod Containers
+mod Draws
+mod Drops
+mod Endings
+mod Events
+mod FaultKinds
+mod FaultsOfForms
+mod Interruptions
+mod Journals
+mod NestedConditions
+mod Preemption
+mod PreemptionKeys
+mod Resources
+mod Scripts
+mod Stores
+mod WhichFault
+pub mod WholeAnswers

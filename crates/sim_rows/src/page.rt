@@ -1,0 +1,137 @@
+//! A file of rows. A row is a line `== NAME`, remarks, a line `-- WORDS`, the text, a line `-- STATUS` and the answer, in
+//! which empty lines do not count. Lines between `\repeat COUNT` and `\end` stand so many times.
+use crate::line::append_line;
+use crate::row::Row;
+use std::alloc::{AllocError, Global};
+use std::mem;
+
+/// The part of a row that is being read.
+#[derive(Clone, Copy, PartialEq, Eq)]
+enum Part {
+    /// No row has begun.
+    Outside,
+    Remarks,
+    Text,
+    Answer,
+}
+
+/// Lines that stand several times.
+#[derive(Drop)]
+struct Block {
+    times: u32,
+    lines: Vec<String>,
+}
+
+/// The rows read so far, and the row that is being read.
+#[derive(Drop)]
+struct Page {
+    rows: Vec<Row>,
+    part: Part,
+    name: String,
+    words: String,
+    text: Vec<u8>,
+    status: Option<u8>,
+    /// What the lines of the part say.
+    said: Vec<u8>,
+    block: Option<Block>,
+}
+
+/// The rows of a file.
+pub fn rows_of(alloc: Global, file: &str) -> Result<Vec<Row>, AllocError> {
+    let mut page = Page::new(alloc);
+    for line in file.lines() {
+        page.read(alloc, line)?;
+    }
+    page.close(alloc)?;
+    Ok(page.rows)
+}
+
+impl Page {
+    fn new(alloc: Global) -> Page {
+        Page {
+            rows: Vec::new(alloc),
+            part: Part::Outside,
+            name: String::new(alloc),
+            words: String::new(alloc),
+            text: Vec::new(alloc),
+            status: None,
+            said: Vec::new(alloc),
+            block: None,
+        }
+    }
+
+    /// Takes the next line of the file.
+    fn read(&mut self, alloc: Global, line: &str) -> Result<(), AllocError> {
+        if let Some(name) = line.strip_prefix("== ") {
+            self.close(alloc)?;
+            self.name = String::from_str(alloc, name)?;
+            self.part = Part::Remarks;
+            return Ok(());
+        }
+        match (self.part, line.strip_prefix("--")) {
+            (Part::Remarks, Some(words)) => {
+                self.words = String::from_str(alloc, words)?;
+                self.part = Part::Text;
+                Ok(())
+            }
+            (Part::Text, Some(status)) => {
+                self.text = mem::replace(&mut self.said, Vec::new(alloc));
+                self.status = status.trim().parse().ok();
+                self.part = Part::Answer;
+                Ok(())
+            }
+            (Part::Answer, _) if line.is_empty() => Ok(()),
+            (Part::Text | Part::Answer, _) => self.say(alloc, line),
+            _ => Ok(()),
+        }
+    }
+
+    /// Takes a line of a text or an answer.
+    fn say(&mut self, alloc: Global, line: &str) -> Result<(), AllocError> {
+        if let Some(times) = line.strip_prefix("\\repeat ") {
+            self.block = Some(Block {
+                times: times.parse().unwrap_or(0),
+                lines: Vec::new(alloc),
+            });
+            return Ok(());
+        }
+        match self.block.take() {
+            None => append_line(alloc, line.as_bytes(), 0, &mut self.said),
+            Some(block) if line == "\\end" => self.repeat(alloc, &block),
+            Some(mut block) => {
+                block.lines.push(String::from_str(alloc, line)?)?;
+                self.block = Some(block);
+                Ok(())
+            }
+        }
+    }
+
+    fn repeat(&mut self, alloc: Global, block: &Block) -> Result<(), AllocError> {
+        for turn in 0..block.times {
+            for line in block.lines.iter() {
+                append_line(
+                    alloc,
+                    line.as_bytes(),
+                    turn.saturating_add(1),
+                    &mut self.said,
+                )?;
+            }
+        }
+        Ok(())
+    }
+
+    /// Ends the row that is being read, if one is.
+    fn close(&mut self, alloc: Global) -> Result<(), AllocError> {
+        if self.part != Part::Outside {
+            self.rows.push(Row {
+                name: mem::replace(&mut self.name, String::new(alloc)),
+                words: mem::replace(&mut self.words, String::new(alloc)),
+                text: mem::replace(&mut self.text, Vec::new(alloc)),
+                status: self.status.take(),
+                answer: mem::replace(&mut self.said, Vec::new(alloc)),
+            })?;
+        }
+        self.part = Part::Outside;
+        Ok(())
+    }
+}
