@@ -5,7 +5,8 @@ use Rattle.sim_types.specs.Scenarios.{ScenarioOf}
 use Rattle.sim_types.specs.declared.script.Stmt.{Stmt}
 use Rattle.sim_language.specs.declared.form.Form.{Form}
 use Rattle.sim_language.specs.declared.form.Form.TheVariants as form
-use Rattle.sim_language.specs.Shapes.{ProcessLines, Operand}
+use Rattle.sim_language.specs.Shapes.{Operand}
+use Rattle.sim_language.specs.AnywhereInText.{ProcessLines}
 use Rattle.sim_language.specs.Sayings.{Saying, Blank, Wrong, Says}
 use Rattle.sim_language.specs.Places.{LineInText}
 use Rattle.sim_language.specs.Reads.{add, add_said, with_statement}

@@ -5,7 +5,8 @@ use Rattle.std.proofs.lemmas.Option.{none-some}
 use Rattle.sim_types.specs.declared.fault.FaultKind.{FaultKind}
 use Rattle.sim_types.specs.declared.fault.FaultKind.TheVariants as fault
 use Rattle.sim_language.specs.declared.form.Form.{Form}
-use Rattle.sim_language.specs.Shapes.{Operand, ProcessLines}
+use Rattle.sim_language.specs.Shapes.{Operand}
+use Rattle.sim_language.specs.AnywhereInText.{ProcessLines}
 use Rattle.sim_language.specs.Sayings as sayings
 use Rattle.sim_language.specs.Sayings.{Saying}
 use Rattle.sim_language.specs.Forms.{declares_sort}

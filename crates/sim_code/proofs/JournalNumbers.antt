@@ -11,7 +11,8 @@ use Rattle.sim_language.specs.declared.shape.Role.TheVariants.{Within, Names}
 use Rattle.sim_language.specs.declared.form.Sort.TheVariants as sort
 use Rattle.sim_language.specs.Lines.{Word}
 use Rattle.sim_language.specs.Numbers.{between, signed, least, greatest}
-use Rattle.sim_language.specs.Shapes.{Operand, Context, ProcessLines, shape, fit, slot_of, any_literal}
+use Rattle.sim_language.specs.Shapes.{Operand, Context, shape, fit, slot_of, any_literal}
+use Rattle.sim_language.specs.AnywhereInText.{ProcessLines}
 use Rattle.sim_language.specs.Sayings.{is_bad_number}
 use Rattle.sim_language.specs.Said.{Fits}
 use Rattle.sim_language.specs.Reads.{natural_of, add, with_arrival}

@@ -11,8 +11,8 @@ use Rattle.sim_types.specs.declared.setup.Class.{Class}
 use Rattle.sim_language.specs.Built.{is_built}
 use Rattle.sim_language.specs.Lines.{Word, lines}
 use Rattle.sim_language.specs.Named.{Named}
-use Rattle.sim_language.specs.Shapes.{ProcessLines}
-use Rattle.sim_language.specs.Sayings.{TextLine, heads_of, sayings}
+use Rattle.sim_language.specs.AnywhereInText.{ProcessLines, heads_of}
+use Rattle.sim_language.specs.Sayings.{TextLine, sayings}
 use Rattle.sim_language.specs.Variables.{variables_at, variables_then}
 use Rattle.sim_language.specs.Places.{Above, LineInText, above_of, places}
 use Rattle.sim_language.specs.Faults.{at_line, fault_at, fault_past, end_fault}

@@ -4,7 +4,7 @@ use Rattle.sim_types.specs.Scenarios.{ScenarioOf}
 use Rattle.sim_types.specs.declared.fault.Fault.{Fault}
 use Rattle.sim_types.specs.declared.setup.Class.{Class}
 use Rattle.sim_language.specs.Named.{Named}
-use Rattle.sim_language.specs.Shapes.{ProcessLines}
+use Rattle.sim_language.specs.AnywhereInText.{ProcessLines}
 use Rattle.sim_language.specs.Sayings.{TextLine}
 use Rattle.sim_language.specs.Variables.{variables_at}
 use Rattle.sim_language.specs.Places.{Above, above_of, places}

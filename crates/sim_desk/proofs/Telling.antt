@@ -16,7 +16,7 @@ use Rattle.sim_types.specs.declared.line.End.TheVariants as end
 use Rattle.sim_command.specs.declared.status.Status.{Status}
 use Rattle.sim_language.specs.Built.{is_built}
 use Rattle.sim_language.specs.Lines.{lines}
-use Rattle.sim_language.specs.Sayings.{heads_of}
+use Rattle.sim_language.specs.AnywhereInText.{heads_of}
 use Rattle.sim_language.specs.Reads.{is_too_long, reads_text}
 use Rattle.sim_outside.specs.Reads.{TakesFirst}
 use Rattle.sim_outside.specs.Writes.{AppendsPrefix, SinkOf}

@@ -9,10 +9,11 @@ use Rattle.sim_language.specs.Shapes.{Operand, Context, fit, shape}
 use Rattle.sim_language.specs.Sayings.{Setting, Wrong, Says, context_of, form_in, if_built, is_bad_name, is_bad_number, said_by_form, said_by_slots, saying}
 use Rattle.sim_language.specs.Said.{IsSaid}
 
-slots_are_said : (f : Form) (context : Context) (words : List Word) (slots : List Operand) → fit context [] (shape f) words ≡ Some slots → IsSaid (said_by_slots f (Some slots))
-slots_are_said f context words slots fits = by (list_any is_bad_number slots) (list_any is_bad_name slots) refl refl
+slots_are_said : (f : Form) (context : Context) (words : List Word) (slots : List Operand)
+    → fit context [] (shape f) words ≡ Some slots → IsSaid (said_by_slots context.whole.version f (Some slots))
+slots_are_said f context words slots fits = by (list_any is_bad_number slots) (list_any (is_bad_name context.whole.version) slots) refl refl
   where
-    by : (number name : Bool) → list_any is_bad_number slots ≡ number → list_any is_bad_name slots ≡ name
+    by : (number name : Bool) → list_any is_bad_number slots ≡ number → list_any (is_bad_name context.whole.version) slots ≡ name
         → IsSaid (if number then Wrong fault.BadNumber else (if name then Wrong fault.BadName else Says f slots))
     by true name numbers names = tt
     by false true numbers names = tt
@@ -22,7 +23,7 @@ form_is_said : (context : Context) (form : Option Form) (ws : List Word) → IsS
 form_is_said context None ws = tt
 form_is_said context (Some f) ws = by (fit context [] (shape f) (operands f ws)) refl
   where
-    by : (slots : Option (List Operand)) → fit context [] (shape f) (operands f ws) ≡ slots → IsSaid (said_by_slots f slots)
+    by : (slots : Option (List Operand)) → fit context [] (shape f) (operands f ws) ≡ slots → IsSaid (said_by_slots context.whole.version f slots)
     by None fits = tt
     by (Some slots) fits = slots_are_said f context (operands f ws) slots fits
 
@@ -31,7 +32,7 @@ saying_is_said s line [] = tt
 saying_is_said s line (w ∷ ws) = by (list_all is_text line) (nat_lt 200 (length line))
   where
     by : (text long : Bool)
-        → IsSaid (if not text then Wrong fault.NotText else (if long then Wrong fault.LineTooLong else said_by_form (context_of s) (if_built s.built (form_in s.section (w ∷ ws))) (w ∷ ws)))
+        → IsSaid (if not text then Wrong fault.NotText else (if long then Wrong fault.LineTooLong else said_by_form (context_of s) (if_built s.built (form_in s.whole.version s.section (w ∷ ws))) (w ∷ ws)))
     by false long = tt
     by true true = tt
-    by true false = form_is_said (context_of s) (if_built s.built (form_in s.section (w ∷ ws))) (w ∷ ws)
+    by true false = form_is_said (context_of s) (if_built s.built (form_in s.whole.version s.section (w ∷ ws))) (w ∷ ws)

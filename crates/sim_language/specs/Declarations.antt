@@ -8,7 +8,8 @@ use Rattle.sim_language.specs.declared.form.Sort.TheVariants as sort
 use Rattle.sim_language.specs.Lines.{Word}
 use Rattle.sim_language.specs.Named.{Named, value_of, with_one, is_named}
 use Rattle.sim_language.specs.Forms.{declares_sort, same_sort}
-use Rattle.sim_language.specs.Shapes.{Operand, ProcessLines}
+use Rattle.sim_language.specs.Shapes.{Operand}
+use Rattle.sim_language.specs.AnywhereInText.{ProcessLines}
 use Rattle.sim_language.specs.Sayings.{TextLine, Saying, Blank, Wrong, Says}
 
 abbrev pub is_of_sort : Sort → Option Sort → Bool

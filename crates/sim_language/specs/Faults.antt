@@ -7,7 +7,8 @@ use Rattle.sim_types.specs.declared.fault.FaultKind.{FaultKind}
 use Rattle.sim_types.specs.declared.fault.FaultKind.TheVariants as fault
 use Rattle.sim_types.specs.declared.fault.Fault.{Fault}
 use Rattle.sim_language.specs.declared.form.Form.{Form}
-use Rattle.sim_language.specs.Shapes.{Operand, ProcessLines}
+use Rattle.sim_language.specs.Shapes.{Operand}
+use Rattle.sim_language.specs.AnywhereInText.{ProcessLines}
 use Rattle.sim_language.specs.Sayings.{TextLine, Saying, Blank, Wrong, Says}
 use Rattle.sim_language.specs.Places.{Above, above_of, LineInText, in_process}
 use Rattle.sim_language.specs.NameFaults.{duplicate, unknown_name, wrong_kind}
@@ -33,7 +34,7 @@ of_form test (Says f slots) = test f slots
 of_form test other = false
 
 abbrev pub applies : FaultKind → ProcessLines → LineInText → Bool
-applies fault.BadHeader heads place = bad_header place.above place.line.words
+applies fault.BadHeader heads place = bad_header place.above place.line
 applies fault.Duplicate heads place = of_form (duplicate place.above) place.line.saying
 applies fault.UnknownName heads place = of_form (λ f slots. unknown_name heads place.above slots) place.line.saying
 applies fault.WrongKind heads place = of_form (wrong_kind heads place.above) place.line.saying

@@ -20,7 +20,7 @@ use Rattle.sim_types.specs.declared.script.SpawnArg.TheVariants as spawn
 use Rattle.sim_types.specs.declared.script.Stmt.{Stmt}
 use Rattle.sim_types.specs.declared.script.Stmt.TheVariants as stmt
 use Rattle.sim_language.specs.declared.shape.Reference.{Reference}
-use Rattle.sim_language.specs.declared.shape.Reference.TheVariants.{AnyEvent, PlainEvent, AProcess}
+use Rattle.sim_language.specs.declared.shape.Reference.TheVariants.{AnyEvent, PlainEvent, Chained, AProcess}
 use Rattle.sim_language.specs.Sayings.{takes_me}
 use Rattle.sim_language.specs.VariableFaults.{takes_class, takes_named}
 
@@ -141,7 +141,7 @@ statement_fits s k (stmt.If test other) = number_fits k test
 statement_fits s k (stmt.Catch kind value past) = gives k kind class.Number && gives k value class.Number
 statement_fits s k (stmt.Log value) = number_fits k value
 statement_fits s k (stmt.Draw to lo hi) = gives k to class.Number && number_fits k lo && number_fits k hi
-statement_fits s k (stmt.Chain on to) = false
+statement_fits s k (stmt.Chain on to) = event_fits s k Chained on && event_fits s k PlainEvent to
 statement_fits s k other = true
 
 -- the statements from a place on, up to the end of the process

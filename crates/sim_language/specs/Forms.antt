@@ -1,15 +1,17 @@
--- The form that the words of a line begin, told by the first word or by the word behind `x =`.
+-- The form that the words of a line begin, told by the first words or by the word behind `x =`.
 use Rattle.std.specs.Prelude.{Bool, true, false, if◌then◌else◌, List, [], ◌∷◌, codes, Option, Some, None}
 use Rattle.std.specs.Option.{option_or}
 use Rattle.sim_language.specs.declared.form.Form.{Form}
 use Rattle.sim_language.specs.declared.form.Form.TheVariants as form
 use Rattle.sim_language.specs.declared.form.Sort.{Sort}
 use Rattle.sim_language.specs.declared.form.Sort.TheVariants as sort
+use Rattle.sim_language.specs.declared.form.Version.{Version}
+use Rattle.sim_language.specs.declared.form.Version.TheVariants.{One, Two}
 use Rattle.sim_language.specs.Lines.{Word, same}
 
--- the words of all lines that begin with a word of their own
-abbrev pub first_words : List (Word × Form)
-first_words =
+-- the words of all lines that begin with a word of their own, in both versions of the language
+abbrev pub common_first_words : List (Word × Form)
+common_first_words =
     (codes "scenario", form.Scenario) ∷ (codes "until", form.UntilTime) ∷ (codes "seed", form.Seed)
     ∷ (codes "resource", form.Resource) ∷ (codes "priority", form.Priority) ∷ (codes "preemptive", form.Preemptive)
     ∷ (codes "container", form.Container) ∷ (codes "store", form.Store) ∷ (codes "pstore", form.PStore) ∷ (codes "fstore", form.FStore)
@@ -23,6 +25,11 @@ first_words =
     ∷ (codes "else", form.Else) ∷ (codes "try", form.Try) ∷ (codes "catch", form.Catch) ∷ (codes "end", form.End)
     ∷ (codes "break", form.Break) ∷ (codes "log", form.Log) ∷ (codes "draw", form.Draw) ∷ []
 
+-- a `chain` line came with the second version
+abbrev pub first_words : Version → List (Word × Form)
+first_words One = common_first_words
+first_words Two = (codes "chain", form.Chain) ∷ common_first_words
+
 -- the words that may stand behind `x =`
 abbrev pub made_words : List (Word × Form)
 made_words =
@@ -33,19 +40,22 @@ abbrev pub form_at : Word → List (Word × Form) → Option Form
 form_at w [] = None
 form_at w (row ∷ rows) = if same w row.0 then Some row.1 else form_at w rows
 
--- `until` with one word behind it that is not `empty` gives a time
-abbrev pub told_by : Option Form → List Word → Option Form
-told_by (Some form.UntilTime) (v ∷ []) = Some (if same v (codes "empty") then form.UntilEmpty else form.UntilTime)
-told_by (Some form.UntilTime) rest = Some form.UntilEmpty
-told_by first rest = first
+-- `scenario 2` is the header of the second version; `until` with one word behind it that is not `empty` gives a time, and in
+-- the second version with two, of which the first is `event`, it names an event
+abbrev pub told_by : Version → Option Form → List Word → Option Form
+told_by version (Some form.Scenario) (n ∷ []) = Some (if same n (codes "2") then form.ScenarioTwo else form.Scenario)
+told_by version (Some form.UntilTime) (t ∷ []) = Some (if same t (codes "empty") then form.UntilEmpty else form.UntilTime)
+told_by Two (Some form.UntilTime) (e ∷ n ∷ []) = Some (if same e (codes "event") then form.UntilEvent else form.UntilEmpty)
+told_by version (Some form.UntilTime) rest = Some form.UntilEmpty
+told_by version first rest = first
 
 abbrev pub made_form : List Word → Option Form
 made_form (v ∷ w ∷ rest) = if same v (codes "=") then form_at w made_words else None
 made_form other = None
 
-abbrev pub begins : List Word → Option Form
-begins [] = None
-begins (w ∷ rest) = option_or (told_by (form_at w first_words) rest) (made_form rest)
+abbrev pub begins : Version → List Word → Option Form
+begins version [] = None
+begins version (w ∷ rest) = option_or (told_by version (form_at w (first_words version)) rest) (made_form rest)
 
 -- the form begins with `x =`
 abbrev pub is_made : Form → Bool
@@ -98,8 +108,10 @@ same_sort s t = false
 -- the forms that stand in a process, its `end` among them
 abbrev pub is_statement : Form → Bool
 is_statement form.Scenario = false
+is_statement form.ScenarioTwo = false
 is_statement form.UntilEmpty = false
 is_statement form.UntilTime = false
+is_statement form.UntilEvent = false
 is_statement form.Seed = false
 is_statement form.Resource = false
 is_statement form.Priority = false

@@ -4,6 +4,7 @@ pub mod Names
 pub mod Named
 pub mod Parameters
 pub mod Forms
+pub mod AnywhereInText
 pub mod Shapes
 pub mod Sayings
 pub mod Said

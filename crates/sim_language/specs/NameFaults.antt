@@ -9,11 +9,13 @@ use Rattle.sim_language.specs.declared.form.Form.{Form}
 use Rattle.sim_language.specs.declared.form.Form.TheVariants as form
 use Rattle.sim_language.specs.declared.form.Sort.{Sort}
 use Rattle.sim_language.specs.declared.shape.Role.{Role}
-use Rattle.sim_language.specs.declared.shape.Role.TheVariants.{Declares, Names}
+use Rattle.sim_language.specs.declared.shape.Role.TheVariants.{Declares, Names, EventAhead}
+use Rattle.sim_language.specs.declared.shape.Ahead.TheVariants.{Undeclared, NoEvent}
 use Rattle.sim_language.specs.Lines.{Word, is_among}
 use Rattle.sim_language.specs.Named.{is_named, value_of}
 use Rattle.sim_language.specs.Forms.{is_process, same_sort}
-use Rattle.sim_language.specs.Shapes.{Operand, ProcessLines, parameters}
+use Rattle.sim_language.specs.Shapes.{Operand}
+use Rattle.sim_language.specs.AnywhereInText.{ProcessLines, parameters}
 use Rattle.sim_language.specs.Declarations.{sort_of, is_event}
 use Rattle.sim_language.specs.Blocks.{first_word}
 use Rattle.sim_language.specs.Variables.{given_by}
@@ -56,6 +58,7 @@ names_unknown heads above slot = by slot.role
   where
     by : Role → Bool
     by (Names wanted) = is_none (sort_of heads above.declared slot.word)
+    by (EventAhead Undeclared) = true
     by role = false
 
 abbrev pub unknown_name : ProcessLines → Above → List Operand → Bool
@@ -73,6 +76,7 @@ names_other heads above slot = by slot.role
   where
     by : Role → Bool
     by (Names wanted) = is_other wanted (sort_of heads above.declared slot.word)
+    by (EventAhead NoEvent) = true
     by role = false
 
 -- how many words a kind of resource takes behind its name, where it takes the form at all

@@ -4,26 +4,28 @@ use Rattle.std.specs.List.{list_any}
 use Rattle.std.specs.Int.Signed.{lt_z}
 use Rattle.sim_language.specs.declared.form.Form.{Form}
 use Rattle.sim_language.specs.declared.form.Form.TheVariants as form
-use Rattle.sim_language.specs.Lines.{Word, same}
+use Rattle.sim_language.specs.Lines.{Word}
 use Rattle.sim_language.specs.Numbers.{literal}
 use Rattle.sim_language.specs.Shapes.{Operand}
-use Rattle.sim_language.specs.Sayings.{begins_with}
-use Rattle.sim_language.specs.Blocks.{Block, first_word}
+use Rattle.sim_language.specs.Sayings.{TextLine, begins_with}
+use Rattle.sim_language.specs.Blocks.{Block, says, first_word}
 use Rattle.sim_language.specs.Places.{Above, in_process, blocks_of, stands_in}
 
--- ---- BadHeader: the first line with words is not `scenario 1`, or the second does not begin with `until`
+-- ---- BadHeader: the first line with words is neither `scenario 1` nor, where that is built, `scenario 2`, or the second does
+-- not begin with `until`
 
-abbrev pub is_header : List Word → Bool
-is_header (v ∷ w ∷ []) = same v (codes "scenario") && same w (codes "1")
-is_header ws = false
+abbrev pub is_header : Form → Bool
+is_header form.Scenario = true
+is_header form.ScenarioTwo = true
+is_header f = false
 
-abbrev pub bad_header_at : ℕ → List Word → Bool
-bad_header_at zero ws = not (is_header ws)
-bad_header_at (suc zero) ws = not (begins_with (codes "until") ws)
-bad_header_at (suc (suc n)) ws = false
+abbrev pub bad_header_at : ℕ → TextLine → Bool
+bad_header_at zero line = not (says is_header line.saying)
+bad_header_at (suc zero) line = not (begins_with (codes "until") line.words)
+bad_header_at (suc (suc n)) line = false
 
-abbrev pub bad_header : Above → List Word → Bool
-bad_header above ws = bad_header_at above.worded ws
+abbrev pub bad_header : Above → TextLine → Bool
+bad_header above line = bad_header_at above.worded line
 
 -- ---- Misplaced
 
@@ -60,8 +62,10 @@ declaration_misplaced above = in_process above || above.process_or_start
 -- out of the order of a text, or of a process and its blocks
 abbrev pub misplaced : Above → Form → List Operand → Bool
 misplaced above form.Scenario slots = not (above.worded == 0)
+misplaced above form.ScenarioTwo slots = not (above.worded == 0)
 misplaced above form.UntilEmpty slots = not (above.worded == 1)
 misplaced above form.UntilTime slots = not (above.worded == 1)
+misplaced above form.UntilEvent slots = not (above.worded == 1)
 misplaced above form.Seed slots = not (above.worded == 2)
 misplaced above form.Resource slots = declaration_misplaced above
 misplaced above form.Priority slots = declaration_misplaced above

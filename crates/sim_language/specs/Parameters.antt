@@ -2,6 +2,7 @@
 use Rattle.std.specs.Prelude.{ℕ, Bool, ◌||◌, ◌&&◌, ◌==◌, if◌then◌else◌, length, drop, codes}
 use Rattle.sim_types.specs.declared.setup.Class.{Class}
 use Rattle.sim_types.specs.declared.setup.Class.TheVariants as class
+use Rattle.sim_language.specs.declared.form.Version.{Version}
 use Rattle.sim_language.specs.Lines.{Word, same, is_empty, up_to}
 use Rattle.sim_language.specs.Names.{is_name}
 
@@ -21,7 +22,7 @@ parameter_class w =
     if same (class_part w) (codes ":event") then class.Event
     else (if same (class_part w) (codes ":proc") then class.Proc else class.Number)
 
-abbrev pub is_parameter : Word → Bool
-is_parameter w =
-    is_name (parameter_name w)
+abbrev pub is_parameter : Version → Word → Bool
+is_parameter version w =
+    is_name version (parameter_name w)
     && (is_empty (class_part w) || same (class_part w) (codes ":event") || same (class_part w) (codes ":proc"))

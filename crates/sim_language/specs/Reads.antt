@@ -1,6 +1,6 @@
 -- What a text says.
 --     reads built bytes      the fault of the first faulty line, or else the scenario
-use Rattle.std.specs.Prelude.{ℕ, ◌+◌, Bool, if◌then◌else◌, nat_lt, List, [], ◌∷◌, ◌++◌, map, length, take, replicate, nat_abs, ℤ, pos, Option, Some, None, unwrap_or, Result, Ok, Err}
+use Rattle.std.specs.Prelude.{ℕ, suc, ◌+◌, Bool, if◌then◌else◌, nat_lt, List, [], ◌∷◌, ◌++◌, map, length, take, replicate, nat_abs, ℤ, pos, Option, Some, None, unwrap_or, Result, Ok, Err}
 use Rattle.sim_types.specs.Limits.{most_bytes, most_items, most_level}
 use Rattle.sim_types.specs.Scenarios.{ScenarioOf}
 use Rattle.sim_types.specs.declared.fault.Fault.{Fault}
@@ -18,11 +18,13 @@ use Rattle.sim_language.specs.declared.form.Form.{Form}
 use Rattle.sim_language.specs.declared.form.Meaning.{Meaning}
 use Rattle.sim_language.specs.declared.form.Form.TheVariants as form
 use Rattle.sim_language.specs.declared.shape.Role.{Role}
-use Rattle.sim_language.specs.declared.shape.Role.TheVariants.{Names}
+use Rattle.sim_language.specs.declared.shape.Role.TheVariants.{Names, EventAhead}
+use Rattle.sim_language.specs.declared.shape.Ahead.TheVariants.{EventAt}
 use Rattle.sim_language.specs.Lines.{Word, lines}
 use Rattle.sim_language.specs.Named.{Named}
-use Rattle.sim_language.specs.Shapes.{Operand, ProcessLines, capacity}
-use Rattle.sim_language.specs.Sayings.{TextLine, Saying, Says, heads_of, sayings}
+use Rattle.sim_language.specs.Shapes.{Operand, capacity}
+use Rattle.sim_language.specs.AnywhereInText.{ProcessLines, WholeText, whole_text}
+use Rattle.sim_language.specs.Sayings.{TextLine, Saying, Says, sayings}
 use Rattle.sim_language.specs.Variables.{given_by}
 use Rattle.sim_language.specs.Places.{LineInText, places}
 use Rattle.sim_language.specs.Faults.{first_fault, end_fault}
@@ -69,6 +71,14 @@ start_argument_of ds slot = by slot.role
     by (Names wanted) = pos (event_number ds slot.word)
     by role = literal_of slot.word
 
+-- the event that `until event` names
+abbrev pub event_ahead : Operand → ℕ
+event_ahead slot = by slot.role
+  where
+    by : Role → ℕ
+    by (EventAhead (EventAt n)) = suc n
+    by role = 0
+
 -- each variable's class by its number, and Number for the numbers that no variable has
 abbrev pub classes_of : List (Named Class) → List Class
 classes_of variables = take 64 (class.Number ∷ map (λ v. v.value) variables ++ replicate 64 class.Number)
@@ -79,6 +89,7 @@ kind_of place slots = record { params = length (given_by slots); first = place.a
 -- `until empty` and the lines of headers and sections add nothing
 abbrev pub add : ProcessLines → LineInText → Form → List Operand → ScenarioOf → ScenarioOf
 add heads place form.UntilTime (t ∷ []) s = record s { setup = record s.setup { until = until.At (literal_of t.word) } }
+add heads place form.UntilEvent (n ∷ []) s = record s { setup = record s.setup { until = until.Event (record { 0 = event_ahead n }) } }
 add heads place form.Seed (n ∷ []) s = record s { seed = natural_of n.word }
 add heads place form.Resource (n ∷ c ∷ []) s = with_resource s resource.Plain (literal_of c.word) (pos 0)
 add heads place form.Priority (n ∷ c ∷ []) s = with_resource s resource.Priority (literal_of c.word) (pos 0)
@@ -134,11 +145,11 @@ reads_lines heads ls = outcome heads nothing_said (places 1 [] ls) (end_fault ls
 abbrev pub is_too_long : List ℕ → Bool
 is_too_long bytes = nat_lt most_bytes (length bytes)
 
-abbrev pub reads_text : (Form → Bool) → ProcessLines → List Word → Result ScenarioOf Fault
-reads_text built heads ls = reads_lines heads (sayings built heads ls)
+abbrev pub reads_text : (Form → Bool) → WholeText → List Word → Result ScenarioOf Fault
+reads_text built whole ls = reads_lines whole.heads (sayings built whole ls)
 
 abbrev pub reads : (Form → Bool) → List ℕ → Result ScenarioOf Fault
-reads built bytes = if is_too_long bytes then Err (record { line = 0; kind = fault.TooLong }) else reads_text built (heads_of (lines bytes)) (lines bytes)
+reads built bytes = if is_too_long bytes then Err (record { line = 0; kind = fault.TooLong }) else reads_text built (whole_text built (lines bytes)) (lines bytes)
 
 -- the fault alone
 abbrev pub fault_of : (Form → Bool) → List ℕ → Option Fault

@@ -12,7 +12,7 @@ pub record Fits (f : Form) (slots : List Operand) : Type 0 where
   pub words : List Word
   pub shape : fit context [] (shape f) words ≡ Some slots
   pub numbers : list_any is_bad_number slots ≡ false
-  pub names : list_any is_bad_name slots ≡ false
+  pub names : list_any (is_bad_name context.whole.version) slots ≡ false
 
 -- what a line can say
 abbrev pub IsSaid : Saying → Type 0

@@ -1,42 +1,30 @@
 -- What a line says by itself: nothing, a fault, or a form with its operands.
---     heads_of lines                 the process lines of a text
---     sayings built heads lines      the lines of a text, each with what it says
-use Rattle.std.specs.Prelude.{ℕ, ◌+◌, Bool, true, false, not, ◌||◌, ◌&&◌, if◌then◌else◌, nat_lt, List, [], ◌∷◌, map, length, filter_map, codes, Option, Some, None, is_none}
+--     sayings built whole lines      the lines of a text, each with what it says
+use Rattle.std.specs.Prelude.{ℕ, ◌+◌, Bool, true, false, not, ◌||◌, ◌&&◌, if◌then◌else◌, nat_lt, List, [], ◌∷◌, length, codes, Option, Some, None, is_none}
 use Rattle.std.specs.List.{list_any, list_all}
-use Rattle.sim_types.specs.declared.setup.Class.{Class}
 use Rattle.sim_types.specs.declared.fault.FaultKind.{FaultKind}
 use Rattle.sim_types.specs.declared.fault.FaultKind.TheVariants as fault
 use Rattle.sim_language.specs.declared.form.Form.{Form}
 use Rattle.sim_language.specs.declared.form.Form.TheVariants as form
 use Rattle.sim_language.specs.declared.form.Section.{Section}
+use Rattle.sim_language.specs.declared.form.Version.{Version}
 use Rattle.sim_language.specs.declared.form.Section.TheVariants.{Plain, InJournal, InPosters}
 use Rattle.sim_language.specs.declared.shape.Reference.{Reference}
-use Rattle.sim_language.specs.declared.shape.Reference.TheVariants.{AnyEvent, AProcess}
+use Rattle.sim_language.specs.declared.shape.Reference.TheVariants.{AnyEvent, AProcess, Chained}
 use Rattle.sim_language.specs.declared.shape.Role.{Role}
-use Rattle.sim_language.specs.declared.shape.Role.TheVariants.{Declares, Parameter, Gives, Value, Within, Capacity, Refers, Names}
+use Rattle.sim_language.specs.declared.shape.Role.TheVariants.{Declares, Parameter, Gives, Value, Within, Capacity, Refers, Names, EventAhead}
 use Rattle.sim_language.specs.Lines.{Word, same, cut, words, is_text}
 use Rattle.sim_language.specs.Numbers.{literal_within}
 use Rattle.sim_language.specs.Names.{is_name}
-use Rattle.sim_language.specs.Named.{Named, with_all}
-use Rattle.sim_language.specs.Parameters.{is_parameter, parameter_class}
+use Rattle.sim_language.specs.Parameters.{is_parameter}
 use Rattle.sim_language.specs.Forms.{begins, operands}
-use Rattle.sim_language.specs.Shapes.{Operand, ProcessLines, Context, capacity, shape, fit}
+use Rattle.sim_language.specs.Shapes.{Operand, Context, capacity, shape, fit}
+use Rattle.sim_language.specs.AnywhereInText.{WholeText}
 
 -- the first word of a line is this one
 abbrev pub begins_with : Word → List Word → Bool
 begins_with v [] = false
 begins_with v (w ∷ ws) = same w v
-
--- ---- the process lines of a text
-
--- a line whose first word is `process` and whose second is a name declares a process; its parameters are the further words
-abbrev pub head_of : List Word → Option (Named (List Class))
-head_of (p ∷ name ∷ params) = if same p (codes "process") && is_name name then Some (record { name = name; value = map parameter_class params }) else None
-head_of other = None
-
--- each process by the first line that declares it
-abbrev pub heads_of : List Word → ProcessLines
-heads_of ls = with_all [] (filter_map (λ l. head_of (words (cut l))) ls)
 
 -- ---- the section that a line stands in
 
@@ -46,14 +34,15 @@ section_behind ws InPosters = InPosters
 section_behind ws section = if begins_with (codes "poster") ws then InPosters else (if begins_with (codes "journal") ws then InJournal else section)
 
 -- in a section the first word is judged before all else
-abbrev pub form_in : Section → List Word → Option Form
-form_in Plain ws = begins ws
-form_in InJournal ws = if begins_with (codes "after") ws then Some form.After else None
-form_in InPosters ws = if begins_with (codes "poster") ws then Some form.Poster else Some form.Post
+abbrev pub form_in : Version → Section → List Word → Option Form
+form_in version Plain ws = begins version ws
+form_in version InJournal ws = if begins_with (codes "after") ws then Some form.After else None
+form_in version InPosters ws = if begins_with (codes "poster") ws then Some form.Poster else Some form.Post
 
--- a form that is not built is none
+-- a form that is not built is none; a header of a version that is not built is one of another shape
 abbrev pub if_built : (Form → Bool) → Option Form → Option Form
 if_built built None = None
+if_built built (Some form.ScenarioTwo) = Some (if built form.ScenarioTwo then form.ScenarioTwo else form.Scenario)
 if_built built (Some f) = if built f then Some f else None
 
 -- ---- numbers and names
@@ -71,6 +60,7 @@ is_bad_number slot = by slot.role
 abbrev pub takes_me : Reference → Bool
 takes_me AnyEvent = true
 takes_me AProcess = true
+takes_me Chained = true
 takes_me reference = false
 
 -- `now` and `val` may stand for a number
@@ -81,16 +71,17 @@ abbrev pub is_me : Word → Bool
 is_me w = same w (codes "me")
 
 -- a name is wanted, and the word is none
-abbrev pub is_bad_name : Operand → Bool
-is_bad_name slot = by slot.role
+abbrev pub is_bad_name : Version → Operand → Bool
+is_bad_name version slot = by slot.role
   where
     by : Role → Bool
-    by Declares = not (is_name slot.word)
-    by Parameter = not (is_parameter slot.word)
-    by (Gives class) = not (is_name slot.word)
-    by Value = not (is_now_or_val slot.word || is_name slot.word)
-    by (Refers reference) = not (takes_me reference && is_me slot.word || is_name slot.word)
-    by (Names wanted) = not (is_name slot.word)
+    by Declares = not (is_name version slot.word)
+    by Parameter = not (is_parameter version slot.word)
+    by (Gives class) = not (is_name version slot.word)
+    by Value = not (is_now_or_val slot.word || is_name version slot.word)
+    by (Refers reference) = not (takes_me reference && is_me slot.word || is_name version slot.word)
+    by (Names wanted) = not (is_name version slot.word)
+    by (EventAhead found) = not (is_name version slot.word)
     by role = false
 
 -- ---- what a line says
@@ -103,25 +94,25 @@ pub data Saying : Type 0 where
   -- a form, and its operands
   Says : Form → List Operand → Saying
 
-abbrev pub said_by_slots : Form → Option (List Operand) → Saying
-said_by_slots f None = Wrong fault.BadShape
-said_by_slots f (Some slots) =
+abbrev pub said_by_slots : Version → Form → Option (List Operand) → Saying
+said_by_slots version f None = Wrong fault.BadShape
+said_by_slots version f (Some slots) =
     if list_any is_bad_number slots then Wrong fault.BadNumber
-    else (if list_any is_bad_name slots then Wrong fault.BadName else Says f slots)
+    else (if list_any (is_bad_name version) slots then Wrong fault.BadName else Says f slots)
 
 abbrev pub said_by_form : Context → Option Form → List Word → Saying
 said_by_form context None ws = Wrong fault.UnknownWord
-said_by_form context (Some f) ws = said_by_slots f (fit context [] (shape f) (operands f ws))
+said_by_form context (Some f) ws = said_by_slots context.whole.version f (fit context [] (shape f) (operands f ws))
 
--- what a line says depends on the forms that are built, the process lines, and the sections that began above
+-- what a line says depends on the forms that are built, on the whole text, and on the sections that began above
 pub record Setting : Type 0 where
   pub built : Form → Bool
-  pub heads : ProcessLines
+  pub whole : WholeText
   pub section : Section
   pub posters : ℕ
 
 abbrev pub context_of : Setting → Context
-context_of s = record { heads = s.heads; posters = s.posters }
+context_of s = record { whole = s.whole; posters = s.posters }
 
 -- a line that is no text, or too long, says nothing more
 abbrev pub saying : Setting → Word → List Word → Saying
@@ -129,7 +120,7 @@ saying s line [] = Blank
 saying s line (w ∷ ws) =
     if not (list_all is_text line) then Wrong fault.NotText
     else (if nat_lt 200 (length line) then Wrong fault.LineTooLong
-    else said_by_form (context_of s) (if_built s.built (form_in s.section (w ∷ ws))) (w ∷ ws))
+    else said_by_form (context_of s) (if_built s.built (form_in s.whole.version s.section (w ∷ ws))) (w ∷ ws))
 
 -- a cut line, its words and what it says
 pub record TextLine : Type 0 where
@@ -147,6 +138,6 @@ abbrev pub lines_from : Setting → List Word → List TextLine
 lines_from s [] = []
 lines_from s (l ∷ ls) = line_of s l ∷ lines_from (setting_behind (words (cut l)) s) ls
 
--- the lines of a text with these process lines
-abbrev pub sayings : (Form → Bool) → ProcessLines → List Word → List TextLine
-sayings built heads ls = lines_from (record { built = built; heads = heads; section = Plain; posters = 0 }) ls
+-- the lines of a text
+abbrev pub sayings : (Form → Bool) → WholeText → List Word → List TextLine
+sayings built whole ls = lines_from (record { built = built; whole = whole; section = Plain; posters = 0 }) ls

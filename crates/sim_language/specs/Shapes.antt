@@ -8,18 +8,18 @@ use Rattle.sim_types.specs.declared.setup.Class.TheVariants as class
 use Rattle.sim_language.specs.declared.form.Form.{Form}
 use Rattle.sim_language.specs.declared.form.Form.TheVariants as form
 use Rattle.sim_language.specs.declared.form.Sort.TheVariants as sort
-use Rattle.sim_language.specs.declared.shape.Reference.TheVariants.{AnyEvent, PlainEvent, AProcess, ACondition, ARequest, AMove}
+use Rattle.sim_language.specs.declared.shape.Reference.TheVariants.{AnyEvent, PlainEvent, Chained, AProcess, ACondition, ARequest, AMove}
 use Rattle.sim_language.specs.declared.shape.Role.{Role}
-use Rattle.sim_language.specs.declared.shape.Role.TheVariants.{Declares, Parameter, Gives, Value, Within, Capacity, Refers, Names, Free}
+use Rattle.sim_language.specs.declared.shape.Role.TheVariants.{Declares, Parameter, Gives, Value, Within, Capacity, Refers, Names, EventAhead, Free}
 use Rattle.sim_language.specs.declared.shape.Fixed.{Fixed}
 use Rattle.sim_language.specs.declared.shape.Fixed.TheVariants as fixed
 use Rattle.sim_language.specs.declared.shape.Choice.{Choice}
 use Rattle.sim_language.specs.declared.shape.Choice.TheVariants as choice
 use Rattle.sim_language.specs.declared.shape.Item.{Item}
-use Rattle.sim_language.specs.declared.shape.Item.TheVariants.{Exactly, OneOf, A, Opening, NextPoster, MayEnd, Each, SpawnArguments, StartArguments}
+use Rattle.sim_language.specs.declared.shape.Item.TheVariants.{Exactly, OneOf, A, Opening, EventName, NextPoster, MayEnd, Each, SpawnArguments, StartArguments}
 use Rattle.sim_language.specs.Lines.{Word, same, is_among, words}
 use Rattle.sim_language.specs.Numbers.{least, greatest, literal_within, looks_numeric}
-use Rattle.sim_language.specs.Named.{Named, value_of}
+use Rattle.sim_language.specs.AnywhereInText.{WholeText, parameters, ahead}
 
 -- ---- the table of shapes
 
@@ -32,8 +32,10 @@ any_literal = Within least greatest
 
 abbrev pub shape : Form → List Item
 shape form.Scenario = Exactly fixed.One ∷ []
+shape form.ScenarioTwo = Exactly fixed.Two ∷ []
 shape form.UntilEmpty = Exactly fixed.Empty ∷ []
 shape form.UntilTime = A (Within (pos 1) last_time) ∷ []
+shape form.UntilEvent = Exactly fixed.Event ∷ EventName ∷ []
 shape form.Seed = A (Within (pos 0) greatest) ∷ []
 shape form.Resource = A Declares ∷ A users ∷ []
 shape form.Priority = A Declares ∷ A users ∷ []
@@ -76,6 +78,7 @@ shape form.Catch = A (Gives class.Number) ∷ A (Gives class.Number) ∷ []
 shape form.End = []
 shape form.Break = []
 shape form.Log = A Value ∷ []
+shape form.Chain = A (Refers Chained) ∷ A (Refers PlainEvent) ∷ []
 shape form.Draw = A (Gives class.Number) ∷ A Value ∷ A Value ∷ []
 shape form.NewTimeout = A (Gives class.Event) ∷ A Value ∷ A Value ∷ []
 shape form.NewEvent = A (Gives class.Event) ∷ []
@@ -89,6 +92,8 @@ shape form.NewGet = A (Gives class.Move) ∷ A (Names sort.Resource) ∷ MayEnd 
 
 abbrev pub fixed_word : Fixed → Word
 fixed_word fixed.One = codes "1"
+fixed_word fixed.Two = codes "2"
+fixed_word fixed.Event = codes "event"
 fixed_word fixed.Empty = codes "empty"
 fixed_word fixed.Equals = codes "="
 fixed_word fixed.Request = codes "request"
@@ -104,18 +109,10 @@ pub record Operand : Type 0 where
   pub role : Role
   pub word : Word
 
--- the process lines of a text, each with the classes of its parameters
-abbrev pub ProcessLines : Type 0
-ProcessLines = List (Named (List Class))
-
--- the parameters of a process; none where no process has the name
-abbrev pub parameters : ProcessLines → Word → List Class
-parameters heads name = unwrap_or (value_of name heads) []
-
--- what a line's shape depends on beside its words: the process lines of the whole text, and how many `poster` lines stand
+-- what a line's shape depends on beside its words: what it takes from the whole text, and how many `poster` lines stand
 -- above
 pub record Context : Type 0 where
-  pub heads : ProcessLines
+  pub whole : WholeText
   pub posters : ℕ
 
 -- an argument is there for what its parameter takes
@@ -159,11 +156,12 @@ fit context last [] (w ∷ ws) = None
 fit context last (MayEnd ∷ items) [] = Some []
 fit context last (MayEnd ∷ items) (w ∷ ws) = fit context last items (w ∷ ws)
 fit context last (Each role ∷ items) ws = Some (map (slot_of role) ws)
-fit context last (SpawnArguments ∷ items) ws = Some (side_by_side (map spawn_argument (parameters context.heads last)) ws)
-fit context last (StartArguments ∷ items) ws = Some (side_by_side (map start_argument (parameters context.heads last)) ws)
+fit context last (SpawnArguments ∷ items) ws = Some (side_by_side (map spawn_argument (parameters context.whole.heads last)) ws)
+fit context last (StartArguments ∷ items) ws = Some (side_by_side (map start_argument (parameters context.whole.heads last)) ws)
 fit context last (item ∷ items) [] = None
 fit context last (Exactly word ∷ items) (w ∷ ws) = if same w (fixed_word word) then fit context w items ws else None
 fit context last (OneOf choice ∷ items) (w ∷ ws) = if is_among w (choices choice) then before_all (slot_of Free w) (fit context w items ws) else None
 fit context last (A role ∷ items) (w ∷ ws) = before_all (slot_of role w) (fit context w items ws)
 fit context last (Opening ∷ items) (w ∷ ws) = before_all (slot_of (opening last) w) (fit context w items ws)
+fit context last (EventName ∷ items) (w ∷ ws) = before_all (slot_of (EventAhead (ahead w context.whole.declarations)) w) (fit context w items ws)
 fit context last (NextPoster ∷ items) (w ∷ ws) = before_all (slot_of (Within (pos context.posters) (pos context.posters)) w) (fit context w items ws)

@@ -21,7 +21,8 @@ use Rattle.sim_language.specs.declared.shape.Role.TheVariants.{Within, Refers}
 use Rattle.sim_language.specs.Lines.{Word, same}
 use Rattle.sim_language.specs.Numbers.{literal}
 use Rattle.sim_language.specs.Named.{Named, value_of, place_or_none}
-use Rattle.sim_language.specs.Shapes.{Operand, ProcessLines}
+use Rattle.sim_language.specs.Shapes.{Operand}
+use Rattle.sim_language.specs.AnywhereInText.{ProcessLines}
 use Rattle.sim_language.specs.Sayings.{is_me}
 use Rattle.sim_language.specs.Declarations.{is_event}
 use Rattle.sim_language.specs.Blocks.{Block}
@@ -160,5 +161,6 @@ statement heads place form.Catch (k ∷ v ∷ []) = Some (stmt.Catch (variable p
 statement heads place form.End [] = Some (end_of (unwrap_or place.above.blocks []))
 statement heads place form.Break [] = Some stmt.Break
 statement heads place form.Log (a ∷ []) = Some (stmt.Log (number_of place.variables a))
+statement heads place form.Chain (e ∷ f ∷ []) = Some (stmt.Chain (event_of place e.word) (event_of place f.word))
 statement heads place form.Draw (x ∷ lo ∷ hi ∷ []) = Some (stmt.Draw (variable place.variables x.word) (number_of place.variables lo) (number_of place.variables hi))
 statement heads place f slots = None

@@ -5,7 +5,7 @@ use Rattle.sim_types.specs.Setups.{is_class}
 use Rattle.sim_types.specs.declared.setup.Class.{Class}
 use Rattle.sim_types.specs.declared.setup.Class.TheVariants as class
 use Rattle.sim_language.specs.declared.shape.Reference.{Reference}
-use Rattle.sim_language.specs.declared.shape.Reference.TheVariants.{AnyEvent, PlainEvent, AProcess, ACondition, ARequest, AMove}
+use Rattle.sim_language.specs.declared.shape.Reference.TheVariants.{AnyEvent, PlainEvent, Chained, AProcess, ACondition, ARequest, AMove}
 use Rattle.sim_language.specs.declared.shape.Role.{Role}
 use Rattle.sim_language.specs.declared.shape.Role.TheVariants.{Gives, Value, Refers}
 use Rattle.sim_language.specs.Named.{Named, value_of}
@@ -18,11 +18,13 @@ use Rattle.sim_language.specs.Places.{Above, LineInText}
 abbrev pub takes_named : Reference → Bool
 takes_named AnyEvent = true
 takes_named PlainEvent = true
+takes_named Chained = true
 takes_named reference = false
 
 abbrev pub takes_class : Reference → Class → Bool
 takes_class AnyEvent c = not (is_class c class.Number)
 takes_class PlainEvent c = is_class c class.Event
+takes_class Chained c = is_class c class.Event || is_class c class.Cond || is_class c class.Proc
 takes_class AProcess c = is_class c class.Proc
 takes_class ACondition c = is_class c class.Cond
 takes_class ARequest c = is_class c class.Request

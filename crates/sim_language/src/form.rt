@@ -49,10 +49,14 @@ const PREFERENCE: Item = Item::OneOf(Choice::Preference);
 pub enum Form {
     /// `scenario 1`
     Scenario,
+    /// `scenario 2`, the header of the second version
+    ScenarioTwo,
     /// `until empty`
     UntilEmpty,
     /// `until T`
     UntilTime,
+    /// `until event N`, of the second version
+    UntilEvent,
     /// `seed S`
     Seed,
     /// `resource N C`
@@ -139,6 +143,8 @@ pub enum Form {
     Log,
     /// `draw x LO HI`
     Draw,
+    /// `chain E F`, of the second version
+    Chain,
     /// `x = timeout D V`
     NewTimeout,
     /// `x = event`
@@ -225,8 +231,10 @@ impl Form {
     {
         match self {
             Form::Scenario
+            | Form::ScenarioTwo
             | Form::UntilEmpty
             | Form::UntilTime
+            | Form::UntilEvent
             | Form::Seed
             | Form::Resource
             | Form::Priority
@@ -275,8 +283,10 @@ impl Form {
     {
         match self {
             Form::Scenario => &[Item::Exactly(Fixed::One)],
+            Form::ScenarioTwo => &[Item::Exactly(Fixed::Two)],
             Form::UntilEmpty => &[Item::Exactly(Fixed::Empty)],
             Form::UntilTime => &[Item::A(Role::Within(1, LAST_TIME))],
+            Form::UntilEvent => &[Item::Exactly(Fixed::Event), Item::EventName],
             Form::Seed => &[Item::A(Role::Within(0, i64::MAX))],
             Form::Resource | Form::Priority | Form::Preemptive => &[DECLARES, USERS],
             Form::Container => &[DECLARES, LEVEL, Item::Opening],
@@ -320,6 +330,10 @@ impl Form {
             Form::Cancel => &[Item::A(Role::Refers(Reference::AMove))],
             Form::Catch => &[NUMBER, NUMBER],
             Form::Draw => &[NUMBER, VALUE, VALUE],
+            Form::Chain => &[
+                Item::A(Role::Refers(Reference::Chained)),
+                Item::A(Role::Refers(Reference::PlainEvent)),
+            ],
             Form::NewTimeout => &[Item::A(Role::Gives(Class::Event)), VALUE, VALUE],
             Form::NewEvent => &[Item::A(Role::Gives(Class::Event))],
             Form::NewAll | Form::NewAny => &[
@@ -366,6 +380,14 @@ pub struct Meaning {
     pub form: Form,
     /// Its number among the names of its sort, counted from 0.
     pub number: u32,
+}
+
+/// The version of the language that a text is written in, told by its first line.
+#[derive(Clone, Copy)]
+pub enum Version {
+    One,
+    /// With `until event N` and `chain`.
+    Two,
 }
 
 /// The part of a text that a line stands in.

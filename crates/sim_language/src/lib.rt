@@ -5,5 +5,5 @@
 mod form;
 mod shape;
 
-pub use form::{Form, Meaning, Section, Sort};
-pub use shape::{Choice, Fixed, Item, Reference, Role};
+pub use form::{Form, Meaning, Section, Sort, Version};
+pub use shape::{Ahead, Choice, Fixed, Item, Reference, Role};

@@ -15,6 +15,8 @@ pub enum Reference {
     AnyEvent,
     /// A variable of class event, or a named event.
     PlainEvent,
+    /// What `chain` takes the outcome of: a variable of class event, cond or proc, a named event, or `me`.
+    Chained,
     /// A variable of class proc, or `me`.
     AProcess,
     /// A variable of class cond.
@@ -30,14 +32,20 @@ impl Reference {
     pub fn takes_me(self) -> bool
         ensures { result ≡ takes_me self }
     {
-        matches!(self, Reference::AnyEvent | Reference::AProcess)
+        matches!(
+            self,
+            Reference::AnyEvent | Reference::AProcess | Reference::Chained
+        )
     }
 
     /// Whether a named event may stand there.
     pub fn takes_named(self) -> bool
         ensures { result ≡ takes_named self }
     {
-        matches!(self, Reference::AnyEvent | Reference::PlainEvent)
+        matches!(
+            self,
+            Reference::AnyEvent | Reference::PlainEvent | Reference::Chained
+        )
     }
 
     /// Whether a variable of the class may stand there.
@@ -47,12 +55,24 @@ impl Reference {
         match self {
             Reference::AnyEvent => !matches!(class, Class::Number),
             Reference::PlainEvent => matches!(class, Class::Event),
+            Reference::Chained => matches!(class, Class::Event | Class::Cond | Class::Proc),
             Reference::AProcess => matches!(class, Class::Proc),
             Reference::ACondition => matches!(class, Class::Cond),
             Reference::ARequest => matches!(class, Class::Request),
             Reference::AMove => matches!(class, Class::Move),
         }
     }
+}
+
+/// What the first line that declares a name declares it as, wherever in the text it stands.
+#[derive(Clone, Copy)]
+pub enum Ahead {
+    /// No line declares the name.
+    Undeclared,
+    /// It is a resource, a port or a process.
+    NoEvent,
+    /// It is an event, with so many lines above that declare events.
+    EventAt(u32),
 }
 
 /// What an operand is there for.
@@ -74,6 +94,8 @@ pub enum Role {
     Refers(Reference),
     /// It is a declared name of this sort.
     Names(Sort),
+    /// It names an event that any line of the text may declare, and is declared as this.
+    EventAhead(Ahead),
     /// It is a word that is chosen, or an argument that no parameter takes.
     Free,
 }
@@ -107,6 +129,10 @@ impl Role {
 pub enum Fixed {
     /// `1`
     One,
+    /// `2`
+    Two,
+    /// `event`
+    Event,
     /// `empty`
     Empty,
     /// `=`
@@ -121,6 +147,8 @@ impl Fixed {
     {
         match self {
             Fixed::One => b"1",
+            Fixed::Two => b"2",
+            Fixed::Event => b"event",
             Fixed::Empty => b"empty",
             Fixed::Equals => b"=",
             Fixed::Request => b"request",
@@ -166,6 +194,8 @@ pub enum Item {
     A(Role),
     /// A literal from 0 to the capacity that stands before it.
     Opening,
+    /// The name of an event that any line of the text may declare.
+    EventName,
     /// The number of the next poster.
     NextPoster,
     /// The line may end here.

@@ -13,7 +13,8 @@ use Rattle.sim_types.specs.declared.setup.Post.{Post}
 use Rattle.sim_language.specs.declared.form.Form.{Form}
 use Rattle.sim_language.specs.declared.form.Form.TheVariants as form
 use Rattle.sim_language.specs.Lines.{Word}
-use Rattle.sim_language.specs.Shapes.{Operand, ProcessLines}
+use Rattle.sim_language.specs.Shapes.{Operand}
+use Rattle.sim_language.specs.AnywhereInText.{ProcessLines}
 use Rattle.sim_language.specs.Places.{LineInText}
 use Rattle.sim_language.specs.Statements.{literal_of, number_declared, kind_number, statement}
 use Rattle.sim_language.specs.Reads.{add, with_resource, with_port, with_start, with_kind, with_statement, with_arrival, onto_last, natural_of, capacity_of, start_argument_of, kind_of}

@@ -8,7 +8,8 @@ use Rattle.sim_language.specs.declared.form.Form.TheVariants as form
 use Rattle.sim_language.specs.declared.form.Sort.{Sort}
 use Rattle.sim_language.specs.declared.form.Sort.TheVariants as sort
 use Rattle.sim_language.specs.Forms.{declares_sort, is_statement}
-use Rattle.sim_language.specs.Shapes.{ProcessLines, Context, shape}
+use Rattle.sim_language.specs.Shapes.{Context, shape}
+use Rattle.sim_language.specs.AnywhereInText.{ProcessLines}
 use Rattle.sim_language.specs.Places.{LineInText, is_entry, is_poster}
 use Rattle.sim_language_law.proofs.ByShape.{Rule}
 use Rattle.sim_language_law.proofs.Additions.{Added, AResource, AnEvent, APort, AKind, AStart, AStatement, AnArrival, APoster, APost, added}

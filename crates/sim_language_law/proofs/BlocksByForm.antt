@@ -8,7 +8,8 @@ use Rattle.sim_types.specs.declared.script.Stmt.{Stmt}
 use Rattle.sim_language.specs.declared.form.Form.{Form}
 use Rattle.sim_language.specs.declared.form.Form.TheVariants as form
 use Rattle.sim_language.specs.Forms.{is_statement, is_process, declares_sort}
-use Rattle.sim_language.specs.Shapes.{Operand, ProcessLines}
+use Rattle.sim_language.specs.Shapes.{Operand}
+use Rattle.sim_language.specs.AnywhereInText.{ProcessLines}
 use Rattle.sim_language.specs.Blocks.{Block, blocks_behind}
 use Rattle.sim_language.specs.Places.{Above, LineInText, in_process}
 use Rattle.sim_language.specs.OrderFaults.{misplaced, awaits_else, awaits_catch, is_loop}

@@ -6,7 +6,8 @@ use Rattle.sim_types.specs.declared.fault.FaultKind.TheVariants as fault
 use Rattle.sim_language.specs.declared.form.Form.{Form}
 use Rattle.sim_language.specs.Lines.{Word, cut, words, is_text}
 use Rattle.sim_language.specs.Forms.{operands}
-use Rattle.sim_language.specs.Shapes.{Operand, ProcessLines, Context, fit, shape}
+use Rattle.sim_language.specs.Shapes.{Operand, Context, fit, shape}
+use Rattle.sim_language.specs.AnywhereInText.{ProcessLines}
 use Rattle.sim_language.specs.Sayings.{Setting, Saying, Blank, Wrong, Says, context_of, form_in, if_built, is_bad_name, is_bad_number, said_by_form, said_by_slots, saying, line_of, setting_behind, lines_from, sayings}
 
 -- a form that is said is built

@@ -15,8 +15,9 @@ use Rattle.sim_types.specs.declared.script.Stmt.TheVariants as stmt
 use Rattle.sim_language.specs.declared.form.Form.{Form}
 use Rattle.sim_language.specs.declared.form.Form.TheVariants as form
 use Rattle.sim_language.specs.Lines.{Word, lines, is_empty}
-use Rattle.sim_language.specs.Shapes.{Operand, ProcessLines}
-use Rattle.sim_language.specs.Sayings.{TextLine, Saying, Blank, Wrong, Says, heads_of, sayings}
+use Rattle.sim_language.specs.Shapes.{Operand}
+use Rattle.sim_language.specs.AnywhereInText.{ProcessLines, heads_of}
+use Rattle.sim_language.specs.Sayings.{TextLine, Saying, Blank, Wrong, Says, sayings}
 use Rattle.sim_language.specs.Blocks.{Block, closed, split_first, blocks_behind, blocks_then, open_blocks}
 use Rattle.sim_language.specs.Places.{LineInText, places, is_with}
 use Rattle.sim_language.specs.Statements.{end_of, statement}

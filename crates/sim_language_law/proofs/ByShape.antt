@@ -7,7 +7,8 @@ use Rattle.sim_language.specs.declared.shape.Role.TheVariants.{Within, Free}
 use Rattle.sim_language.specs.declared.shape.Item.{Item}
 use Rattle.sim_language.specs.declared.shape.Item.TheVariants.{Exactly, OneOf, A, Opening, NextPoster, MayEnd, Each, SpawnArguments, StartArguments}
 use Rattle.sim_language.specs.Lines.{Word, same, is_among}
-use Rattle.sim_language.specs.Shapes.{Operand, Context, slot_of, opening, side_by_side, spawn_argument, start_argument, parameters, choices, fixed_word, before_all, fit}
+use Rattle.sim_language.specs.Shapes.{Operand, Context, slot_of, opening, side_by_side, spawn_argument, start_argument, choices, fixed_word, before_all, fit}
+use Rattle.sim_language.specs.AnywhereInText.{parameters}
 use Rattle.std.specs.Prelude.{pos, if◌then◌else◌}
 
 abbrev pub Rule : Context → Word → List Item → (List Operand → Type 0) → Type 0

@@ -5,7 +5,8 @@ use Rattle.std.specs.List.{list_any, AllByRecursion}
 use Rattle.std.proofs.lemmas.Bool.{or_parts}
 use Rattle.sim_language.specs.declared.form.Form.{Form}
 use Rattle.sim_language.specs.Forms.{declares_sort}
-use Rattle.sim_language.specs.Shapes.{Operand, ProcessLines, shape}
+use Rattle.sim_language.specs.Shapes.{Operand, shape}
+use Rattle.sim_language.specs.AnywhereInText.{ProcessLines}
 use Rattle.sim_language.specs.Sayings.{is_bad_number, is_bad_name}
 use Rattle.sim_language.specs.Said.{Fits}
 use Rattle.sim_language.specs.Places.{LineInText}

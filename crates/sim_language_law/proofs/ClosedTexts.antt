@@ -16,7 +16,8 @@ use Rattle.sim_language.specs.declared.form.Form.TheVariants as form
 use Rattle.sim_language.specs.Lines.{Word}
 use Rattle.sim_language.specs.Named.{Named}
 use Rattle.sim_language.specs.Forms.{is_statement, is_process, opens_block}
-use Rattle.sim_language.specs.Shapes.{Operand, ProcessLines, shape}
+use Rattle.sim_language.specs.Shapes.{Operand, shape}
+use Rattle.sim_language.specs.AnywhereInText.{ProcessLines}
 use Rattle.sim_language.specs.Sayings.{TextLine, Saying, Blank, Wrong, Says}
 use Rattle.sim_language.specs.Said.{IsSaid, Fits}
 use Rattle.sim_language.specs.Blocks.{Block, statements, blocks_behind, open_blocks}

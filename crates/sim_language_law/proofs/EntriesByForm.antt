@@ -14,7 +14,8 @@ use Rattle.sim_language.specs.declared.shape.Role.TheVariants.{Names}
 use Rattle.sim_language.specs.Lines.{Word}
 use Rattle.sim_language.specs.Numbers.{literal, literal_within}
 use Rattle.sim_language.specs.Named.{Named, value_of}
-use Rattle.sim_language.specs.Shapes.{ProcessLines, Context, shape}
+use Rattle.sim_language.specs.Shapes.{Context, shape}
+use Rattle.sim_language.specs.AnywhereInText.{ProcessLines}
 use Rattle.sim_language.specs.Sayings.{Says}
 use Rattle.sim_language.specs.Places.{LineInText, after_then}
 use Rattle.sim_language.specs.OrderFaults.{falls}

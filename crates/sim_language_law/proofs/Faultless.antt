@@ -3,7 +3,8 @@ use Rattle.std.proofs.Common.{◌≡◌, refl, subst, sym, Bool, true, false, Li
 use Rattle.std.specs.List.{AllByRecursion, find}
 use Rattle.std.proofs.lemmas.Option.{none-some}
 use Rattle.sim_language.specs.declared.form.Form.{Form}
-use Rattle.sim_language.specs.Shapes.{Operand, ProcessLines}
+use Rattle.sim_language.specs.Shapes.{Operand}
+use Rattle.sim_language.specs.AnywhereInText.{ProcessLines}
 use Rattle.sim_language.specs.Sayings.{Says}
 use Rattle.sim_language.specs.Places.{LineInText}
 use Rattle.sim_language.specs.NameFaults as names

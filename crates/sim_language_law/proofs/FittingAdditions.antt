@@ -17,7 +17,8 @@ use Rattle.sim_language.specs.Names.{is_spelled, is_name, is_reserved}
 use Rattle.sim_language.specs.Numbers.{literal_within, greatest}
 use Rattle.sim_language.specs.Named.{Named}
 use Rattle.sim_language.specs.Parameters.{parameter_name, parameter_class}
-use Rattle.sim_language.specs.Shapes.{ProcessLines, Context, shape, slot_of, capacity}
+use Rattle.sim_language.specs.Shapes.{Context, shape, slot_of, capacity}
+use Rattle.sim_language.specs.AnywhereInText.{ProcessLines}
 use Rattle.sim_language.specs.Variables.{given_by}
 use Rattle.sim_language.specs.Places.{LineInText}
 use Rattle.sim_language.specs.Statements.{literal_of, statement}

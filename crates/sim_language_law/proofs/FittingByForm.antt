@@ -15,7 +15,8 @@ use Rattle.sim_language.specs.declared.shape.Reference.{Reference}
 use Rattle.sim_language.specs.declared.shape.Reference.TheVariants.{AnyEvent, PlainEvent, AProcess}
 use Rattle.sim_language.specs.declared.shape.Role.TheVariants.{Gives, Value, Refers, Names, Free}
 use Rattle.sim_language.specs.Lines.{Word}
-use Rattle.sim_language.specs.Shapes.{ProcessLines, Context, shape, slot_of, parameters, side_by_side, spawn_argument}
+use Rattle.sim_language.specs.Shapes.{Context, shape, slot_of, side_by_side, spawn_argument}
+use Rattle.sim_language.specs.AnywhereInText.{ProcessLines, parameters}
 use Rattle.sim_language.specs.Blocks.{Block}
 use Rattle.sim_language.specs.Places.{LineInText, blocks_of}
 use Rattle.sim_language.specs.Statements.{variable, number_of, event_of, nothing, preempts, kind_number, arguments, end_of, statement}

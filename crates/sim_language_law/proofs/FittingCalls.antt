@@ -20,7 +20,8 @@ use Rattle.sim_language.specs.declared.shape.Role.TheVariants.{Names}
 use Rattle.sim_language.specs.Lines.{Word}
 use Rattle.sim_language.specs.Named.{value_of, is_named}
 use Rattle.sim_language.specs.Forms.{declares_sort}
-use Rattle.sim_language.specs.Shapes.{Operand, ProcessLines, Context, shape, slot_of, parameters, side_by_side, start_argument}
+use Rattle.sim_language.specs.Shapes.{Operand, Context, shape, slot_of, side_by_side, start_argument}
+use Rattle.sim_language.specs.AnywhereInText.{ProcessLines, parameters}
 use Rattle.sim_language.specs.Declarations.{sort_by}
 use Rattle.sim_language.specs.Places.{LineInText}
 use Rattle.sim_language.specs.NameFaults.{is_process_class}

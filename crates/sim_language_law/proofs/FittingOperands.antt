@@ -20,7 +20,8 @@ use Rattle.sim_language.specs.Names.{is_name}
 use Rattle.sim_language.specs.Numbers.{looks_numeric}
 use Rattle.sim_language.specs.Named.{Named, value_of, place_of}
 use Rattle.sim_language.specs.Forms.{declares_sort}
-use Rattle.sim_language.specs.Shapes.{Operand, ProcessLines, slot_of, any_literal}
+use Rattle.sim_language.specs.Shapes.{Operand, slot_of, any_literal}
+use Rattle.sim_language.specs.AnywhereInText.{ProcessLines}
 use Rattle.sim_language.specs.Sayings.{is_me, takes_me}
 use Rattle.sim_language.specs.Declarations.{is_event, is_of_sort}
 use Rattle.sim_language.specs.Variables.{variable_number}

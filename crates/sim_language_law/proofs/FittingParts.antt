@@ -26,7 +26,8 @@ use Rattle.sim_language.specs.declared.shape.Role.TheVariants.{Value, Refers, Na
 use Rattle.sim_language.specs.Lines.{Word}
 use Rattle.sim_language.specs.Numbers.{looks_numeric}
 use Rattle.sim_language.specs.Named.{value_of}
-use Rattle.sim_language.specs.Shapes.{Operand, ProcessLines, slot_of, any_literal, parameters, side_by_side, spawn_argument}
+use Rattle.sim_language.specs.Shapes.{Operand, slot_of, any_literal, side_by_side, spawn_argument}
+use Rattle.sim_language.specs.AnywhereInText.{ProcessLines, parameters}
 use Rattle.sim_language.specs.Places.{LineInText}
 use Rattle.sim_language.specs.NameFaults.{takes_request, takes_put, takes_get, takes_not, is_not}
 use Rattle.sim_language.specs.VariableFaults.{is_variable, takes_class}

@@ -7,7 +7,7 @@ use Rattle.std.proofs.Common.{arith, ◌∙◌}
 use Rattle.std.proofs.lemmas.Bool.{le-leb, and_from, eq-eqb}
 use Rattle.sim_types.specs.Scenarios.{ScenarioOf}
 use Rattle.sim_language.specs.declared.form.Sort.TheVariants as sort
-use Rattle.sim_language.specs.Shapes.{ProcessLines}
+use Rattle.sim_language.specs.AnywhereInText.{ProcessLines}
 use Rattle.sim_language.specs.Sayings.{TextLine}
 use Rattle.sim_language.specs.Places.{places, is_entry, count_above}
 use Rattle.sim_language.specs.Faults.{first_fault, end_fault}

@@ -12,7 +12,7 @@ use Rattle.sim_language.specs.declared.shape.Role.TheVariants.{Names}
 use Rattle.sim_language.specs.Lines.{Word}
 use Rattle.sim_language.specs.Named.{Named, value_of, is_named}
 use Rattle.sim_language.specs.Forms.{declares_sort, same_sort}
-use Rattle.sim_language.specs.Shapes.{ProcessLines}
+use Rattle.sim_language.specs.AnywhereInText.{ProcessLines}
 use Rattle.sim_language.specs.Declarations.{sort_of, sort_by}
 use Rattle.sim_language.specs.Places.{LineInText}
 use Rattle.sim_language.specs.NameFaults.{is_other}

@@ -6,7 +6,7 @@ use Rattle.std.proofs.Common.{arith}
 use Rattle.std.proofs.lemmas.List.{length_push}
 use Rattle.sim_types.specs.Scenarios.{ScenarioOf}
 use Rattle.sim_types.specs.declared.setup.ResourceKind.{ResourceKind}
-use Rattle.sim_language.specs.Shapes.{ProcessLines}
+use Rattle.sim_language.specs.AnywhereInText.{ProcessLines}
 use Rattle.sim_language.specs.Sayings.{Saying, Blank, Wrong, Says}
 use Rattle.sim_language.specs.Places.{LineInText}
 use Rattle.sim_language.specs.Reads.{add_said, with_lines}

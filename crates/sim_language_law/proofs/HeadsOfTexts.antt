@@ -20,8 +20,9 @@ use Rattle.sim_language.specs.Names.{is_name}
 use Rattle.sim_language.specs.Named.{Named, with_all}
 use Rattle.sim_language.specs.Parameters.{parameter_class}
 use Rattle.sim_language.specs.Forms.{first_words, made_words, form_at, told_by, made_form, begins, operands, is_process}
-use Rattle.sim_language.specs.Shapes.{Operand, ProcessLines, Context, slot_of, shape, fit}
-use Rattle.sim_language.specs.Sayings.{TextLine, Saying, Blank, Wrong, Says, Setting, head_of, heads_of, context_of, if_built, form_in, said_by_slots, said_by_form, saying, line_of, setting_behind, lines_from, is_bad_number, is_bad_name, sayings}
+use Rattle.sim_language.specs.Shapes.{Operand, Context, slot_of, shape, fit}
+use Rattle.sim_language.specs.AnywhereInText.{ProcessLines, head_of, heads_of}
+use Rattle.sim_language.specs.Sayings.{TextLine, Saying, Blank, Wrong, Says, Setting, context_of, if_built, form_in, said_by_slots, said_by_form, saying, line_of, setting_behind, lines_from, is_bad_number, is_bad_name, sayings}
 use Rattle.sim_language.specs.Places.{LineInText, places}
 use Rattle.sim_language.specs.Faults.{is_wrong, applies, kinds_in_order, fault_at, first_fault}
 use Rattle.sim_language_law.proofs.Walking.{place_at}

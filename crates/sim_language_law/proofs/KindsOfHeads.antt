@@ -16,7 +16,8 @@ use Rattle.sim_language.specs.declared.form.Form.TheVariants as form
 use Rattle.sim_language.specs.Lines.{Word, same}
 use Rattle.sim_language.specs.Named.{Named, value_of, with_all}
 use Rattle.sim_language.specs.Parameters.{parameter_class, class_part}
-use Rattle.sim_language.specs.Shapes.{Operand, ProcessLines}
+use Rattle.sim_language.specs.Shapes.{Operand}
+use Rattle.sim_language.specs.AnywhereInText.{ProcessLines}
 use Rattle.sim_language.specs.Sayings.{TextLine, Saying, Says}
 use Rattle.sim_language.specs.Statements.{kind_number}
 use Rattle.sim_language.specs.FittingStatements.{classes_at}

@@ -9,7 +9,8 @@ use Rattle.sim_types.specs.declared.fault.Fault.{Fault}
 use Rattle.sim_types.specs.declared.fault.FaultKind.{FaultKind}
 use Rattle.sim_language.specs.declared.form.Form.{Form}
 use Rattle.sim_language.specs.Lines.{Word}
-use Rattle.sim_language.specs.Shapes.{Operand, ProcessLines}
+use Rattle.sim_language.specs.Shapes.{Operand}
+use Rattle.sim_language.specs.AnywhereInText.{ProcessLines}
 use Rattle.sim_language.specs.Sayings.{TextLine, Saying, Blank, Wrong, Says}
 use Rattle.sim_language.specs.Places.{places}
 use Rattle.sim_language.specs.Faults.{fault_at, first_fault, at_line}

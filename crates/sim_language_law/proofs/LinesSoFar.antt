@@ -14,7 +14,8 @@ use Rattle.sim_language.specs.Lines.{Word}
 use Rattle.sim_language.specs.Named.{is_named, value_of}
 use Rattle.sim_language.specs.Forms.{declares_sort}
 use Rattle.sim_language.specs.declared.shape.Role.TheVariants.{Declares, Parameter}
-use Rattle.sim_language.specs.Shapes.{Operand, ProcessLines, slot_of}
+use Rattle.sim_language.specs.Shapes.{Operand, slot_of}
+use Rattle.sim_language.specs.AnywhereInText.{ProcessLines}
 use Rattle.sim_language.specs.Blocks.{statements}
 use Rattle.sim_language.specs.Sayings.{TextLine, Saying, Blank, Wrong, Says}
 use Rattle.sim_language.specs.Declarations.{declared, with_declared}

@@ -9,7 +9,8 @@ use Rattle.sim_language.specs.declared.form.Form.{Form}
 use Rattle.sim_language.specs.declared.form.Form.TheVariants as form
 use Rattle.sim_language.specs.Lines.{same}
 use Rattle.sim_language.specs.Forms.{is_statement}
-use Rattle.sim_language.specs.Shapes.{Operand, ProcessLines, shape}
+use Rattle.sim_language.specs.Shapes.{Operand, shape}
+use Rattle.sim_language.specs.AnywhereInText.{ProcessLines}
 use Rattle.sim_language.specs.Blocks.{Block, blocks_behind}
 use Rattle.sim_language.specs.Places.{LineInText, is_with, in_process}
 use Rattle.sim_language.specs.OrderFaults.{misplaced, is_loop, awaits_else, awaits_catch}

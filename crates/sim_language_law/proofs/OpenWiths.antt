@@ -12,7 +12,8 @@ use Rattle.sim_language.specs.declared.form.Form.TheVariants as form
 use Rattle.sim_language.specs.declared.shape.Role.TheVariants.{Gives}
 use Rattle.sim_language.specs.Lines.{Word, same}
 use Rattle.sim_language.specs.Named.{Named, value_of, is_named, place_of}
-use Rattle.sim_language.specs.Shapes.{Operand, ProcessLines, slot_of, shape}
+use Rattle.sim_language.specs.Shapes.{Operand, slot_of, shape}
+use Rattle.sim_language.specs.AnywhereInText.{ProcessLines}
 use Rattle.sim_language.specs.Said.{Fits}
 use Rattle.sim_language.specs.Blocks.{Block, first_word, blocks_behind}
 use Rattle.sim_language.specs.Variables.{variable_number}

@@ -20,7 +20,8 @@ use Rattle.sim_language.specs.Lines.{Word, same}
 use Rattle.sim_language.specs.Named.{Named, value_of, is_named, with_one, with_all}
 use Rattle.sim_language.specs.Parameters.{parameter_class}
 use Rattle.sim_language.specs.Forms.{is_process, declares_sort}
-use Rattle.sim_language.specs.Shapes.{Operand, ProcessLines, slot_of}
+use Rattle.sim_language.specs.Shapes.{Operand, slot_of}
+use Rattle.sim_language.specs.AnywhereInText.{ProcessLines}
 use Rattle.sim_language.specs.Sayings.{TextLine, Saying, Says}
 use Rattle.sim_language.specs.Declarations.{declared, count_of}
 use Rattle.sim_language.specs.Variables.{given_by, given_below, variables_of}

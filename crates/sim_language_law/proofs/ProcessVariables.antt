@@ -18,7 +18,8 @@ use Rattle.sim_language.specs.declared.form.Meaning.{Meaning}
 use Rattle.sim_language.specs.Lines.{Word, same}
 use Rattle.sim_language.specs.Named.{Named, value_of, is_named, place_of}
 use Rattle.sim_language.specs.Forms.{declares_sort, is_process, is_end}
-use Rattle.sim_language.specs.Shapes.{Operand, ProcessLines}
+use Rattle.sim_language.specs.Shapes.{Operand}
+use Rattle.sim_language.specs.AnywhereInText.{ProcessLines}
 use Rattle.sim_language.specs.Sayings.{TextLine, Saying, Blank, Wrong, Says}
 use Rattle.sim_language.specs.Declarations.{declared, is_event, is_of_sort}
 use Rattle.sim_language.specs.Variables.{given_by, given_below, ends_process, deep_behind, variables_at, variables_of, variable_number}

@@ -17,7 +17,8 @@ use Rattle.sim_language.specs.declared.form.Meaning.{Meaning}
 use Rattle.sim_language.specs.Lines.{Word}
 use Rattle.sim_language.specs.Named.{Named}
 use Rattle.sim_language.specs.Forms.{is_statement, is_process}
-use Rattle.sim_language.specs.Shapes.{Operand, ProcessLines}
+use Rattle.sim_language.specs.Shapes.{Operand}
+use Rattle.sim_language.specs.AnywhereInText.{ProcessLines}
 use Rattle.sim_language.specs.Sayings.{TextLine, Blank, Wrong, Says}
 use Rattle.sim_language.specs.Declarations.{declared}
 use Rattle.sim_language.specs.Blocks.{Block, statements, open_blocks, blocks_behind}

@@ -12,8 +12,8 @@ use Rattle.sim_types.specs.declared.fault.Fault.{Fault}
 use Rattle.sim_types.specs.declared.fault.FaultKind.TheVariants as fault
 use Rattle.sim_language.specs.declared.form.Form.{Form}
 use Rattle.sim_language.specs.Lines.{lines}
-use Rattle.sim_language.specs.Shapes.{ProcessLines}
-use Rattle.sim_language.specs.Sayings.{TextLine, Saying, Blank, Wrong, Says, heads_of, sayings}
+use Rattle.sim_language.specs.AnywhereInText.{ProcessLines, heads_of}
+use Rattle.sim_language.specs.Sayings.{TextLine, Saying, Blank, Wrong, Says, sayings}
 use Rattle.sim_language.specs.Said.{IsSaid}
 use Rattle.sim_language.specs.Places.{places}
 use Rattle.sim_language.specs.Faults.{first_fault, end_fault}

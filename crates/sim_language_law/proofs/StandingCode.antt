@@ -9,7 +9,8 @@ use Rattle.sim_language.specs.declared.form.Form.{Form}
 use Rattle.sim_language.specs.declared.form.Form.TheVariants as form
 use Rattle.sim_language.specs.Named.{Named}
 use Rattle.sim_language.specs.Forms.{opens_block}
-use Rattle.sim_language.specs.Shapes.{Operand, ProcessLines}
+use Rattle.sim_language.specs.Shapes.{Operand}
+use Rattle.sim_language.specs.AnywhereInText.{ProcessLines}
 use Rattle.sim_language.specs.Blocks.{Block, blocks_behind}
 use Rattle.sim_language.specs.Places.{LineInText}
 use Rattle.sim_language.specs.FittingBlocks.{is_end_process, firsts}

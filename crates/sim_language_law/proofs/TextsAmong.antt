@@ -6,7 +6,8 @@ use Rattle.sim_types.specs.declared.fault.FaultKind.TheVariants as fault
 use Rattle.sim_language.specs.declared.form.Form.{Form}
 use Rattle.sim_language.specs.Lines.{Word, cut, words, is_text}
 use Rattle.sim_language.specs.Forms.{operands}
-use Rattle.sim_language.specs.Shapes.{Operand, ProcessLines, shape, fit}
+use Rattle.sim_language.specs.Shapes.{Operand, shape, fit}
+use Rattle.sim_language.specs.AnywhereInText.{ProcessLines}
 use Rattle.sim_language.specs.Sayings.{Saying, Wrong, Says, Setting, context_of, if_built, form_in, said_by_slots, said_by_form, saying, setting_behind, lines_from, is_bad_number, is_bad_name, sayings}
 use Rattle.sim_language_law.proofs.LineByLine.{Among, AllAmong}
 

@@ -6,7 +6,7 @@ use Rattle.std.proofs.lemmas.Option.{none-some}
 use Rattle.sim_types.specs.Scenarios.{ScenarioOf}
 use Rattle.sim_types.specs.declared.fault.Fault.{Fault}
 use Rattle.sim_types.specs.declared.fault.FaultKind.{FaultKind}
-use Rattle.sim_language.specs.Shapes.{ProcessLines}
+use Rattle.sim_language.specs.AnywhereInText.{ProcessLines}
 use Rattle.sim_language.specs.Sayings.{TextLine}
 use Rattle.sim_language.specs.Variables.{variables_at}
 use Rattle.sim_language.specs.Places.{LineInText, above_of, places}

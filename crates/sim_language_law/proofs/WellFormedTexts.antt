@@ -4,7 +4,7 @@ use Rattle.std.specs.Prelude.{IsTrue}
 use Rattle.sim_types.specs.Scenarios.{ScenarioOf}
 use Rattle.sim_language.specs.declared.form.Form.{Form}
 use Rattle.sim_language.specs.Lines.{lines}
-use Rattle.sim_language.specs.Sayings.{heads_of}
+use Rattle.sim_language.specs.AnywhereInText.{heads_of}
 use Rattle.sim_language.specs.Reads.{reads}
 use Rattle.sim_language.specs.WellFormed.{is_well_formed}
 use Rattle.sim_language_law.proofs.ClosedTexts.{closed_text}

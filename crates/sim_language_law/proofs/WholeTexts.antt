@@ -15,7 +15,8 @@ use Rattle.sim_language.specs.declared.form.Sort.TheVariants as sort
 use Rattle.sim_language.specs.Lines.{Word}
 use Rattle.sim_language.specs.Named.{is_named}
 use Rattle.sim_language.specs.Forms.{is_statement, is_process}
-use Rattle.sim_language.specs.Shapes.{Operand, ProcessLines}
+use Rattle.sim_language.specs.Shapes.{Operand}
+use Rattle.sim_language.specs.AnywhereInText.{ProcessLines}
 use Rattle.sim_language.specs.Sayings.{TextLine, Blank, Wrong, Says}
 use Rattle.sim_language.specs.Declarations.{declared}
 use Rattle.sim_language.specs.Blocks.{open_blocks}

@@ -9,8 +9,7 @@ use Rattle.sim_language.specs.Lines.{Word, same, cut, words}
 use Rattle.sim_language.specs.Names.{is_name}
 use Rattle.sim_language.specs.Named.{Named, value_of, is_named, place_of, with_one}
 use Rattle.sim_language.specs.Parameters.{parameter_class}
-use Rattle.sim_language.specs.Shapes.{ProcessLines, parameters}
-use Rattle.sim_language.specs.Sayings.{head_of}
+use Rattle.sim_language.specs.AnywhereInText.{ProcessLines, head_of, parameters}
 use Rattle.sim_lines.specs.declared.process_lines.Span.{Span}
 
 -- what a line declares

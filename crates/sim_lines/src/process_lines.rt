@@ -3,8 +3,7 @@ ghost use Rattle.std.specs.Prelude.{◌≡◌, ◌<◌, ◌≤◌, [], ◌∷◌
 ghost use Rattle.sim_language.specs.Lines.{lines};
 ghost use Rattle.sim_language.specs.Named.{is_named, place_of, with_all};
 ghost use Rattle.sim_language.specs.Parameters.{parameter_class};
-ghost use Rattle.sim_language.specs.Sayings.{head_of, heads_of};
-ghost use Rattle.sim_language.specs.Shapes.{parameters};
+ghost use Rattle.sim_language.specs.AnywhereInText.{head_of, heads_of, parameters};
 
 use crate::cutting::{cut, first_line};
 use crate::name::is_name;
@@ -32,7 +31,7 @@ pub struct ProcessLines<'t> {
 
 impl<'t> Model for ProcessLines<'t> {
     ghost use Rattle.std.specs.Prelude.{All, ◌≤◌, length, map, slice_range};
-    ghost use Rattle.sim_language.specs.Shapes.{ProcessLines};
+    ghost use Rattle.sim_language.specs.AnywhereInText.{ProcessLines};
 
     ghost Value = { ProcessLines };
 

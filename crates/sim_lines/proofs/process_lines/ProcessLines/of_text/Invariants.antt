@@ -2,7 +2,7 @@ use Rattle.std.proofs.Common.{◌≡◌, ◌+◌, ◌≤◌, length}
 use Rattle.std.specs.List.{filter_map}
 use Rattle.sim_language.specs.Lines.{lines}
 use Rattle.sim_language.specs.Named.{with_all}
-use Rattle.sim_language.specs.Sayings.{heads_of}
+use Rattle.sim_language.specs.AnywhereInText.{heads_of}
 use Rattle.sim_lines.proofs.HeadsOfLines.{head_of_line}
 use Rattle.sim_lines.proofs.process_lines.ProcessLines.of_text.Given as goal
 
