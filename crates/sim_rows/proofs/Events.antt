@@ -1,4 +1,4 @@
--- Events: what they are given, who waits for them, and chains.
+-- Events: what they are given, and who waits for them.
 use Rattle.std.specs.Prelude.{refl, [], ◌∷◌}
 use Rattle.std.specs.Fmt.{digits}
 use Rattle.sim_rows.specs.Printed.{Prints}

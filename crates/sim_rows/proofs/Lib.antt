@@ -1,4 +1,3 @@
-mod ChainsAndStops
 mod Conditions
 mod Containers
 mod Draws
@@ -14,6 +13,7 @@ mod Preemption
 mod PreemptionKeys
 mod Resources
 mod Scripts
+mod SecondVersion
 mod Stores
 mod WhichFault
 pub mod WholeAnswers

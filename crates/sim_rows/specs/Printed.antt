@@ -38,10 +38,6 @@ drawn_for word (Err fault) = []
 abbrev pub PrintsDrawn : (ℕ → ℕ) → List String → List String → Type 0
 PrintsDrawn word text lines = drawn_for word (reads all_forms (bytes_of text)) ≡ bytes_of lines
 
--- the run of a scenario prints these lines
-abbrev pub ScenarioPrints : ScenarioOf → List String → Type 0
-ScenarioPrints s lines = printed_for 1000 (Ok s) ≡ bytes_of lines
-
 -- the text of the header and these lines is refused so
 abbrev pub Refuses : List String → String → Type 0
 Refuses below fault = Prints 1000 ("scenario 1" ∷ "until empty" ∷ below) (fault ∷ [])
