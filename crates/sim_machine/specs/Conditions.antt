@@ -6,7 +6,7 @@ use Rattle.sim_types.specs.declared.event.Outcome.{Outcome}
 use Rattle.sim_types.specs.declared.event.EventKind.TheVariants as kind
 use Rattle.sim_types.specs.declared.event.Outcome.TheVariants as outcome
 use Rattle.sim_types.specs.declared.event.Callback.TheVariants as callback
-use Rattle.sim_machine.specs.State.{Sort, Every, Either, ConditionOf, Calendar}
+use Rattle.sim_machine.specs.State.{AllOrAny, Every, Either, ConditionOf, Calendar}
 use Rattle.sim_machine.specs.Events.{is_same, event_at, is_pending, is_processed, is_fail, next_event, change_event, defuse, register, unregister, is_check_of}
 use Rattle.sim_machine.specs.Triggering.{make, succeed, fail}
 
@@ -82,7 +82,7 @@ join_members cond [] c = succeed cond (pos 0) c
 join_members cond (e ∷ es) c = register cond (callback.Build cond) (fold (join_member cond) c (e ∷ es))
 
 -- a condition is made, and its members join it (SimPy's AllOf and AnyOf)
-abbrev pub make_condition : Sort → List EventId → Calendar → Calendar
+abbrev pub make_condition : AllOrAny → List EventId → Calendar → Calendar
 make_condition sort members c =
     let cond = next_event c in
     join_members cond members (change_event cond (λ x. record x { condition = Some (record { sort = sort; members = members; count = 0; value = [] }) }) (make kind.Cond c))

@@ -12,7 +12,7 @@ use Rattle.sim_types.specs.declared.event.Signal.TheVariants as signal
 use Rattle.sim_types.specs.declared.op.Op.{Op}
 use Rattle.sim_types.specs.declared.op.Op.TheVariants as op
 use Rattle.sim_types.specs.declared.line.Line.TheVariants as line
-use Rattle.sim_machine.specs.State.{Sort, Every, Either, Calendar, Facilities, State, Plan}
+use Rattle.sim_machine.specs.State.{AllOrAny, Every, Either, Calendar, Facilities, State, Plan}
 use Rattle.sim_machine.specs.Events.{is_process, event_at, is_pending, is_processed, next_event, register}
 use Rattle.sim_machine.specs.Triggering.{is_too_late, make, trigger, make_timeout, make_interruption}
 use Rattle.sim_machine.specs.Conditions.{is_too_wide, make_condition, has}
@@ -51,7 +51,7 @@ to_another p q does s =
     else tell signal.Done (does s)
 
 -- a condition is made; error 10 is one that weighs too much
-abbrev pub with_condition : {B : Type 0} → Sort → List EventId → State B → State B
+abbrev pub with_condition : {B : Type 0} → AllOrAny → List EventId → State B → State B
 with_condition sort members s =
     if is_too_wide members (calendar s) then raise condition_too_wide s
     else tell_made (next_event (calendar s)) (on_events (make_condition sort members) s)

@@ -14,13 +14,13 @@ use Rattle.sim_types.specs.declared.line.Line.{Line}
 use Rattle.sim_types.specs.declared.setup.Setup.{Setup}
 
 -- whether a condition waits for all of its members or for one (SimPy's AllOf and AnyOf)
-pub data Sort : Type 0 where
-  Every : Sort
-  Either : Sort
+pub data AllOrAny : Type 0 where
+  Every : AllOrAny
+  Either : AllOrAny
 
 -- what a condition event has besides: how many of its members were counted, and the events of its value
 pub record ConditionOf : Type 0 where
-  pub sort : Sort
+  pub sort : AllOrAny
   pub members : List EventId
   pub count : ℕ
   pub value : List EventId

@@ -77,12 +77,14 @@ due_among es m h =
 same_number : (a b : KeyOf) → ¬ IsLess a b → ¬ IsLess b a → a.number ≡ b.number
 same_number a b p q = grind (arith, ints)
 
-apart_by_number : (es : List Entry) (x y : Entry) (i j : ℕ) → AllPairs (λ a b. a.key.number ≢ b.key.number) es → i < j → j < length es → slice_index_or es i x ≡ x → slice_index_or es j y ≡ y → x.key.number ≡ y.key.number → ⊥
+apart_by_number : (es : List Entry) (x y : Entry) (i j : ℕ) → AllPairs (λ a b. a.key.number ≢ b.key.number) es → i < j
+    → j < length es → slice_index_or es i x ≡ x → slice_index_or es j y ≡ y → x.key.number ≡ y.key.number → ⊥
 apart_by_number es x y i j apart before below at_i at_j same =
     let number : Entry → ℕ = λ e. e.key.number in
     apart i j x before below (ap number at_i ∙ same ∙ sym (ap number (get_or_default es j x y below ∙ at_j)))
 
-one_of_a_number : (es : List Entry) (x y : Entry) → AllPairs (λ a b. a.key.number ≢ b.key.number) es → Contains es x → Contains es y → x.key.number ≡ y.key.number → x ≡ y
+one_of_a_number : (es : List Entry) (x y : Entry) → AllPairs (λ a b. a.key.number ≢ b.key.number) es → Contains es x
+    → Contains es y → x.key.number ≡ y.key.number → x ≡ y
 one_of_a_number es x y apart p q same = by_place (cases_eq p.0 q.0)
   where
     by_place : (p.0 ≡ q.0) ⊎ (p.0 ≢ q.0) → x ≡ y
@@ -93,7 +95,8 @@ one_of_a_number es x y apart p q same = by_place (cases_eq p.0 q.0)
         absurd (omega (arith, not_before, not_after, differ))
 
 -- where numbers differ, the entry before which none comes is the one that is due
-pub due_only : (es : List Entry) (e : Entry) → AllPairs (λ a b. a.key.number ≢ b.key.number) es → Contains es e → All (λ f. ¬ IsLess f.key e.key) es → due es ≡ Some e
+pub due_only : (es : List Entry) (e : Entry) → AllPairs (λ a b. a.key.number ≢ b.key.number) es → Contains es e
+    → All (λ f. ¬ IsLess f.key e.key) es → due es ≡ Some e
 due_only [] e apart here first = absurd (omega (arith, here.1))
 due_only (x ∷ xs) e apart here first =
     let m : Entry = best_from (λ f e. comes_first f.key e.key) x xs in

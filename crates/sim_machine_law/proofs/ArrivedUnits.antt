@@ -11,5 +11,8 @@ use Rattle.sim_machine.specs.Units.{Course, inject}
 use Rattle.sim_machine_law.proofs.KeptOpeningParts.{lawful-arrived}
 use Rattle.sim_machine_law.proofs.LawfulBasis.{LawfulBasis}
 
-pub lawful-injected : {B : Type 0} (f : CodeFacts) (tell : Telling B) (sound : B → Type 0) (g : Plan B) (turn : B → ℤ → Signal → Op → B → Type 0) (m : Course B) (a : Arrival) → IsLawfulBody f tell sound g.start turn → FitsCode f g.setup → a.port < length g.setup.ports → LawfulBasis g tell sound m.state → LawfulBasis g tell sound (inject g a m).state
+pub lawful-injected : {B : Type 0} (f : CodeFacts) (tell : Telling B) (sound : B → Type 0) (g : Plan B)
+    (turn : B → ℤ → Signal → Op → B → Type 0) (m : Course B) (a : Arrival) → IsLawfulBody f tell sound g.start turn
+    → FitsCode f g.setup → a.port < length g.setup.ports → LawfulBasis g tell sound m.state
+    → LawfulBasis g tell sound (inject g a m).state
 lawful-injected f tell sound g turn m a law fits below h = lawful-arrived f tell sound g turn m.state a.port a.value law fits below h

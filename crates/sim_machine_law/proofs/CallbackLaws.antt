@@ -72,7 +72,8 @@ one_call : (b : Bool) (r : Registration) → map (λ (q : Registration). q.callb
 one_call true r = refl
 one_call false r = refl
 
-pub callbacks_of-register : (e f : EventId) (x : Callback) (c : Calendar) → callbacks_of f (register e x c) ≡ callbacks_of f c ++ (if is_same e f then x ∷ [] else [])
+pub callbacks_of-register : (e f : EventId) (x : Callback) (c : Calendar)
+    → callbacks_of f (register e x c) ≡ callbacks_of f c ++ (if is_same e f then x ∷ [] else [])
 callbacks_of-register e f x c =
     let r : Registration = record { event = e; callback = x } in
     calls_append f c.registered (r ∷ []) ∙ ap (λ xs. calls_at f c.registered ++ xs) (one_call (is_same e f) r)
@@ -84,10 +85,12 @@ callbacks_of-register_same e x c = callbacks_of-register e e x c ∙ rw (is_same
 pub callbacks_of-register_other : (e f : EventId) (x : Callback) (c : Calendar) → is_same e f ≡ false → callbacks_of f (register e x c) ≡ callbacks_of f c
 callbacks_of-register_other e f x c differ = callbacks_of-register e f x c ∙ rw differ (append-nil (callbacks_of f c))
 
-pub all_callbacks_of-register_other : (e f : EventId) (x : Callback) (c : Calendar) (k : Control) → is_same e f ≡ false → all_callbacks_of (register e x c) k f ≡ all_callbacks_of c k f
+pub all_callbacks_of-register_other : (e f : EventId) (x : Callback) (c : Calendar) (k : Control) → is_same e f ≡ false
+    → all_callbacks_of (register e x c) k f ≡ all_callbacks_of c k f
 all_callbacks_of-register_other e f x c k differ = ap (λ xs. xs ++ (if is_event_of k f then left_of k else [])) (callbacks_of-register_other e f x c differ)
 
-pub callbacks_in_all-register : (test : Callback → Bool) (e : EventId) (x : Callback) (c : Calendar) (k : Control) → callbacks_in_all test (register e x c) k ≡ callbacks_in_all test c k + one_if (test x)
+pub callbacks_in_all-register : (test : Callback → Bool) (e : EventId) (x : Callback) (c : Calendar) (k : Control)
+    → callbacks_in_all test (register e x c) k ≡ callbacks_in_all test c k + one_if (test x)
 callbacks_in_all-register test e x c k =
     let r : Registration = record { event = e; callback = x } in
     let here : Registration → Bool = λ q. test q.callback in
@@ -98,7 +101,9 @@ count_one test true x = count_by-one test x
 count_one test false x = refl
 
 -- it counts at its event alone
-pub callbacks_at-register : (test : Callback → Bool) (e f : EventId) (x : Callback) (c : Calendar) (k : Control) → count_by test (all_callbacks_of (register e x c) k f) ≡ count_by test (all_callbacks_of c k f) + one_if (is_same e f && test x)
+pub callbacks_at-register : (test : Callback → Bool) (e f : EventId) (x : Callback) (c : Calendar) (k : Control)
+    → count_by test (all_callbacks_of (register e x c) k f)
+    ≡ count_by test (all_callbacks_of c k f) + one_if (is_same e f && test x)
 callbacks_at-register test e f x c k =
     let called : List Callback = if is_event_of k f then left_of k else [] in
     let new : List Callback = if is_same e f then x ∷ [] else [] in
@@ -106,7 +111,8 @@ callbacks_at-register test e f x c k =
     rw (callbacks_of-register e f x c) (omega (arith, count_by-append test (before ++ new) called, count_by-append test before new, count_by-append test before called, count_one test (is_same e f) x))
 
 -- what all registrations have, the callbacks of an event have
-pub callbacks_of-AllPass : (test : EventId → Callback → Bool) (e : EventId) (c : Calendar) → AllPass (λ r. test r.event r.callback) c.registered → AllPass (test e) (callbacks_of e c)
+pub callbacks_of-AllPass : (test : EventId → Callback → Bool) (e : EventId) (c : Calendar)
+    → AllPass (λ r. test r.event r.callback) c.registered → AllPass (test e) (callbacks_of e c)
 callbacks_of-AllPass test e c h =
     let here : List Registration = filter (is_at e) c.registered in
     All-map (λ x. test e x ≡ true) (λ (r : Registration). r.callback) here (λ k d below.
@@ -138,17 +144,20 @@ popped_others e f differ (r ∷ rs) =
 pub callbacks_of-popped_other : (x : Entry) (f : EventId) (c : Calendar) → f.0 ≢ x.event.0 → callbacks_of f (popped x c) ≡ callbacks_of f c
 callbacks_of-popped_other x f c differ = ap (λ rs. map (λ (r : Registration). r.callback) rs) (popped_others x.event f differ c.registered)
 
-all_popped : (x : Entry) (f : EventId) (c : Calendar) → (f.0 ≡ x.event.0) ⊎ (f.0 ≢ x.event.0) → all_callbacks_of (popped x c) (Calling x.event (callbacks_of x.event c)) f ≡ all_callbacks_of c Idle f
+all_popped : (x : Entry) (f : EventId) (c : Calendar) → (f.0 ≡ x.event.0) ⊎ (f.0 ≢ x.event.0)
+    → all_callbacks_of (popped x c) (Calling x.event (callbacks_of x.event c)) f ≡ all_callbacks_of c Idle f
 all_popped x f c (inl same) = rw (same_event f x.event same) (rw (callbacks_of-popped_same x c) (rw (is_same-self x.event) (sym (append-nil (callbacks_of x.event c)))))
 all_popped x f c (inr differ) =
     let no : is_same x.event f ≡ false = ne_eqb x.event.0 f.0 (λ h. differ (sym h)) in
     rw (callbacks_of-popped_other x f c differ) (rw no refl)
 
 -- they are to be called now, so each event has the callbacks that it had
-pub all_callbacks_of-popped : (x : Entry) (f : EventId) (c : Calendar) → all_callbacks_of (popped x c) (Calling x.event (callbacks_of x.event c)) f ≡ all_callbacks_of c Idle f
+pub all_callbacks_of-popped : (x : Entry) (f : EventId) (c : Calendar)
+    → all_callbacks_of (popped x c) (Calling x.event (callbacks_of x.event c)) f ≡ all_callbacks_of c Idle f
 all_callbacks_of-popped x f c = all_popped x f c (cases_eq f.0 x.event.0)
 
-pub callbacks_in_all-popped : (test : Callback → Bool) (x : Entry) (c : Calendar) → callbacks_in_all test (popped x c) (Calling x.event (callbacks_of x.event c)) ≡ callbacks_in_all test c Idle
+pub callbacks_in_all-popped : (test : Callback → Bool) (x : Entry) (c : Calendar)
+    → callbacks_in_all test (popped x c) (Calling x.event (callbacks_of x.event c)) ≡ callbacks_in_all test c Idle
 callbacks_in_all-popped test x c =
     let here : Registration → Bool = λ r. is_at x.event r in
     let passes : Registration → Bool = λ r. test r.callback in
@@ -158,21 +167,28 @@ callbacks_in_all-popped test x c =
 -- ---- a callback is called
 
 -- controls that have the same calls left
-pub all_callbacks_of-same : (c : Calendar) (k l : Control) (f : EventId) → left_of l ≡ left_of k → is_event_of l f ≡ is_event_of k f → all_callbacks_of c l f ≡ all_callbacks_of c k f
+pub all_callbacks_of-same : (c : Calendar) (k l : Control) (f : EventId) → left_of l ≡ left_of k
+    → is_event_of l f ≡ is_event_of k f → all_callbacks_of c l f ≡ all_callbacks_of c k f
 all_callbacks_of-same c k l f p q = rw (p, q) refl
 
-pub callbacks_in_all-same : (test : Callback → Bool) (c : Calendar) (k l : Control) → left_of l ≡ left_of k → callbacks_in_all test c l ≡ callbacks_in_all test c k
+pub callbacks_in_all-same : (test : Callback → Bool) (c : Calendar) (k l : Control) → left_of l ≡ left_of k
+    → callbacks_in_all test c l ≡ callbacks_in_all test c k
 callbacks_in_all-same test c k l p = rw p refl
 
 -- controls of which the first has one call more left, before the others
-pub callbacks_in_all-called : (test : Callback → Bool) (c : Calendar) (k l : Control) (x : Callback) → left_of k ≡ x ∷ left_of l → callbacks_in_all test c k ≡ one_if (test x) + callbacks_in_all test c l
+pub callbacks_in_all-called : (test : Callback → Bool) (c : Calendar) (k l : Control) (x : Callback)
+    → left_of k ≡ x ∷ left_of l → callbacks_in_all test c k ≡ one_if (test x) + callbacks_in_all test c l
 callbacks_in_all-called test c k l x p = rw p (omega (arith, count_by-cons test x (left_of l)))
 
-at_called : (test : Callback → Bool) (b : Bool) (before left : List Callback) (x : Callback) → count_by test (before ++ (if b then x ∷ left else [])) ≡ one_if (b && test x) + count_by test (before ++ (if b then left else []))
+at_called : (test : Callback → Bool) (b : Bool) (before left : List Callback) (x : Callback)
+    → count_by test (before ++ (if b then x ∷ left else []))
+    ≡ one_if (b && test x) + count_by test (before ++ (if b then left else []))
 at_called test true before left x = omega (arith, count_by-append test before (x ∷ left), count_by-append test before left, count_by-cons test x left)
 at_called test false before left x = omega arith
 
-pub callbacks_at-called : (test : Callback → Bool) (c : Calendar) (k l : Control) (x : Callback) (f : EventId) → left_of k ≡ x ∷ left_of l → is_event_of k f ≡ is_event_of l f → count_by test (all_callbacks_of c k f) ≡ one_if (is_event_of l f && test x) + count_by test (all_callbacks_of c l f)
+pub callbacks_at-called : (test : Callback → Bool) (c : Calendar) (k l : Control) (x : Callback) (f : EventId)
+    → left_of k ≡ x ∷ left_of l → is_event_of k f ≡ is_event_of l f
+    → count_by test (all_callbacks_of c k f) ≡ one_if (is_event_of l f && test x) + count_by test (all_callbacks_of c l f)
 callbacks_at-called test c k l x f p q = rw (p, q) (at_called test (is_event_of l f) (callbacks_of f c) (left_of l) x)
 
 -- ---- counts of an event's callbacks, and of all

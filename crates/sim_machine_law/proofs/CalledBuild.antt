@@ -35,7 +35,9 @@ fold_keeps P f keeps [] x h = h
 fold_keeps P f keeps (a ∷ xs) x h = fold_keeps P f keeps xs (f x a) (keeps x a h)
 
 -- what stays where one check is taken out stays where all of them are
-pub checks_taken : (P : Calendar → Type 0) → ((e cond : EventId) (c : Calendar) → P c → P (unregister e (is_check_of cond) c)) → (n : ℕ) (cond : EventId) (c : Calendar) → P c → P (take_checks_within n cond c)
+pub checks_taken : (P : Calendar → Type 0)
+    → ((e cond : EventId) (c : Calendar) → P c → P (unregister e (is_check_of cond) c))
+    → (n : ℕ) (cond : EventId) (c : Calendar) → P c → P (take_checks_within n cond c)
 checks_taken P keeps zero cond c h = h
 checks_taken P keeps (suc n) cond c h =
     fold_keeps P (λ d m. take_checks_within n m (unregister m (is_check_of cond) d)) (λ d m w. checks_taken P keeps n m (unregister m (is_check_of cond) d) (keeps m cond d w)) (members_of c cond) c h
@@ -49,7 +51,9 @@ taken_fewer n m cond f c =
     checks_taken (λ d. bears cond f d ≤ bears cond f c) (λ e x d h. omega (arith, h, unregistered-fewer (is_check_of cond) e x f d)) n m c (omega arith)
 
 -- at each member one check is taken out, so none is left where there were no more than it stands among the members
-step_fewer : (n : ℕ) (cond m f : EventId) (ms : List EventId) (c : Calendar) → bears cond f c ≤ count_by (is_same f) (m ∷ ms) → (b : Bool) → is_same f m ≡ b → bears cond f (take_checks_within n m (unregister m (is_check_of cond) c)) ≤ count_by (is_same f) ms
+step_fewer : (n : ℕ) (cond m f : EventId) (ms : List EventId) (c : Calendar) → bears cond f c ≤ count_by (is_same f) (m ∷ ms)
+    → (b : Bool) → is_same f m ≡ b
+    → bears cond f (take_checks_within n m (unregister m (is_check_of cond) c)) ≤ count_by (is_same f) ms
 step_fewer n cond m f ms c h true same =
     let at : f ≡ m = is_same-yes f m same in
     let few : bears cond m c ≤ count_by (is_same f) ms + 1 = subst (λ g. bears cond g c ≤ count_by (is_same f) ms + 1) at (omega (arith, h, count_by-cons (is_same f) m ms, counts_one (is_same f m) same)) in
@@ -59,12 +63,15 @@ step_fewer n cond m f ms c h true same =
 step_fewer n cond m f ms c h false differ =
     omega (arith, h, count_by-cons (is_same f) m ms, counts_none (is_same f m) differ, taken_fewer n m cond f (unregister m (is_check_of cond) c), unregistered-fewer (is_check_of cond) m cond f c)
 
-none_left_of : (n : ℕ) (cond : EventId) (ms : List EventId) (c : Calendar) → ((f : EventId) → bears cond f c ≤ count_by (is_same f) ms) → (f : EventId) → bears cond f (fold (λ d m. take_checks_within n m (unregister m (is_check_of cond) d)) c ms) ≡ 0
+none_left_of : (n : ℕ) (cond : EventId) (ms : List EventId) (c : Calendar)
+    → ((f : EventId) → bears cond f c ≤ count_by (is_same f) ms) → (f : EventId)
+    → bears cond f (fold (λ d m. take_checks_within n m (unregister m (is_check_of cond) d)) c ms) ≡ 0
 none_left_of n cond [] c h f = omega (arith, h f)
 none_left_of n cond (m ∷ ms) c h f =
     none_left_of n cond ms (take_checks_within n m (unregister m (is_check_of cond) c)) (λ g. step_fewer n cond m g ms c (h g) (is_same g m) refl) f
 
-none_left : (n : ℕ) (cond : EventId) (c : Calendar) → ((f : EventId) → bears cond f c ≤ times_member c cond f) → (f : EventId) → bears cond f (take_checks_within (suc n) cond c) ≡ 0
+none_left : (n : ℕ) (cond : EventId) (c : Calendar) → ((f : EventId) → bears cond f c ≤ times_member c cond f)
+    → (f : EventId) → bears cond f (take_checks_within (suc n) cond c) ≡ 0
 none_left n cond c h f = none_left_of n cond (members_of c cond) c h f
 
 -- ---- the build is called no more
@@ -93,7 +100,9 @@ no_own_member c k cond h =
     ]
 
 -- nothing that is left to call checks the condition that is processed
-none_called : (c : Calendar) (cond f : EventId) (left : List Callback) → ConditionsBasis c (Calling cond (callback.Build cond ∷ left)) → (b : Bool) → is_same cond f ≡ b → count_by (is_check_of cond) (if b then left else []) ≡ 0
+none_called : (c : Calendar) (cond f : EventId) (left : List Callback)
+    → ConditionsBasis c (Calling cond (callback.Build cond ∷ left)) → (b : Bool) → is_same cond f ≡ b
+    → count_by (is_check_of cond) (if b then left else []) ≡ 0
 none_called c cond f left h false differ = refl
 none_called c cond f left h true same =
     let before : Control = Calling cond (callback.Build cond ∷ left) in
@@ -103,7 +112,10 @@ none_called c cond f left h true same =
     omega (arith, sum, h.checks cond cond, no_own_member c before cond h, callbacks_at-called (is_check_of cond) c before after (callback.Build cond) cond refl refl)
 
 -- of its callbacks the build was called, and nobody checks it any more
-conditions_built : (c d : Calendar) (cond : EventId) (left : List Callback) → ConditionsBasis c (Calling cond (callback.Build cond ∷ left)) → ConditionsBasis d (Calling cond (callback.Build cond ∷ left)) → ((f : EventId) → bears cond f d ≡ 0) → count_by (is_build_of cond) left ≡ 0 → ConditionsBasis d (Calling cond left)
+conditions_built : (c d : Calendar) (cond : EventId) (left : List Callback)
+    → ConditionsBasis c (Calling cond (callback.Build cond ∷ left))
+    → ConditionsBasis d (Calling cond (callback.Build cond ∷ left)) → ((f : EventId) → bears cond f d ≡ 0)
+    → count_by (is_build_of cond) left ≡ 0 → ConditionsBasis d (Calling cond left)
 conditions_built c d cond left was h none_bears none_builds =
     let x : Callback = callback.Build cond in
     let before : Control = Calling cond (x ∷ left) in
@@ -149,7 +161,9 @@ conditions_fixed cond d k turned h =
     conditions_recounted d (fix_value cond d) k (same_condition cond fixed d (λ x. refl))
     (λ f. change_event-passes counts cond f change d (fixed_counts (is_pending d cond) (is_below_all (fixed (condition_at d cond))) turned) (h.counts f)) h
 
-lawful_built : {B : Type 0} (g : Plan B) (tell : Telling B) (sound : B → Type 0) (s : State B) (cond : EventId) (left : List Callback) → count_by (is_build_of cond) left ≡ 0 → s.control ≡ Calling cond (callback.Build cond ∷ left) → LawfulBasis g tell sound s → LawfulBasis g tell sound (call g cond (callback.Build cond) left s)
+lawful_built : {B : Type 0} (g : Plan B) (tell : Telling B) (sound : B → Type 0) (s : State B) (cond : EventId)
+    (left : List Callback) → count_by (is_build_of cond) left ≡ 0 → s.control ≡ Calling cond (callback.Build cond ∷ left)
+    → LawfulBasis g tell sound s → LawfulBasis g tell sound (call g cond (callback.Build cond) left s)
 lawful_built g tell sound s cond left none calling h =
     let c : Calendar = calendar s in
     let before : Control = Calling cond (callback.Build cond ∷ left) in
@@ -171,7 +185,9 @@ lawful_built g tell sound s cond left none calling h =
     not_both false b apart w = refl
     not_both true b apart w = absurd (both_ways b (apart refl) w)
 
-pub lawful-called_build : {B : Type 0} (g : Plan B) (tell : Telling B) (sound : B → Type 0) (s : State B) (e : EventId) (cond : EventId) (left : List Callback) → s.control ≡ Calling e (callback.Build cond ∷ left) → LawfulBasis g tell sound s → LawfulBasis g tell sound (call g e (callback.Build cond) left s)
+pub lawful-called_build : {B : Type 0} (g : Plan B) (tell : Telling B) (sound : B → Type 0) (s : State B) (e : EventId)
+    (cond : EventId) (left : List Callback) → s.control ≡ Calling e (callback.Build cond ∷ left) → LawfulBasis g tell sound s
+    → LawfulBasis g tell sound (call g e (callback.Build cond) left s)
 lawful-called_build g tell sound s e cond left calling h =
     let own : IsOwnBuild e cond left = own_build (calendar s) e cond left (subst (λ k. ConditionsBasis (calendar s) k) calling h.conditions) in
     let P : EventId → Type 0 = λ f. s.control ≡ Calling f (callback.Build cond ∷ left) → LawfulBasis g tell sound (call g f (callback.Build cond) left s) in

@@ -64,13 +64,16 @@ has_member c k cond e h one =
 
 -- ---- the check is called no more
 
-pub still_building : (p : Callback → Bool) (a b : Bool) (x : Callback) (xs : List Callback) → p x ≡ false → (a || b && list_any p (x ∷ xs)) ≡ true → (a || b && list_any p xs) ≡ true
+pub still_building : (p : Callback → Bool) (a b : Bool) (x : Callback) (xs : List Callback) → p x ≡ false
+    → (a || b && list_any p (x ∷ xs)) ≡ true → (a || b && list_any p xs) ≡ true
 still_building p true b x xs h w = refl
 still_building p false true x xs h w = rw h at w
 still_building p false false x xs h w = w
 
 -- of the callbacks of e the first was called, and it builds nothing
-conditions_called : (c : Calendar) (e : EventId) (x : Callback) (left : List Callback) → ((cond : EventId) → is_build_of cond x ≡ false) → ConditionsBasis c (Calling e (x ∷ left)) → ConditionsBasis c (Calling e left)
+conditions_called : (c : Calendar) (e : EventId) (x : Callback) (left : List Callback)
+    → ((cond : EventId) → is_build_of cond x ≡ false) → ConditionsBasis c (Calling e (x ∷ left))
+    → ConditionsBasis c (Calling e left)
 conditions_called c e x left no_build h =
     let before : Control = Calling e (x ∷ left) in
     let after : Control = Calling e left in
@@ -91,14 +94,18 @@ conditions_called c e x left no_build h =
     }
 
 -- what is checked is a condition of the event that is processed
-pub checks_member : (c : Calendar) (k : Control) (e cond : EventId) (left : List Callback) → k ≡ Calling e (callback.Check cond ∷ left) → ConditionsBasis c k → HasMember c cond e
+pub checks_member : (c : Calendar) (k : Control) (e cond : EventId) (left : List Callback)
+    → k ≡ Calling e (callback.Check cond ∷ left) → ConditionsBasis c k → HasMember c cond e
 checks_member c k e cond left calling h =
     let before : Control = Calling e (callback.Check cond ∷ left) in
     let conditions : ConditionsBasis c before = subst (λ m. ConditionsBasis c m) calling h in
     let once : 1 ≤ checks_at c before cond e = omega (arith, callbacks_at-called (is_check_of cond) c before (Calling e left) (callback.Check cond) e refl refl, counts_one (is_same e e && is_same cond cond) (rw (is_same-self e, is_same-self cond) refl)) in
     has_member c before cond e conditions (omega (arith, once, conditions.checks cond e))
 
-pub lawful-called_check : {B : Type 0} (g : Plan B) (tell : Telling B) (sound : B → Type 0) (s : State B) (e : EventId) (cond : EventId) (left : List Callback) → AreConditionsByKind (calendar s) → s.control ≡ Calling e (callback.Check cond ∷ left) → LawfulBasis g tell sound s → LawfulBasis g tell sound (call g e (callback.Check cond) left s)
+pub lawful-called_check : {B : Type 0} (g : Plan B) (tell : Telling B) (sound : B → Type 0) (s : State B) (e : EventId)
+    (cond : EventId) (left : List Callback) → AreConditionsByKind (calendar s)
+    → s.control ≡ Calling e (callback.Check cond ∷ left) → LawfulBasis g tell sound s
+    → LawfulBasis g tell sound (call g e (callback.Check cond) left s)
 lawful-called_check g tell sound s e cond left kinds calling h =
     let c : Calendar = calendar s in
     let before : Control = Calling e (callback.Check cond ∷ left) in

@@ -52,7 +52,9 @@ strike_is_no_conditions p = record { no_check = λ cond. refl; no_build = λ con
 -- ---- the process has ended
 
 -- of the callbacks still to call the first one is passed over
-lawful-missed : {B : Type 0} (g : Plan B) (tell : Telling B) (sound : B → Type 0) (s : State B) (e : EventId) (left : List Callback) (p : ProcId) → s.control ≡ Calling e (callback.Strike p ∷ left) → LawfulBasis g tell sound s → LawfulBasis g tell sound (control_to (Calling e left) s)
+lawful-missed : {B : Type 0} (g : Plan B) (tell : Telling B) (sound : B → Type 0) (s : State B) (e : EventId)
+    (left : List Callback) (p : ProcId) → s.control ≡ Calling e (callback.Strike p ∷ left) → LawfulBasis g tell sound s
+    → LawfulBasis g tell sound (control_to (Calling e left) s)
 lawful-missed g tell sound s e left p calling h =
     lawful_called g tell sound s e (callback.Strike p) left (λ c. c) calling (λ q. refl) (strike_is_no_conditions p) h (replace_same g tell sound s h)
 
@@ -62,7 +64,8 @@ same_calling : {B : Type 0} (P : Control → Type 0) (s : State B) (k : Control)
 same_calling P s k is h = subst P is h
 
 -- an interruption has no callback but its strike, so those left resume nobody
-none_left : (c : Calendar) (e : EventId) (left : List Callback) (p q : ProcId) → StrikesAlone c (Calling e (callback.Strike p ∷ left)) → count_by (is_resume_of q) left ≡ 0
+none_left : (c : Calendar) (e : EventId) (left : List Callback) (p q : ProcId)
+    → StrikesAlone c (Calling e (callback.Strike p ∷ left)) → count_by (is_resume_of q) left ≡ 0
 none_left c e left p q h =
     let x : Callback = callback.Strike p in
     let k : Control = Calling e (x ∷ left) in
@@ -74,7 +77,9 @@ none_left c e left p q h =
     omega (arith, all.1, sum, more, count_by-le-length (is_resume_of q) left)
 
 -- the process that is struck is active, and nothing resumes it
-processes-struck : {B : Type 0} (named : ℕ) (s : State B) (e : EventId) (left : List Callback) (p : ProcId) (y : Signal) → s.control ≡ Calling e (callback.Strike p ∷ left) → is_alive p s ≡ true → LawfulInterruptions s → LawfulProcesses named s → LawfulProcesses named (control_to (Active e left p y) (stop_waiting p s))
+processes-struck : {B : Type 0} (named : ℕ) (s : State B) (e : EventId) (left : List Callback) (p : ProcId) (y : Signal)
+    → s.control ≡ Calling e (callback.Strike p ∷ left) → is_alive p s ≡ true → LawfulInterruptions s
+    → LawfulProcesses named s → LawfulProcesses named (control_to (Active e left p y) (stop_waiting p s))
 processes-struck {B} named s e left p y calling alive struck h =
     let c : Calendar = calendar s in
     let x : Callback = callback.Strike p in
@@ -115,7 +120,10 @@ processes-struck {B} named s e left p y calling alive struck h =
     not_counted true = refl
     not_counted false = refl
 
-lawful-struck : {B : Type 0} (g : Plan B) (tell : Telling B) (sound : B → Type 0) (s : State B) (e : EventId) (left : List Callback) (p : ProcId) (o : Option Outcome) → s.control ≡ Calling e (callback.Strike p ∷ left) → is_alive p s ≡ true → LawfulBasis g tell sound s → LawfulBasis g tell sound (control_to (Active e left p (signal_of o)) (stop_waiting p s))
+lawful-struck : {B : Type 0} (g : Plan B) (tell : Telling B) (sound : B → Type 0) (s : State B) (e : EventId)
+    (left : List Callback) (p : ProcId) (o : Option Outcome) → s.control ≡ Calling e (callback.Strike p ∷ left)
+    → is_alive p s ≡ true → LawfulBasis g tell sound s
+    → LawfulBasis g tell sound (control_to (Active e left p (signal_of o)) (stop_waiting p s))
 lawful-struck {B} g tell sound s e left p o calling alive h =
     let c : Calendar = calendar s in
     let x : Callback = callback.Strike p in
@@ -143,7 +151,9 @@ lawful-struck {B} g tell sound s e left p o calling alive h =
       chains = chains_control d k l (λ f w. w) (λ f w. All-tail (λ z. chains_well d f z ≡ true) x left w) (same_calling (λ j. LawfulChains d j) s k calling (chains_taken target (is_resume_of p) c s.control h.chains));
     }
 
-pub lawful-called_strike : {B : Type 0} (g : Plan B) (tell : Telling B) (sound : B → Type 0) (s : State B) (e : EventId) (left : List Callback) (p : ProcId) → s.control ≡ Calling e (callback.Strike p ∷ left) → LawfulBasis g tell sound s → LawfulBasis g tell sound (call g e (callback.Strike p) left s)
+pub lawful-called_strike : {B : Type 0} (g : Plan B) (tell : Telling B) (sound : B → Type 0) (s : State B) (e : EventId)
+    (left : List Callback) (p : ProcId) → s.control ≡ Calling e (callback.Strike p ∷ left) → LawfulBasis g tell sound s
+    → LawfulBasis g tell sound (call g e (callback.Strike p) left s)
 lawful-called_strike g tell sound s e left p calling h =
     let o : Option Outcome = (event_at (calendar s) e).outcome in
     if_cases (λ u. LawfulBasis g tell sound u) (is_alive p s) (control_to (Active e left p (signal_of o)) (stop_waiting p s)) (control_to (Calling e left) s)

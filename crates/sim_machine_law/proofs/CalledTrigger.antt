@@ -23,12 +23,15 @@ pub trigger_is_no_conditions : (y : EventId) → IsNoConditions (callback.Trigge
 trigger_is_no_conditions y = record { no_check = λ cond. refl; no_build = λ cond. refl }
 
 -- what is to be called first passes on well
-pub first_chains : (c : Calendar) (k : Control) (e : EventId) (x : Callback) (left : List Callback) → k ≡ Calling e (x ∷ left) → LawfulChains c k → chains_well c e x ≡ true
+pub first_chains : (c : Calendar) (k : Control) (e : EventId) (x : Callback) (left : List Callback)
+    → k ≡ Calling e (x ∷ left) → LawfulChains c k → chains_well c e x ≡ true
 first_chains c k e x left calling h =
     let at : LawfulChains c (Calling e (x ∷ left)) = subst (λ l. LawfulChains c l) calling h in
     All-head (λ z. chains_well c e z ≡ true) x left (at.calling e (is_same-self e))
 
-pub lawful-called_trigger : {B : Type 0} (g : Plan B) (tell : Telling B) (sound : B → Type 0) (s : State B) (e : EventId) (y : EventId) (left : List Callback) → s.control ≡ Calling e (callback.Trigger y ∷ left) → LawfulBasis g tell sound s → LawfulBasis g tell sound (call g e (callback.Trigger y) left s)
+pub lawful-called_trigger : {B : Type 0} (g : Plan B) (tell : Telling B) (sound : B → Type 0) (s : State B) (e : EventId)
+    (y : EventId) (left : List Callback) → s.control ≡ Calling e (callback.Trigger y ∷ left) → LawfulBasis g tell sound s
+    → LawfulBasis g tell sound (call g e (callback.Trigger y) left s)
 lawful-called_trigger g tell sound s e y left calling h =
     let c : Calendar = calendar s in
     let parts = three_parts (is_trigger_kind (kind_at c e)) (was_made c y) (is_triggered_kind (kind_at c y)) (first_chains c s.control e (callback.Trigger y) left calling h.chains) in

@@ -69,14 +69,22 @@ pub record HasAsked {B : Type 0} (g : Plan B) (tell : Telling B) (sound : B → 
   pub poll : IsLawfulPoll f tell y.body x o b
   pub scopes : tell.scopes b ≡ scopes_told (tell.scopes y.body) (tell.last y.body) x
 
-pub body_asked : {B : Type 0} (g : Plan B) (tell : Telling B) (sound : B → Type 0) (s : State B) (f : CodeFacts) (e : EventId) (left : List Callback) (p : ProcId) (x : Signal) (y : ProcessOf B) (b : B) (o : Op) → HasAsked g tell sound s f e left p x y b o → IsBodyPoll tell sound s e left p x y b
+pub body_asked : {B : Type 0} (g : Plan B) (tell : Telling B) (sound : B → Type 0) (s : State B) (f : CodeFacts)
+    (e : EventId) (left : List Callback) (p : ProcId) (x : Signal) (y : ProcessOf B) (b : B) (o : Op)
+    → HasAsked g tell sound s f e left p x y b o → IsBodyPoll tell sound s e left p x y b
 body_asked g tell sound s f e left p x y b o h = record { active = h.active; found = h.found; is_sound = h.is_sound; own = h.poll.own; places = h.poll.places; lawful = h.lawful.bodies }
 
-pub scopes_asked_for : {B : Type 0} (g : Plan B) (tell : Telling B) (sound : B → Type 0) (s : State B) (f : CodeFacts) (e : EventId) (left : List Callback) (p : ProcId) (x : Signal) (y : ProcessOf B) (b : B) (o : Op) → HasAsked g tell sound s f e left p x y b o → IsWaitingPoll g tell s e left p x y b
+pub scopes_asked_for : {B : Type 0} (g : Plan B) (tell : Telling B) (sound : B → Type 0) (s : State B) (f : CodeFacts)
+    (e : EventId) (left : List Callback) (p : ProcId) (x : Signal) (y : ProcessOf B) (b : B) (o : Op)
+    → HasAsked g tell sound s f e left p x y b o → IsWaitingPoll g tell s e left p x y b
 scopes_asked_for g tell sound s f e left p x y b o h = record { active = h.active; found = h.found; scopes = h.scopes; lawful = h.lawful.waiting }
 
 -- the process goes on and is told n, and the calendar is changed so
-pub lawful_told : {B : Type 0} (g : Plan B) (tell : Telling B) (sound : B → Type 0) (s : State B) (f : CodeFacts) (e : EventId) (left : List Callback) (p : ProcId) (x : Signal) (y : ProcessOf B) (b : B) (o : Op) (n : Signal) (change : Calendar → Calendar) → HasAsked g tell sound s f e left p x y b o → MayReplace s (change (calendar s)) → is_enter (tell.last b) ≡ false → told_fits tell (change (calendar s)) b n ≡ true → LawfulBasis g tell sound (told n (on_events change (with_body p b s)))
+pub lawful_told : {B : Type 0} (g : Plan B) (tell : Telling B) (sound : B → Type 0) (s : State B) (f : CodeFacts)
+    (e : EventId) (left : List Callback) (p : ProcId) (x : Signal) (y : ProcessOf B) (b : B) (o : Op) (n : Signal)
+    (change : Calendar → Calendar) → HasAsked g tell sound s f e left p x y b o → MayReplace s (change (calendar s))
+    → is_enter (tell.last b) ≡ false → told_fits tell (change (calendar s)) b n ≡ true
+    → LawfulBasis g tell sound (told n (on_events change (with_body p b s)))
 lawful_told {B} g tell sound s f e left p x y b o n change h k not_enters fits =
     let d : Calendar = change (calendar s) in
     let r : State B = with_body p b s in
@@ -95,7 +103,10 @@ lawful_told {B} g tell sound s f e left p x y b o n change h k not_enters fits =
     }
 
 -- a callback of e was called that resumes nobody and is no condition's, and the calendar is changed so
-pub lawful_called : {B : Type 0} (g : Plan B) (tell : Telling B) (sound : B → Type 0) (s : State B) (e : EventId) (x : Callback) (left : List Callback) (change : Calendar → Calendar) → s.control ≡ Calling e (x ∷ left) → ((p : ProcId) → is_resume_of p x ≡ false) → IsNoConditions x → LawfulBasis g tell sound s → MayReplace s (change (calendar s)) → LawfulBasis g tell sound (control_to (Calling e left) (on_events change s))
+pub lawful_called : {B : Type 0} (g : Plan B) (tell : Telling B) (sound : B → Type 0) (s : State B) (e : EventId)
+    (x : Callback) (left : List Callback) (change : Calendar → Calendar) → s.control ≡ Calling e (x ∷ left)
+    → ((p : ProcId) → is_resume_of p x ≡ false) → IsNoConditions x → LawfulBasis g tell sound s
+    → MayReplace s (change (calendar s)) → LawfulBasis g tell sound (control_to (Calling e left) (on_events change s))
 lawful_called {B} g tell sound s e x left change calling others no_condition l k =
     let d : Calendar = change (calendar s) in
     let t : State B = on_events change s in

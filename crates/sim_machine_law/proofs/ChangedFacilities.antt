@@ -57,7 +57,9 @@ places_later c d l (x ∷ xs) h =
     let parts : (place_fits c x ≡ true) × (list_all (place_fits c) xs ≡ true) = and_parts (place_fits c x) (list_all (place_fits c) xs) h in
     and_from (place_fits d x) (list_all (place_fits d) xs) (place_later c d l x parts.0) (places_later c d l xs parts.1)
 
-made_calm : (c d : Calendar) (e : EventId) (asked : Option Op) (m : Bool) → Calm c d → (m && was_made c e && not (is_processed c e) && makes_kind asked (kind_at c e)) ≡ true → (m && was_made d e && not (is_processed d e) && makes_kind asked (kind_at d e)) ≡ true
+made_calm : (c d : Calendar) (e : EventId) (asked : Option Op) (m : Bool) → Calm c d
+    → (m && was_made c e && not (is_processed c e) && makes_kind asked (kind_at c e)) ≡ true
+    → (m && was_made d e && not (is_processed d e) && makes_kind asked (kind_at d e)) ≡ true
 made_calm c d e asked m calm h =
     let parts = four_parts m (was_made c e) (not (is_processed c e)) (makes_kind asked (kind_at c e)) h in
     let below : e.0 < length c.events = made_below c e parts.1 in
@@ -68,14 +70,17 @@ fits_calm tell c d b (signal.Made e) calm h = made_calm c d e (tell.last b) (may
 fits_calm tell c d b _ calm h = h
 
 -- what is told fits on
-pub told_calm : {B : Type 0} (tell : Telling B) (c d : Calendar) (q : ProcId) (b : B) (k : Control) → Calm c d → is_told_well tell c q b k ≡ true → is_told_well tell d q b k ≡ true
+pub told_calm : {B : Type 0} (tell : Telling B) (c d : Calendar) (q : ProcId) (b : B) (k : Control) → Calm c d
+    → is_told_well tell c q b k ≡ true → is_told_well tell d q b k ≡ true
 told_calm tell c d q b Idle calm h = h
 told_calm tell c d q b (Calling e left) calm h = h
 told_calm tell c d q b (Active e left p x) calm h = if_stays (is_process p q) (told_fits tell c b x) (told_fits tell d b x) _ (fits_calm tell c d b x calm) h
 told_calm tell c d q b (Over why e left) calm h = h
 
 -- what bodies hold and are told still fits, where the calendar is calm
-pub bodies_calm : {B : Type 0} (tell : Telling B) (sound : B → Type 0) (s : State B) (f : Facilities) → Calm s.facilities.calendar f.calendar → LawfulBodies tell sound s → LawfulBodies tell sound (record s { facilities = f })
+pub bodies_calm : {B : Type 0} (tell : Telling B) (sound : B → Type 0) (s : State B) (f : Facilities)
+    → Calm s.facilities.calendar f.calendar → LawfulBodies tell sound s
+    → LawfulBodies tell sound (record s { facilities = f })
 bodies_calm tell sound s f calm h =
     let c : Calendar = s.facilities.calendar in
     record {
@@ -88,7 +93,8 @@ bodies_calm tell sound s f calm h =
 -- ---- scopes
 
 -- an open scope stays well where its process stays alive
-pub scope_later : {B : Type 0} (rs : List Resource) (s t : State B) (x : OpenScope) → Later (calendar s) (calendar t) → (is_alive x.process s ≡ true → is_alive x.process t ≡ true) → is_scope_well rs s x ≡ true → is_scope_well rs t x ≡ true
+pub scope_later : {B : Type 0} (rs : List Resource) (s t : State B) (x : OpenScope) → Later (calendar s) (calendar t)
+    → (is_alive x.process s ≡ true → is_alive x.process t ≡ true) → is_scope_well rs s x ≡ true → is_scope_well rs t x ≡ true
 scope_later rs s t x k alive h =
     let c : Calendar = calendar s in
     let d : Calendar = calendar t in
@@ -102,7 +108,8 @@ scope_later rs s t x k alive h =
 -- ---- waiters
 
 -- what waits for another event than the one that is changed waits as before
-pub waits_elsewhere : (e : EventId) (change : EventOf → EventOf) (c : Calendar) (w : Waiter) → w.event.0 ≢ e.0 → waits_well (change_event e change c) w ≡ waits_well c w
+pub waits_elsewhere : (e : EventId) (change : EventOf → EventOf) (c : Calendar) (w : Waiter) → w.event.0 ≢ e.0
+    → waits_well (change_event e change c) w ≡ waits_well c w
 waits_elsewhere e change c w differ =
     let d : Calendar = change_event e change c in
     ap (λ (x : EventOf). nat_lt w.event.0 (length d.events) && is_none x.outcome && not x.cancelled && may_wait_kind x.kind) (change_event-other e w.event change c differ)
@@ -127,7 +134,8 @@ pub record MayBecome {B : Type 0} (g : Plan B) (s : State B) (f : Facilities) : 
   pub conditions : ConditionsBasis f.calendar s.control
   pub chains : LawfulChains f.calendar s.control
 
-pub lawful_becomes : {B : Type 0} (g : Plan B) (tell : Telling B) (sound : B → Type 0) (s : State B) (f : Facilities) → LawfulBasis g tell sound s → MayBecome g s f → LawfulBasis g tell sound (record s { facilities = f })
+pub lawful_becomes : {B : Type 0} (g : Plan B) (tell : Telling B) (sound : B → Type 0) (s : State B) (f : Facilities)
+    → LawfulBasis g tell sound s → MayBecome g s f → LawfulBasis g tell sound (record s { facilities = f })
 lawful_becomes {B} g tell sound s f l k =
     let t : State B = record s { facilities = f } in
     record {
@@ -150,7 +158,9 @@ lawful_becomes {B} g tell sound s f l k =
     }
 
 -- the same where the calendar alone is changed
-pub lawful_on_events : {B : Type 0} (g : Plan B) (tell : Telling B) (sound : B → Type 0) (s : State B) (change : Calendar → Calendar) → LawfulBasis g tell sound s → MayReplace s (change (calendar s)) → Calm (calendar s) (change (calendar s)) → LawfulBasis g tell sound (on_events change s)
+pub lawful_on_events : {B : Type 0} (g : Plan B) (tell : Telling B) (sound : B → Type 0) (s : State B)
+    (change : Calendar → Calendar) → LawfulBasis g tell sound s → MayReplace s (change (calendar s))
+    → Calm (calendar s) (change (calendar s)) → LawfulBasis g tell sound (on_events change s)
 lawful_on_events {B} g tell sound s change l k calm =
     let d : Calendar = change (calendar s) in
     let t : State B = on_events change s in

@@ -40,7 +40,12 @@ use Rattle.sim_machine_law.proofs.LawfulBasis.{LawfulBasis}
 -- ---- the calendar stays
 
 -- other waiters and another ledger
-pub lawful_same_calendar : {B : Type 0} (g : Plan B) (tell : Telling B) (sound : B → Type 0) (s : State B) (ws : List Waiter) (ledger : List Deed) → LawfulBasis g tell sound s → AllPass (waits_well (calendar s)) ws → AllPairs (λ w v. w.event ≢ v.event) ws → AllPass (λ w. request_has_scope s.scopes w w.want) ws → ((res : ℕ) → AllPass (λ u. has_scope s.scopes u.request u.process res) (users res ledger)) → LawfulCapacities g.setup.resources (record s.facilities { waiters = ws; ledger = ledger }) → LawfulBasis g tell sound (record s { facilities = record s.facilities { waiters = ws; ledger = ledger } })
+pub lawful_same_calendar : {B : Type 0} (g : Plan B) (tell : Telling B) (sound : B → Type 0) (s : State B) (ws : List Waiter)
+    (ledger : List Deed) → LawfulBasis g tell sound s → AllPass (waits_well (calendar s)) ws
+    → AllPairs (λ w v. w.event ≢ v.event) ws → AllPass (λ w. request_has_scope s.scopes w w.want) ws
+    → ((res : ℕ) → AllPass (λ u. has_scope s.scopes u.request u.process res) (users res ledger))
+    → LawfulCapacities g.setup.resources (record s.facilities { waiters = ws; ledger = ledger })
+    → LawfulBasis g tell sound (record s { facilities = record s.facilities { waiters = ws; ledger = ledger } })
 lawful_same_calendar {B} g tell sound s ws ledger l waiters once requests using capacities =
     let c : Calendar = calendar s in
     let f : Facilities = record s.facilities { waiters = ws; ledger = ledger } in
@@ -62,12 +67,15 @@ lawful_same_calendar {B} g tell sound s ws ledger l waiters once requests using 
     } in
     lawful_becomes g tell sound s f l k
 
-pub capacities_of_queue : (rs : List Resource) (f : Facilities) (ws : List Waiter) → AllPass (λ w. nat_lt w.res (length rs) && waits_for_fitting f.calendar (resource_at rs w.res) w w.want) ws → LawfulCapacities rs f → LawfulCapacities rs (record f { waiters = ws })
+pub capacities_of_queue : (rs : List Resource) (f : Facilities) (ws : List Waiter)
+    → AllPass (λ w. nat_lt w.res (length rs) && waits_for_fitting f.calendar (resource_at rs w.res) w w.want) ws
+    → LawfulCapacities rs f → LawfulCapacities rs (record f { waiters = ws })
 capacities_of_queue rs f ws waiting h =
     record { slots = h.slots; in_use = h.in_use; level_low = h.level_low; level_high = h.level_high; room = h.room; waiting = waiting }
 
 -- what waits for e waits no longer
-pub lawful_unqueued : {B : Type 0} (g : Plan B) (tell : Telling B) (sound : B → Type 0) (s : State B) (e : EventId) → LawfulBasis g tell sound s → LawfulBasis g tell sound (on_facilities (unqueue e) s)
+pub lawful_unqueued : {B : Type 0} (g : Plan B) (tell : Telling B) (sound : B → Type 0) (s : State B) (e : EventId)
+    → LawfulBasis g tell sound s → LawfulBasis g tell sound (on_facilities (unqueue e) s)
 lawful_unqueued g tell sound s e l =
     let rs : List Resource = g.setup.resources in
     let c : Calendar = calendar s in
@@ -81,7 +89,12 @@ lawful_unqueued g tell sound s e l =
     (capacities_of_queue rs s.facilities (filter test ws) (All-filter test (λ w. (nat_lt w.res (length rs) && waits_for_fitting c (resource_at rs w.res) w w.want) ≡ true) ws l.capacities.waiting) l.capacities)
 
 -- one waits more, for an event that nothing waits for
-pub lawful_joins : {B : Type 0} (g : Plan B) (tell : Telling B) (sound : B → Type 0) (s : State B) (w : Waiter) → LawfulBasis g tell sound s → waits_well (calendar s) w ≡ true → All (λ v. v.event ≢ w.event) s.facilities.waiters → request_has_scope s.scopes w w.want ≡ true → (nat_lt w.res (length g.setup.resources) && waits_for_fitting (calendar s) (resource_at g.setup.resources w.res) w w.want) ≡ true → LawfulBasis g tell sound (record s { facilities = record s.facilities { waiters = s.facilities.waiters ++ w ∷ [] } })
+pub lawful_joins : {B : Type 0} (g : Plan B) (tell : Telling B) (sound : B → Type 0) (s : State B) (w : Waiter)
+    → LawfulBasis g tell sound s → waits_well (calendar s) w ≡ true → All (λ v. v.event ≢ w.event) s.facilities.waiters
+    → request_has_scope s.scopes w w.want ≡ true
+    → (nat_lt w.res (length g.setup.resources) && waits_for_fitting (calendar s) (resource_at g.setup.resources w.res) w w.want)
+    ≡ true
+    → LawfulBasis g tell sound (record s { facilities = record s.facilities { waiters = s.facilities.waiters ++ w ∷ [] } })
 lawful_joins g tell sound s w l waits others scope fits =
     let rs : List Resource = g.setup.resources in
     let c : Calendar = calendar s in
@@ -94,19 +107,27 @@ lawful_joins g tell sound s w l waits others scope fits =
     (capacities_of_queue rs s.facilities (ws ++ w ∷ []) (All-push (λ v. (nat_lt v.res (length rs) && waits_for_fitting c (resource_at rs v.res) v v.want) ≡ true) ws w l.capacities.waiting fits) l.capacities)
 
 -- a deed more is written, with which all users stand in scopes and no capacity is exceeded
-pub lawful_deed : {B : Type 0} (g : Plan B) (tell : Telling B) (sound : B → Type 0) (s : State B) (d : Deed) → LawfulBasis g tell sound s → ((res : ℕ) → AllPass (λ u. has_scope s.scopes u.request u.process res) (users res (s.facilities.ledger ++ d ∷ []))) → LawfulCapacities g.setup.resources (write_deed d s.facilities) → LawfulBasis g tell sound (on_facilities (write_deed d) s)
+pub lawful_deed : {B : Type 0} (g : Plan B) (tell : Telling B) (sound : B → Type 0) (s : State B) (d : Deed)
+    → LawfulBasis g tell sound s
+    → ((res : ℕ) → AllPass (λ u. has_scope s.scopes u.request u.process res) (users res (s.facilities.ledger ++ d ∷ [])))
+    → LawfulCapacities g.setup.resources (write_deed d s.facilities)
+    → LawfulBasis g tell sound (on_facilities (write_deed d) s)
 lawful_deed g tell sound s d l using capacities =
     lawful_same_calendar g tell sound s s.facilities.waiters (s.facilities.ledger ++ d ∷ []) l l.waiting.waiters l.waiting.once l.waiting.requests using capacities
 
 -- ---- an event is changed that nothing waits for
 
 -- event 0 is processed
-pub processed_zero : {B : Type 0} (g : Plan B) (tell : Telling B) (sound : B → Type 0) (s : State B) (e : EventId) → LawfulBasis g tell sound s → is_processed (calendar s) e ≡ false → e.0 ≢ 0
+pub processed_zero : {B : Type 0} (g : Plan B) (tell : Telling B) (sound : B → Type 0) (s : State B) (e : EventId)
+    → LawfulBasis g tell sound s → is_processed (calendar s) e ≡ false → e.0 ≢ 0
 processed_zero g tell sound s e l unprocessed zero =
     both_ways (is_processed (calendar s) e) unprocessed (ap (λ (n : ℕ). is_processed (calendar s) (record { 0 = n })) zero ∙ l.processes.zero_processed)
 
 -- it is triggered
-pub lawful_triggered : {B : Type 0} (g : Plan B) (tell : Telling B) (sound : B → Type 0) (s : State B) (e : EventId) (x : Outcome) → LawfulBasis g tell sound s → e.0 < length (calendar s).events → is_pending (calendar s) e ≡ true → is_process_kind (kind_at (calendar s) e) ≡ false → is_interrupt_kind (kind_at (calendar s) e) ≡ false → All (λ w. w.event.0 ≢ e.0) s.facilities.waiters → LawfulBasis g tell sound (on_events (trigger e x) s)
+pub lawful_triggered : {B : Type 0} (g : Plan B) (tell : Telling B) (sound : B → Type 0) (s : State B) (e : EventId)
+    (x : Outcome) → LawfulBasis g tell sound s → e.0 < length (calendar s).events → is_pending (calendar s) e ≡ true
+    → is_process_kind (kind_at (calendar s) e) ≡ false → is_interrupt_kind (kind_at (calendar s) e) ≡ false
+    → All (λ w. w.event.0 ≢ e.0) s.facilities.waiters → LawfulBasis g tell sound (on_events (trigger e x) s)
 lawful_triggered g tell sound s e x l made pending no_process no_interrupt apart =
     let c : Calendar = calendar s in
     let d : Calendar = trigger e x c in
@@ -133,7 +154,9 @@ lawful_triggered g tell sound s e x l made pending no_process no_interrupt apart
     })
 
 -- it is cancelled
-pub lawful_cancels : {B : Type 0} (g : Plan B) (tell : Telling B) (sound : B → Type 0) (s : State B) (e : EventId) → LawfulBasis g tell sound s → All (λ w. w.event.0 ≢ e.0) s.facilities.waiters → LawfulBasis g tell sound (on_events (cancel_event e) s)
+pub lawful_cancels : {B : Type 0} (g : Plan B) (tell : Telling B) (sound : B → Type 0) (s : State B) (e : EventId)
+    → LawfulBasis g tell sound s → All (λ w. w.event.0 ≢ e.0) s.facilities.waiters
+    → LawfulBasis g tell sound (on_events (cancel_event e) s)
 lawful_cancels g tell sound s e l apart =
     let c : Calendar = calendar s in
     let d : Calendar = cancel_event e c in

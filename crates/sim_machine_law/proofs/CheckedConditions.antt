@@ -7,7 +7,7 @@ use Rattle.sim_types.specs.declared.event.EventId.{EventId}
 use Rattle.sim_types.specs.declared.event.Outcome.{Outcome}
 use Rattle.sim_types.specs.declared.event.Throw.{Throw}
 use Rattle.sim_types.specs.declared.event.Outcome.TheVariants as outcome
-use Rattle.sim_machine.specs.State.{Sort, Every, Either, ConditionOf, EventOf, Calendar, Control, State}
+use Rattle.sim_machine.specs.State.{AllOrAny, Every, Either, ConditionOf, EventOf, Calendar, Control, State}
 use Rattle.sim_machine.specs.Events.{event_at, is_pending, is_processed, defuse}
 use Rattle.sim_machine.specs.Conditions.{no_condition, condition_of, is_condition, condition_at, members_of, change_condition, is_met, count_member, judge, check}
 use Rattle.sim_machine.specs.Triggering.{trigger, succeed, fail}
@@ -23,13 +23,19 @@ use Rattle.sim_machine_law.proofs.LawfulBasis.{ConditionsBasis}
 
 -- ---- what a check comes to
 
-judge_cases : (P : Calendar → Type 0) (cond m : EventId) (o : Option Outcome) (c : Calendar) → ((t : Throw) → P (fail cond t (defuse m c))) → P (succeed cond (pos 0) c) → (is_met (condition_at c cond) ≡ false → P c) → P (judge cond m o c)
+judge_cases : (P : Calendar → Type 0) (cond m : EventId) (o : Option Outcome) (c : Calendar)
+    → ((t : Throw) → P (fail cond t (defuse m c))) → P (succeed cond (pos 0) c)
+    → (is_met (condition_at c cond) ≡ false → P c) → P (judge cond m o c)
 judge_cases P cond m (Some (outcome.Fail t)) c fails met not_met = fails t
 judge_cases P cond m (Some (outcome.Ok v)) c fails met not_met = if_cases P (is_met (condition_at c cond)) (succeed cond (pos 0) c) c (λ h. met) not_met
 judge_cases P cond m None c fails met not_met = if_cases P (is_met (condition_at c cond)) (succeed cond (pos 0) c) c (λ h. met) not_met
 
 -- a condition that is pending counts, and then fails, succeeds, or waits on; any other stays
-pub check_cases : (P : Calendar → Type 0) (cond m : EventId) (c : Calendar) → (is_pending c cond ≡ true → (t : Throw) → P (fail cond t (defuse m (count_member cond c)))) → (is_pending c cond ≡ true → P (succeed cond (pos 0) (count_member cond c))) → (is_pending c cond ≡ true → is_met (condition_at (count_member cond c) cond) ≡ false → P (count_member cond c)) → P c → P (check cond m c)
+pub check_cases : (P : Calendar → Type 0) (cond m : EventId) (c : Calendar)
+    → (is_pending c cond ≡ true → (t : Throw) → P (fail cond t (defuse m (count_member cond c))))
+    → (is_pending c cond ≡ true → P (succeed cond (pos 0) (count_member cond c)))
+    → (is_pending c cond ≡ true → is_met (condition_at (count_member cond c) cond) ≡ false → P (count_member cond c)) → P c
+    → P (check cond m c)
 check_cases P cond m c fails met not_met turned =
     if_cases P (is_pending c cond) (judge cond m (event_at c m).outcome (count_member cond c)) c
     (λ pending. judge_cases P cond m (event_at c m).outcome (count_member cond c) (fails pending) (met pending) (not_met pending)) (λ h. turned)
@@ -47,12 +53,16 @@ pub same_joined : (c d n : Calendar) → SameConditions c d → SameConditions d
 same_joined c d n h w =
     record { members = λ e. w.members e ∙ h.members e; needs = λ e. w.needs e ∙ h.needs e; processed = λ e. w.processed e ∙ h.processed e; registered = w.registered ∙ h.registered }
 
-needs_part : (o : Option ConditionOf) (p : Bool) (change : ConditionOf → ConditionOf) → ((x : ConditionOf) → (change x).members ≡ x.members) → (true && not p && not (is_empty (change (condition_of o)).members)) ≡ (is_some o && not p && not (is_empty (condition_of o).members))
+needs_part : (o : Option ConditionOf) (p : Bool) (change : ConditionOf → ConditionOf)
+    → ((x : ConditionOf) → (change x).members ≡ x.members)
+    → (true && not p && not (is_empty (change (condition_of o)).members))
+    ≡ (is_some o && not p && not (is_empty (condition_of o).members))
 needs_part (Some y) p change keeps = ap (λ (ms : List EventId). true && not p && not (is_empty ms)) (keeps y)
 needs_part None true change keeps = refl
 needs_part None false change keeps = ap (λ (ms : List EventId). true && not false && not (is_empty ms)) (keeps no_condition)
 
-pub same_condition : (e : EventId) (change : ConditionOf → ConditionOf) (c : Calendar) → ((x : ConditionOf) → (change x).members ≡ x.members) → SameConditions c (change_condition e change c)
+pub same_condition : (e : EventId) (change : ConditionOf → ConditionOf) (c : Calendar)
+    → ((x : ConditionOf) → (change x).members ≡ x.members) → SameConditions c (change_condition e change c)
 same_condition e change c keeps =
     let changed : EventOf → EventOf = λ x. record x { condition = Some (change (condition_of x.condition)) } in
     record {
@@ -93,7 +103,8 @@ same_checked cond m c =
     (record { members = λ e. refl; needs = λ e. refl; processed = λ e. refl; registered = refl })
 
 -- where they count well too, they stay lawful
-pub conditions_recounted : (c d : Calendar) (k : Control) → SameConditions c d → ((e : EventId) → counts_well d e ≡ true) → ConditionsBasis c k → ConditionsBasis d k
+pub conditions_recounted : (c d : Calendar) (k : Control) → SameConditions c d → ((e : EventId) → counts_well d e ≡ true)
+    → ConditionsBasis c k → ConditionsBasis d k
 conditions_recounted c d k same counts h =
     record {
       members = λ e made. older_same c d same.members e ∙ older_everywhere c k e h;
@@ -116,24 +127,27 @@ turned_counts true q = refl
 turned_counts false q = refl
 
 -- a condition that was triggered need not count well
-pub counts_turned : (e f : EventId) (o : Outcome) (c : Calendar) → e.0 < length c.events → (f.0 ≢ e.0 → counts (event_at c f) ≡ true) → (f.0 ≡ e.0) ⊎ (f.0 ≢ e.0) → counts_well (trigger e o c) f ≡ true
+pub counts_turned : (e f : EventId) (o : Outcome) (c : Calendar) → e.0 < length c.events
+    → (f.0 ≢ e.0 → counts (event_at c f) ≡ true) → (f.0 ≡ e.0) ⊎ (f.0 ≢ e.0) → counts_well (trigger e o c) f ≡ true
 counts_turned e f o c made others (inl same) =
     let d : Calendar = trigger e o c in
     let x : EventOf = event_at c e in
     subst (λ g. counts (event_at d g) ≡ true) (same_event e f (sym same)) (ap counts (change_event-same e (λ y. record y { outcome = Some o }) c made) ∙ turned_counts (is_some x.condition) (is_below_all (condition_of x.condition)))
 counts_turned e f o c made others (inr differ) = ap counts (change_event-other e f (λ y. record y { outcome = Some o }) c differ) ∙ others differ
 
-every_not : (x : Sort) (b : Bool) → elim x [ Every ↦ b | Either ↦ true ] ≡ false → b ≡ false
+every_not : (x : AllOrAny) (b : Bool) → elim x [ Every ↦ b | Either ↦ true ] ≡ false → b ≡ false
 every_not Every b h = h
 every_not Either b h = absurd (false≢true (sym h))
 
-counts_one_more : (n m : ℕ) (a b : Bool) → a ≡ true → b ≡ true → (not (a && b) || nat_lt n m) ≡ true → (n + 1 == m) ≡ false → (not (true && b) || nat_lt (n + 1) m) ≡ true
+counts_one_more : (n m : ℕ) (a b : Bool) → a ≡ true → b ≡ true → (not (a && b) || nat_lt n m) ≡ true → (n + 1 == m) ≡ false
+    → (not (true && b) || nat_lt (n + 1) m) ≡ true
 counts_one_more n m a b p q h other = grind (arith, nat_tests)
 
 -- ---- a member is checked
 
 -- the condition was made, and is pending, so it has not counted all
-pub conditions_checked : (cond m : EventId) (c : Calendar) (k : Control) → cond.0 < length c.events → is_condition c cond ≡ true → ConditionsBasis c k → ConditionsBasis (check cond m c) k
+pub conditions_checked : (cond m : EventId) (c : Calendar) (k : Control) → cond.0 < length c.events
+    → is_condition c cond ≡ true → ConditionsBasis c k → ConditionsBasis (check cond m c) k
 conditions_checked cond m c k made is h =
     let one : ConditionOf → ConditionOf = λ x. record x { count = x.count + 1 } in
     let change : EventOf → EventOf = λ x. record x { condition = Some (one (condition_of x.condition)) } in
@@ -158,7 +172,8 @@ conditions_checked cond m c k made is h =
     (λ f. change_event-passes counts cond f change c (counts_one_more on.count (length on.members) (is_condition c cond) (is_pending c cond) is pending (h.counts cond) short) (h.counts f)) h)
     h
 
-pub take_checked : {B : Type 0} (s : State B) (cond m : EventId) (d : Calendar) → cond.0 < length d.events → cond.0 ≢ 0 → is_condition_kind (kind_at d cond) ≡ true → MayTake s d → MayTake s (check cond m d)
+pub take_checked : {B : Type 0} (s : State B) (cond m : EventId) (d : Calendar) → cond.0 < length d.events → cond.0 ≢ 0
+    → is_condition_kind (kind_at d cond) ≡ true → MayTake s d → MayTake s (check cond m d)
 take_checked s cond m d made nonzero kinds h =
     let one : ConditionOf → ConditionOf = λ x. record x { count = x.count + 1 } in
     let change : EventOf → EventOf = λ x. record x { condition = Some (one (condition_of x.condition)) } in

@@ -88,7 +88,8 @@ same_left res request f =
     })
 
 -- what waits for another event waits as before
-waits_still : (request : EventId) (c d : Calendar) (w : Waiter) → SameButOne request c d → not (is_same w.event request) ≡ true → waits_well c w ≡ true → waits_well d w ≡ true
+waits_still : (request : EventId) (c d : Calendar) (w : Waiter) → SameButOne request c d
+    → not (is_same w.event request) ≡ true → waits_well c w ≡ true → waits_well d w ≡ true
 waits_still request c d w k apart h =
     let e : EventId = w.event in
     let parts = four_parts (was_made c e) (is_pending c e) (not (event_at c e).cancelled) (may_wait_kind (kind_at c e)) h in
@@ -105,12 +106,15 @@ is_not_of request x = not (is_same x.request request)
 stays_open : (request r : EventId) (x : OpenScope) → is_same r request ≡ false → is_same x.request r ≡ true → is_not_of request x ≡ true
 stays_open request r x apart same = not_from_false (is_same x.request request) (ap (λ (e : EventId). is_same e request) (same_event x.request r (eqb-true x.request.0 r.0 same)) ∙ apart)
 
-has_scope_still : (scopes : List OpenScope) (request r : EventId) (p : ProcId) (res : ℕ) → is_same r request ≡ false → has_scope (filter (is_not_of request) scopes) r p res ≡ has_scope scopes r p res
+has_scope_still : (scopes : List OpenScope) (request r : EventId) (p : ProcId) (res : ℕ) → is_same r request ≡ false
+    → has_scope (filter (is_not_of request) scopes) r p res ≡ has_scope scopes r p res
 has_scope_still scopes request r p res apart =
     any-filter_same (λ x. is_same x.request r && is_process x.process p && (x.res == res)) (is_not_of request) true
     (λ x w. stays_open request r x apart (and_parts (is_same x.request r) (is_process x.process p) (and_parts (is_same x.request r && is_process x.process p) (x.res == res) w).0).0) scopes
 
-request_scope_still : (scopes : List OpenScope) (request : EventId) (w : Waiter) (want : Want) → is_same w.event request ≡ false → request_has_scope scopes w want ≡ true → request_has_scope (filter (is_not_of request) scopes) w want ≡ true
+request_scope_still : (scopes : List OpenScope) (request : EventId) (w : Waiter) (want : Want)
+    → is_same w.event request ≡ false → request_has_scope scopes w want ≡ true
+    → request_has_scope (filter (is_not_of request) scopes) w want ≡ true
 request_scope_still scopes request w (Slot p key) apart h = has_scope_still scopes request w.event p w.res apart ∙ h
 request_scope_still scopes request w _ apart h = h
 
@@ -133,7 +137,9 @@ pub record IsOwnScope (c : Calendar) (scopes : List OpenScope) (q : ProcId) (x :
   pub alone : All (λ y. is_same y.request x.request ≡ true → y ≡ x) scopes
 
 -- a request that does not use its resource uses no other, since it has one scope
-uses_elsewhere : (scopes : List OpenScope) (x : OpenScope) (u : User) (at : ℕ) → All (λ y. is_same y.request x.request ≡ true → y ≡ x) scopes → has_scope scopes u.request u.process at ≡ true → is_same u.request x.request ≡ true → x.res ≡ at
+uses_elsewhere : (scopes : List OpenScope) (x : OpenScope) (u : User) (at : ℕ)
+    → All (λ y. is_same y.request x.request ≡ true → y ≡ x) scopes → has_scope scopes u.request u.process at ≡ true
+    → is_same u.request x.request ≡ true → x.res ≡ at
 uses_elsewhere scopes x u at alone has same =
     let t : OpenScope → Bool = λ y. is_same y.request u.request && is_process y.process u.process && (y.res == at) in
     let found = Any-from_list_any t scopes has in
@@ -144,7 +150,8 @@ uses_elsewhere scopes x u at alone has same =
     let is_x : y ≡ x = subst (λ (z : OpenScope). is_same z.request x.request ≡ true → z ≡ x) found.3 (alone found.0 y found.2) request in
     ap (λ (z : OpenScope). z.res) (sym is_x) ∙ eqb-true y.res at parts.1
 
-pub closed_scope : {B : Type 0} (g : Plan B) (tell : Telling B) (q : ProcId) (s : State B) (x : OpenScope) → IsOwnScope (calendar s) s.scopes q x → WaitsBut g tell q s → WaitsBut g tell q (close_scope s x)
+pub closed_scope : {B : Type 0} (g : Plan B) (tell : Telling B) (q : ProcId) (s : State B) (x : OpenScope)
+    → IsOwnScope (calendar s) s.scopes q x → WaitsBut g tell q s → WaitsBut g tell q (close_scope s x)
 closed_scope {B} g tell q s x own h =
     let t : State B = close_scope s x in
     let f : Facilities = s.facilities in
@@ -194,7 +201,8 @@ closed_scope {B} g tell q s x own h =
 abbrev pub Covered : ProcId → List OpenScope → List OpenScope → Type 0
 Covered q xs scopes = All (λ y. is_process y.process q ≡ true → list_any (λ x. is_same y.request x.request) xs ≡ true) scopes
 
-own_still : {B : Type 0} (s : State B) (q : ProcId) (x y : OpenScope) → IsOwnScope (calendar s) s.scopes q y → IsOwnScope (calendar (close_scope s x)) (close_scope s x).scopes q y
+own_still : {B : Type 0} (s : State B) (q : ProcId) (x y : OpenScope) → IsOwnScope (calendar s) s.scopes q y
+    → IsOwnScope (calendar (close_scope s x)) (close_scope s x).scopes q y
 own_still s q x y own =
     let later : Later (calendar s) (calendar (close_scope s x)) = (proceeds-left s.control x.res x.request s.facilities).calm.later in
     record {
@@ -209,7 +217,9 @@ pub record AllClosed {B : Type 0} (g : Plan B) (tell : Telling B) (q : ProcId) (
   pub waits : WaitsBut g tell q t
   pub others : All (λ y. is_process y.process q ≡ false) t.scopes
 
-pub closed_scopes : {B : Type 0} (g : Plan B) (tell : Telling B) (q : ProcId) (xs : List OpenScope) (s : State B) → All (IsOwnScope (calendar s) s.scopes q) xs → Covered q xs s.scopes → WaitsBut g tell q s → AllClosed g tell q (fold close_scope s xs)
+pub closed_scopes : {B : Type 0} (g : Plan B) (tell : Telling B) (q : ProcId) (xs : List OpenScope) (s : State B)
+    → All (IsOwnScope (calendar s) s.scopes q) xs → Covered q xs s.scopes → WaitsBut g tell q s
+    → AllClosed g tell q (fold close_scope s xs)
 closed_scopes g tell q [] s own covered h =
     record { waits = h; others = All-weaker (λ y. is_process y.process q ≡ true → false ≡ true) (λ y. is_process y.process q ≡ false) (λ y w. false_from_ne_true (is_process y.process q) (λ a. false≢true (w a))) s.scopes covered }
 closed_scopes {B} g tell q (x ∷ xs) s own covered h =

@@ -6,7 +6,7 @@ use Rattle.sim_types.specs.declared.event.EventId.{EventId}
 use Rattle.sim_types.specs.declared.event.Outcome.{Outcome}
 use Rattle.sim_types.specs.declared.event.Outcome.TheVariants as outcome
 use Rattle.sim_types.specs.declared.event.Throw.{Throw}
-use Rattle.sim_machine.specs.State.{Sort, Every, Either, ConditionOf, EventOf, Calendar}
+use Rattle.sim_machine.specs.State.{AllOrAny, Every, Either, ConditionOf, EventOf, Calendar}
 use Rattle.sim_machine.specs.Events.{event_at, is_pending, defuse}
 use Rattle.sim_machine.specs.Triggering.{succeed, fail, trigger}
 use Rattle.sim_machine.specs.Conditions.{condition_of, condition_at, members_of, is_met, count_member, judge, check}
@@ -25,7 +25,7 @@ condition_kept e f x c =
 
 -- ---- counting
 
-module _ (cond member : EventId) (c : Calendar) (sort : Sort) (h : IsCounting c sort cond) where
+module _ (cond member : EventId) (c : Calendar) (sort : AllOrAny) (h : IsCounting c sort cond) where
   abbrev counted : Calendar
   counted = count_member cond c
 

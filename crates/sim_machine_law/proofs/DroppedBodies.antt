@@ -20,7 +20,9 @@ use Rattle.sim_machine_law.proofs.DroppedProcess.{MayDrop, IsScopeless, scopeles
 use Rattle.sim_machine_law.proofs.EndedProcesses.{is_other}
 use Rattle.sim_machine_law.proofs.LawfulBasis.{LawfulBasis}
 
-pub bodies_dropped : {B : Type 0} (g : Plan B) (tell : Telling B) (sound : B → Type 0) (s : State B) (e : EventId) (left : List Callback) (p : ProcId) (x : Signal) (q : ProcId) (value : ℤ) → MayDrop s e left p x q → LawfulBasis g tell sound s → LawfulBodies tell sound (drop_process q value s)
+pub bodies_dropped : {B : Type 0} (g : Plan B) (tell : Telling B) (sound : B → Type 0) (s : State B) (e : EventId)
+    (left : List Callback) (p : ProcId) (x : Signal) (q : ProcId) (value : ℤ) → MayDrop s e left p x q
+    → LawfulBasis g tell sound s → LawfulBodies tell sound (drop_process q value s)
 bodies_dropped {B} g tell sound s e left p x q value may h =
     let k : IsScopeless s e left p x q = scopeless g.setup.events s e left p x q may h.processes in
     let c : Calendar = calendar s in

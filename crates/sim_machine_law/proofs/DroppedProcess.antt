@@ -54,7 +54,8 @@ pub record IsScopeless {B : Type 0} (s : State B) (e : EventId) (left : List Cal
   pub control : (scopeless_state q s).control ≡ without_resume e left p x q
   pub unresumed : IsUnresumed s q (calendar (scopeless_state q s)) (without_resume e left p x q)
 
-pub scopeless : {B : Type 0} (named : ℕ) (s : State B) (e : EventId) (left : List Callback) (p : ProcId) (x : Signal) (q : ProcId) → MayDrop s e left p x q → LawfulProcesses named s → IsScopeless s e left p x q
+pub scopeless : {B : Type 0} (named : ℕ) (s : State B) (e : EventId) (left : List Callback) (p : ProcId) (x : Signal)
+    (q : ProcId) → MayDrop s e left p x q → LawfulProcesses named s → IsScopeless s e left p x q
 scopeless {B} named s e left p x q may h =
     let c : Calendar = calendar s in
     let k : Control = Active e left p x in
@@ -83,11 +84,15 @@ scopeless {B} named s e left p x q may h =
 
 -- ---- the calendar without the scopes, and once the event of q is triggered
 
-registrations_scopeless : {B : Type 0} (s : State B) (e : EventId) (left : List Callback) (p : ProcId) (x : Signal) (q : ProcId) → s.control ≡ Active e left p x → IsScopeless s e left p x q → LawfulRegistrations (calendar s) s.control → LawfulRegistrations (calendar (scopeless_state q s)) (without_resume e left p x q)
+registrations_scopeless : {B : Type 0} (s : State B) (e : EventId) (left : List Callback) (p : ProcId) (x : Signal)
+    (q : ProcId) → s.control ≡ Active e left p x → IsScopeless s e left p x q → LawfulRegistrations (calendar s) s.control
+    → LawfulRegistrations (calendar (scopeless_state q s)) (without_resume e left p x q)
 registrations_scopeless s e left p x q active k h =
     k.leaves.proceeds.registrations (registrations_dropped (calendar s) e left p q x (target_of q (process_at q s)) (subst (λ (j : Control). LawfulRegistrations (calendar s) j) active h))
 
-pub times_dropped : {B : Type 0} (g : Plan B) (tell : Telling B) (sound : B → Type 0) (s : State B) (e : EventId) (left : List Callback) (p : ProcId) (x : Signal) (q : ProcId) (value : ℤ) → MayDrop s e left p x q → LawfulBasis g tell sound s → LawfulTimes (calendar (drop_process q value s))
+pub times_dropped : {B : Type 0} (g : Plan B) (tell : Telling B) (sound : B → Type 0) (s : State B) (e : EventId)
+    (left : List Callback) (p : ProcId) (x : Signal) (q : ProcId) (value : ℤ) → MayDrop s e left p x q
+    → LawfulBasis g tell sound s → LawfulTimes (calendar (drop_process q value s))
 times_dropped g tell sound s e left p x q value may h =
     let k : IsScopeless s e left p x q = scopeless g.setup.events s e left p x q may h.processes in
     let d : Calendar = calendar (scopeless_state q s) in
@@ -96,7 +101,9 @@ times_dropped g tell sound s e left p x q value may h =
     times_triggered (event_of q) (outcome.Ok value) d own.1.made own.1.pending (pending_unprocessed d (event_of q) at.outcomes own.1.pending)
     (k.leaves.proceeds.times (times_registered (unregister (target_of q (process_at q s)) (is_resume_of q) (calendar s)).registered (calendar s) h.times))
 
-pub registrations_dropped_process : {B : Type 0} (g : Plan B) (tell : Telling B) (sound : B → Type 0) (s : State B) (e : EventId) (left : List Callback) (p : ProcId) (x : Signal) (q : ProcId) (value : ℤ) → MayDrop s e left p x q → LawfulBasis g tell sound s → LawfulRegistrations (calendar (drop_process q value s)) (drop_process q value s).control
+pub registrations_dropped_process : {B : Type 0} (g : Plan B) (tell : Telling B) (sound : B → Type 0) (s : State B)
+    (e : EventId) (left : List Callback) (p : ProcId) (x : Signal) (q : ProcId) (value : ℤ) → MayDrop s e left p x q
+    → LawfulBasis g tell sound s → LawfulRegistrations (calendar (drop_process q value s)) (drop_process q value s).control
 registrations_dropped_process g tell sound s e left p x q value may h =
     let k : IsScopeless s e left p x q = scopeless g.setup.events s e left p x q may h.processes in
     let d : Calendar = calendar (scopeless_state q s) in
@@ -104,7 +111,9 @@ registrations_dropped_process g tell sound s e left p x q value may h =
     subst (λ (j : Control). LawfulRegistrations (trigger (event_of q) (outcome.Ok value) d) j) (sym k.control)
     (registrations_scheduled (event_of q) (outcome.Ok value) normal (pos 0) d l (registrations_scopeless s e left p x q may.active k h.registrations))
 
-pub chains_dropped_process : {B : Type 0} (g : Plan B) (tell : Telling B) (sound : B → Type 0) (s : State B) (e : EventId) (left : List Callback) (p : ProcId) (x : Signal) (q : ProcId) (value : ℤ) → MayDrop s e left p x q → LawfulBasis g tell sound s → LawfulChains (calendar (drop_process q value s)) (drop_process q value s).control
+pub chains_dropped_process : {B : Type 0} (g : Plan B) (tell : Telling B) (sound : B → Type 0) (s : State B) (e : EventId)
+    (left : List Callback) (p : ProcId) (x : Signal) (q : ProcId) (value : ℤ) → MayDrop s e left p x q
+    → LawfulBasis g tell sound s → LawfulChains (calendar (drop_process q value s)) (drop_process q value s).control
 chains_dropped_process g tell sound s e left p x q value may h =
     let k : IsScopeless s e left p x q = scopeless g.setup.events s e left p x q may h.processes in
     let c : Calendar = calendar s in
@@ -116,7 +125,9 @@ chains_dropped_process g tell sound s e left p x q value may h =
     subst (λ (j : Control). LawfulChains (trigger (event_of q) (outcome.Ok value) d) j) (sym k.control)
     (chains_scheduled (event_of q) (outcome.Ok value) normal (pos 0) d l (registrations_scopeless s e left p x q may.active k h.registrations) (k.leaves.proceeds.chains (registrations_dropped c e left p q x target at) stopped))
 
-pub conditions_dropped_process : {B : Type 0} (g : Plan B) (tell : Telling B) (sound : B → Type 0) (s : State B) (e : EventId) (left : List Callback) (p : ProcId) (x : Signal) (q : ProcId) (value : ℤ) → MayDrop s e left p x q → LawfulBasis g tell sound s → ConditionsBasis (calendar (drop_process q value s)) (drop_process q value s).control
+pub conditions_dropped_process : {B : Type 0} (g : Plan B) (tell : Telling B) (sound : B → Type 0) (s : State B)
+    (e : EventId) (left : List Callback) (p : ProcId) (x : Signal) (q : ProcId) (value : ℤ) → MayDrop s e left p x q
+    → LawfulBasis g tell sound s → ConditionsBasis (calendar (drop_process q value s)) (drop_process q value s).control
 conditions_dropped_process g tell sound s e left p x q value may h =
     let k : IsScopeless s e left p x q = scopeless g.setup.events s e left p x q may h.processes in
     let c : Calendar = calendar s in
@@ -128,7 +139,9 @@ conditions_dropped_process g tell sound s e left p x q value may h =
 
 -- ---- the processes
 
-pub processes_dropped : {B : Type 0} (g : Plan B) (tell : Telling B) (sound : B → Type 0) (s : State B) (e : EventId) (left : List Callback) (p : ProcId) (x : Signal) (q : ProcId) (value : ℤ) → MayDrop s e left p x q → LawfulBasis g tell sound s → LawfulProcesses g.setup.events (drop_process q value s)
+pub processes_dropped : {B : Type 0} (g : Plan B) (tell : Telling B) (sound : B → Type 0) (s : State B) (e : EventId)
+    (left : List Callback) (p : ProcId) (x : Signal) (q : ProcId) (value : ℤ) → MayDrop s e left p x q
+    → LawfulBasis g tell sound s → LawfulProcesses g.setup.events (drop_process q value s)
 processes_dropped {B} g tell sound s e left p x q value may h =
     let k : IsScopeless s e left p x q = scopeless g.setup.events s e left p x q may h.processes in
     let d : Calendar = calendar (scopeless_state q s) in
@@ -136,7 +149,9 @@ processes_dropped {B} g tell sound s e left p x q value may h =
     let ended : State B = ended_state s q (outcome.Ok value) d l in
     processes-same g.setup.events ended (drop_process q value s) (ap (λ (ys : List (ProcessOf B)). filter (is_other q) ys) k.leaves.processes) refl k.control (processes-unresumed g.setup.events s q (outcome.Ok value) d l k.unresumed h.processes)
 
-pub interruptions_dropped : {B : Type 0} (g : Plan B) (tell : Telling B) (sound : B → Type 0) (s : State B) (e : EventId) (left : List Callback) (p : ProcId) (x : Signal) (q : ProcId) (value : ℤ) → MayDrop s e left p x q → LawfulBasis g tell sound s → LawfulInterruptions (drop_process q value s)
+pub interruptions_dropped : {B : Type 0} (g : Plan B) (tell : Telling B) (sound : B → Type 0) (s : State B) (e : EventId)
+    (left : List Callback) (p : ProcId) (x : Signal) (q : ProcId) (value : ℤ) → MayDrop s e left p x q
+    → LawfulBasis g tell sound s → LawfulInterruptions (drop_process q value s)
 interruptions_dropped {B} g tell sound s e left p x q value may h =
     let k : IsScopeless s e left p x q = scopeless g.setup.events s e left p x q may h.processes in
     let c : Calendar = calendar s in

@@ -61,7 +61,8 @@ any-reverse t (x ∷ xs) =
 -- ---- the scopes of a process
 
 -- scopes of one request are one
-alone_each : (xs : List OpenScope) → AllPairs (λ x y. x.request ≢ y.request) xs → All (λ (x : OpenScope). All (λ (y : OpenScope). is_same y.request x.request ≡ true → y ≡ x) xs) xs
+alone_each : (xs : List OpenScope) → AllPairs (λ x y. x.request ≢ y.request) xs
+    → All (λ (x : OpenScope). All (λ (y : OpenScope). is_same y.request x.request ≡ true → y ≡ x) xs) xs
 alone_each [] h = All-nil (λ (x : OpenScope). All (λ (y : OpenScope). is_same y.request x.request ≡ true → y ≡ x) [])
 alone_each (x ∷ xs) h =
     let R : OpenScope → OpenScope → Type 0 = λ y z. y.request ≢ z.request in
@@ -73,7 +74,8 @@ alone_each (x ∷ xs) h =
     All-cons (P w) x xs (λ same. absurd (apart k z below (is_same-yes x.request w.request same))) (alone_each xs (AllPairs-tail R x xs h) k z below) in
     All-cons (λ z. All (P z) (x ∷ xs)) x xs first others
 
-covered_itself : (p : OpenScope → Bool) (xs : List OpenScope) → All (λ (y : OpenScope). p y ≡ true → list_any (λ (x : OpenScope). is_same y.request x.request) (filter p xs) ≡ true) xs
+covered_itself : (p : OpenScope → Bool) (xs : List OpenScope)
+    → All (λ (y : OpenScope). p y ≡ true → list_any (λ (x : OpenScope). is_same y.request x.request) (filter p xs) ≡ true) xs
 covered_itself p [] = All-nil (λ (y : OpenScope). p y ≡ true → list_any (λ (x : OpenScope). is_same y.request x.request) [] ≡ true)
 covered_itself p (x ∷ xs) =
     let rest : List OpenScope = filter p xs in
@@ -92,7 +94,8 @@ entered_stripped q (Over why e left) p v = refl
 
 -- ---- the state without the scopes
 
-closed_all : {B : Type 0} (g : Plan B) (tell : Telling B) (s : State B) (q : ProcId) → AreScopesApart s → WaitingBasis g tell s → AllClosed g tell q (scopeless_state q s)
+closed_all : {B : Type 0} (g : Plan B) (tell : Telling B) (s : State B) (q : ProcId) → AreScopesApart s
+    → WaitingBasis g tell s → AllClosed g tell q (scopeless_state q s)
 closed_all {B} g tell s q distinct h =
     let c : Calendar = calendar s in
     let u : State B = stopped_state q s in
@@ -119,7 +122,8 @@ closed_all {B} g tell s q distinct h =
     } in
     closed_scopes g tell q (scopes_inwards q u) u (All-reverse (IsOwnScope d s.scopes q) (filter mine s.scopes) all_own) covered waits
   where
-    scope_facts : {B : Type 0} (g : Plan B) (s : State B) (x : OpenScope) → is_scope_well g.setup.resources s x ≡ true → (was_made (calendar s) x.request ≡ true) × (is_request_kind (kind_at (calendar s) x.request) ≡ true)
+    scope_facts : {B : Type 0} (g : Plan B) (s : State B) (x : OpenScope) → is_scope_well g.setup.resources s x ≡ true
+        → (was_made (calendar s) x.request ≡ true) × (is_request_kind (kind_at (calendar s) x.request) ≡ true)
     scope_facts g s x w =
         let outer = and_parts _ _ w in
         let parts = four_parts (is_alive x.process s) (was_made (calendar s) x.request) (is_request_kind (kind_at (calendar s) x.request)) _ outer.0 in
@@ -131,7 +135,9 @@ pub kinds_apart : (k : EventKind) → is_process_kind k ≡ true → may_wait_ki
 kinds_apart kind.Process h = refl
 kinds_apart _ h = absurd (false≢true h)
 
-waiting_ended_other : {B : Type 0} (g : Plan B) (tell : Telling B) (t : State B) (q : ProcId) (value : ℤ) → is_process_kind (kind_at (calendar t) (event_of q)) ≡ true → AllClosed g tell q t → WaitingBasis g tell (end_process q (outcome.Ok value) t)
+waiting_ended_other : {B : Type 0} (g : Plan B) (tell : Telling B) (t : State B) (q : ProcId) (value : ℤ)
+    → is_process_kind (kind_at (calendar t) (event_of q)) ≡ true → AllClosed g tell q t
+    → WaitingBasis g tell (end_process q (outcome.Ok value) t)
 waiting_ended_other {B} g tell t q value of h =
     let c : Calendar = calendar t in
     let e : EventId = event_of q in
@@ -159,7 +165,9 @@ waiting_ended_other {B} g tell t q value of h =
           All-filter (is_other q) (λ y. is_process y.id q ≡ false → KnowsItsScopes tell t y) t.processes h.waits.bodies k z below (not-true (is_process (get_or (filter (is_other q) t.processes) k z).id q) (filter_passes (is_other q) t.processes k z below));
     }
 
-pub waiting_dropped : {B : Type 0} (g : Plan B) (tell : Telling B) (sound : B → Type 0) (s : State B) (e : EventId) (left : List Callback) (p : ProcId) (x : Signal) (q : ProcId) (value : ℤ) → AreScopesApart s → MayDrop s e left p x q → LawfulBasis g tell sound s → WaitingBasis g tell (drop_process q value s)
+pub waiting_dropped : {B : Type 0} (g : Plan B) (tell : Telling B) (sound : B → Type 0) (s : State B) (e : EventId)
+    (left : List Callback) (p : ProcId) (x : Signal) (q : ProcId) (value : ℤ) → AreScopesApart s → MayDrop s e left p x q
+    → LawfulBasis g tell sound s → WaitingBasis g tell (drop_process q value s)
 waiting_dropped g tell sound s e left p x q value distinct may h =
     let k : IsScopeless s e left p x q = scopeless g.setup.events s e left p x q may h.processes in
     let own = lives-unresumed g.setup.events s q (calendar (scopeless_state q s)) (without_resume e left p x q) k.unresumed h.processes in

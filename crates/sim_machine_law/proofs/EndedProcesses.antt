@@ -33,7 +33,9 @@ other_numbered : {B : Type 0} (q r : ProcId) (x : ProcessOf B) → is_process q 
 other_numbered q r x apart is = not_from_false (is_process x.id q) (ap (λ (n : ProcId). is_process n q) (is_process-yes x.id r is) ∙ (is_process-swap r q ∙ apart))
 
 -- who is another stays alive
-pub alive-other : {B : Type 0} (q r : ProcId) (xs : List (ProcessOf B)) → is_process q r ≡ false → list_any (λ (x : ProcessOf B). is_process x.id r) (filter (is_other q) xs) ≡ list_any (λ (x : ProcessOf B). is_process x.id r) xs
+pub alive-other : {B : Type 0} (q r : ProcId) (xs : List (ProcessOf B)) → is_process q r ≡ false
+    → list_any (λ (x : ProcessOf B). is_process x.id r) (filter (is_other q) xs)
+    ≡ list_any (λ (x : ProcessOf B). is_process x.id r) xs
 alive-other {B} q r xs apart = any-filter_same (λ (x : ProcessOf B). is_process x.id r) (is_other q) true (λ x is. other_numbered q r x apart is) xs
 
 -- what is known of the resumptions and of the control that the end of q finds
@@ -47,7 +49,8 @@ pub record IsUnresumed {B : Type 0} (s : State B) (q : ProcId) (d : Calendar) (l
   pub at : (r : ProcId) (f : EventId) → is_process q r ≡ false → count_by (is_resume_of r) (all_callbacks_of d l f) ≡ count_by (is_resume_of r) (all_callbacks_of s.facilities.calendar s.control f)
 
 -- the event of q was made, is pending, and is of a process
-pub lives-unresumed : {B : Type 0} (named : ℕ) (s : State B) (q : ProcId) (d : Calendar) (l : Control) → IsUnresumed s q d l → LawfulProcesses named s → (target : EventId) × LivesWell d q target
+pub lives-unresumed : {B : Type 0} (named : ℕ) (s : State B) (q : ProcId) (d : Calendar) (l : Control) → IsUnresumed s q d l
+    → LawfulProcesses named s → (target : EventId) × LivesWell d q target
 lives-unresumed named s q d l u h =
     let found = alive_has s q (λ x. is_living_well s x ≡ true) h.living u.alive in
     let target : EventId = found.0.target in
@@ -56,7 +59,8 @@ lives-unresumed named s q d l u h =
 abbrev pub ended_state : {B : Type 0} → State B → ProcId → Outcome → Calendar → Control → State B
 ended_state s q o d l = record s { facilities = record s.facilities { calendar = trigger (event_of q) o d }; processes = filter (is_other q) s.processes; control = l }
 
-pub processes-unresumed : {B : Type 0} (named : ℕ) (s : State B) (q : ProcId) (o : Outcome) (d : Calendar) (l : Control) → IsUnresumed s q d l → LawfulProcesses named s → LawfulProcesses named (ended_state s q o d l)
+pub processes-unresumed : {B : Type 0} (named : ℕ) (s : State B) (q : ProcId) (o : Outcome) (d : Calendar) (l : Control)
+    → IsUnresumed s q d l → LawfulProcesses named s → LawfulProcesses named (ended_state s q o d l)
 processes-unresumed {B} named s q o d l u h =
     let c : Calendar = calendar s in
     let t : State B = ended_state s q o d l in

@@ -13,7 +13,7 @@ use Rattle.sim_types.specs.declared.event.Outcome.TheVariants as outcome
 use Rattle.sim_types.specs.declared.event.Throw.{Throw}
 use Rattle.sim_types.specs.declared.event.Callback.{Callback}
 use Rattle.sim_types.specs.declared.event.Callback.TheVariants as callback
-use Rattle.sim_machine.specs.State.{Sort, ConditionOf, EventOf, Calendar}
+use Rattle.sim_machine.specs.State.{AllOrAny, ConditionOf, EventOf, Calendar}
 use Rattle.sim_machine.specs.Events.{cancel_event, event_at, is_fail, is_pending, is_processed, pending_event, next_event, change_event, defuse, register, unregister}
 use Rattle.sim_machine.specs.Agenda.{popped}
 use Rattle.sim_machine.specs.Triggering.{urgent, normal, make, schedule, trigger, make_timeout, make_interruption}
@@ -84,8 +84,9 @@ again ws o c h = record { longer = omega arith; kinds = λ e made. refl; conditi
 -- ---- one event is changed or made
 
 -- what holds of the changed event, of all others and of one that is not made holds of all
-at_changed : (P : EventOf → Type 0) (e f : EventId) (change : EventOf → EventOf) (c : Calendar) →
-    (f ≡ e → P (change (event_at c e))) → (f.0 ≢ e.0 → P (event_at c f)) → (length c.events ≤ f.0 → P (pending_event kind.Plain)) → P (event_at (change_event e change c) f)
+at_changed : (P : EventOf → Type 0) (e f : EventId) (change : EventOf → EventOf) (c : Calendar)
+    → (f ≡ e → P (change (event_at c e))) → (f.0 ≢ e.0 → P (event_at c f))
+    → (length c.events ≤ f.0 → P (pending_event kind.Plain)) → P (event_at (change_event e change c) f)
 at_changed P e f change c changed others unmade =
     let d : Calendar = change_event e change c in
     ⊎_elim
@@ -184,7 +185,7 @@ module _ (ws : List Waiter) (o : Origin) where
       }
 
   -- a condition is made, and no member has joined it
-  pub follows_fresh : (sort : Sort) (ms : List EventId) (c : Calendar) → Follows ws o c → Follows ws o (with_fresh sort ms c)
+  pub follows_fresh : (sort : AllOrAny) (ms : List EventId) (c : Calendar) → Follows ws o c → Follows ws o (with_fresh sort ms c)
   follows_fresh sort ms c h =
       let d : Calendar = with_fresh sort ms c in
       let n : EventId = next_event c in
@@ -291,7 +292,7 @@ module _ (ws : List Waiter) where
   joined_all o cond (m ∷ ms) c is h =
       joined_all o cond ms (join_member cond c m) ((follows_joined ws (record o { calendar = c }) cond m c is (again ws o c h)).conditions cond is) (follows_joined ws o cond m c is h)
 
-  pub follows_condition_made : (o : Origin) (sort : Sort) (ms : List EventId) (c : Calendar) → Follows ws o c → Follows ws o (make_condition sort ms c)
+  pub follows_condition_made : (o : Origin) (sort : AllOrAny) (ms : List EventId) (c : Calendar) → Follows ws o c → Follows ws o (make_condition sort ms c)
   follows_condition_made o sort [] c h =
       follows_scheduled ws o (next_event c) (outcome.Ok (pos 0)) normal (pos 0) (with_fresh sort [] c) (ap (λ (x : EventOf). x.cancelled) (fresh_event sort [] c)) (follows_fresh ws o sort [] c h)
   follows_condition_made o sort (m ∷ ms) c h =
@@ -301,7 +302,7 @@ module _ (ws : List Waiter) where
       (joined_all o cond (m ∷ ms) d (ap (λ (x : EventOf). is_some x.condition) (fresh_event sort (m ∷ ms) c)) (follows_fresh ws o sort (m ∷ ms) c h))
 
   -- what was made is a condition
-  pub condition_made : (o : Origin) (sort : Sort) (ms : List EventId) (c : Calendar) → Follows ws o c →
+  pub condition_made : (o : Origin) (sort : AllOrAny) (ms : List EventId) (c : Calendar) → Follows ws o c →
       is_condition (make_condition sort ms c) (next_event c) ≡ true
   condition_made o sort [] c h =
       let n : EventId = next_event c in
@@ -353,9 +354,10 @@ others_wait ws e f differ h =
     any_filtered (λ w. is_same w.event f) (λ w. not (is_same w.event e)) ws (λ w is. not_from_false (is_same w.event e) (ne_eqb w.event.0 e.0 (λ same. differ (sym (eqb-true w.event.0 f.0 is) ∙ same)))) ∙ h
 
 -- what waits for e waits no longer, since e is changed so that it needs not
-follows_unqueued : (ws : List Waiter) (o : Origin) (e : EventId) (change : EventOf → EventOf) (c : Calendar) → ((x : EventOf) →
-    (change x).kind ≡ x.kind) → ((x : EventOf) → is_some (change x).condition ≡ is_some x.condition) →
-    is_cancelled_well (change (event_at c e)) ≡ true → must_wait (change (event_at c e)) ≡ false → Follows ws o c → Follows (without_waiter e ws) o (change_event e change c)
+follows_unqueued : (ws : List Waiter) (o : Origin) (e : EventId) (change : EventOf → EventOf) (c : Calendar)
+    → ((x : EventOf) → (change x).kind ≡ x.kind) → ((x : EventOf) → is_some (change x).condition ≡ is_some x.condition)
+    → is_cancelled_well (change (event_at c e)) ≡ true → must_wait (change (event_at c e)) ≡ false → Follows ws o c
+    → Follows (without_waiter e ws) o (change_event e change c)
 follows_unqueued ws o e change c kinds parts cancelled no_wait h =
     let d : Calendar = change_event e change c in
     let kind_stays : (f : EventId) → kind_at d f ≡ kind_at c f = λ f. change_event-keeps (λ x. x.kind) e f change c kinds in

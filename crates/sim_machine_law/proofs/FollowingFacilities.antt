@@ -74,7 +74,8 @@ module _ (o : Origin) (c : Calendar) where
   abbrev TriesAt : Facilities → Type 0
   TriesAt f = Tries o c f.waiters f.calendar
 
-  attempts_for : (rs : List Resource) (r : Resource) (w : Waiter) (want : Want) (f : Facilities) → (event_at c w.event).cancelled ≡ false → TriesAt f → TriesAt (attempt_for rs r w want f)
+  attempts_for : (rs : List Resource) (r : Resource) (w : Waiter) (want : Want) (f : Facilities)
+      → (event_at c w.event).cancelled ≡ false → TriesAt f → TriesAt (attempt_for rs r w want f)
   attempts_for rs r w want f un h =
       attempt_keeps TriesAt w (λ value deed t k. serves w value t un k)
       (λ u t k. interrupts t.waiters u.process (record { kind = 2; value = u.since }) t.calendar k) rs r want f h

@@ -13,7 +13,7 @@ use Rattle.sim_types.specs.declared.event.Callback.{Callback}
 use Rattle.sim_types.specs.declared.event.Callback.TheVariants as callback
 use Rattle.sim_types.specs.declared.event.Signal.{Signal}
 use Rattle.sim_types.specs.declared.event.Signal.TheVariants as signal
-use Rattle.sim_machine.specs.State.{Sort, Calendar, Facilities, OpenScope, Control, Idle, Calling, Active, Over, State, Plan}
+use Rattle.sim_machine.specs.State.{AllOrAny, Calendar, Facilities, OpenScope, Control, Idle, Calling, Active, Over, State, Plan}
 use Rattle.sim_machine.specs.Events.{is_same, is_process, event_at, is_pending, is_processed, pending_event, next_event, is_resume_of, register}
 use Rattle.sim_machine.specs.Triggering.{normal, trigger}
 use Rattle.sim_machine.specs.Conditions.{is_too_wide, make_condition}
@@ -120,8 +120,10 @@ module _ {B : Type 0} (u : Until) (s : State B) where
       (or_cases (not (is_stop x)) (may_stop u c e) h)
 
   -- where what is left to call builds conditions, and stops the run only where it may
-  pub facts_with : (t : State B) → Follows t.facilities.waiters (origin_of u s) (calendar t) → AreScopesApart t → IsToldOfKept t →
-      AllPass (builds_condition (calendar s)) (left_of t.control) → ((e : EventId) → is_event_of t.control e ≡ true → AllPass (stops_well u (calendar s) e) (left_of t.control)) → FactsBeside u t
+  pub facts_with : (t : State B) → Follows t.facilities.waiters (origin_of u s) (calendar t) → AreScopesApart t
+      → IsToldOfKept t → AllPass (builds_condition (calendar s)) (left_of t.control)
+      → ((e : EventId) → is_event_of t.control e ≡ true → AllPass (stops_well u (calendar s) e) (left_of t.control))
+      → FactsBeside u t
   facts_with t v apart told builds stops =
       let c : Calendar = calendar s in
       let d : Calendar = calendar t in
@@ -230,7 +232,7 @@ module _ {B : Type 0} (o : Origin) (k : Control) where
       if_cases (Goes o k) (not (is_alive q s)) (raise 4 s) _ (λ ended. goes_raised 4 s h)
       (λ lives. if_cases (Goes o k) (is_process q p) (raise 5 s) (told signal.Done (does s)) (λ itself. goes_raised 5 s h) (λ other. goes_done (does s) (done (from_not_false (is_alive q s) lives))))
 
-  pub goes_condition : (sort : Sort) (ms : List EventId) (s : State B) → Comes o k s → Goes o k (with_condition sort ms s)
+  pub goes_condition : (sort : AllOrAny) (ms : List EventId) (s : State B) → Comes o k s → Goes o k (with_condition sort ms s)
   goes_condition sort ms s h =
       let ws : List Waiter = s.facilities.waiters in
       let c : Calendar = calendar s in

@@ -73,7 +73,8 @@ pub joined_made : {B : Type 0} (s : State B) (cond : EventId) (left : List Event
 joined_made s cond left d h = made_if (λ x. is_condition_kind x.kind) d cond refl h.kind
 
 -- a member that is processed is checked
-joins_checked : {B : Type 0} (s : State B) (cond m : EventId) (left : List EventId) (d : Calendar) → IsJoined s cond (m ∷ left) d → IsJoined s cond left (check cond m d)
+joins_checked : {B : Type 0} (s : State B) (cond m : EventId) (left : List EventId) (d : Calendar)
+    → IsJoined s cond (m ∷ left) d → IsJoined s cond left (check cond m d)
 joins_checked s cond m left d h =
     let n : Calendar = check cond m d in
     let k : Control = s.control in
@@ -95,7 +96,11 @@ joins_checked s cond m left d h =
 same_swapped : (e f : EventId) → is_same e f ≡ is_same f e
 same_swapped e f = grind (arith, nat_tests)
 
-conditions_joining : (cond m : EventId) (left : List EventId) (d : Calendar) (k : Control) → is_same m cond ≡ false → is_processed d cond ≡ false → ((f : EventId) → checks_at d k cond f + count_by (is_same f) (m ∷ left) ≤ times_member d cond f) → ConditionsBasis (register cond (callback.Build cond) d) k → ConditionsBasis (register cond (callback.Build cond) (register m (callback.Check cond) d)) k
+conditions_joining : (cond m : EventId) (left : List EventId) (d : Calendar) (k : Control) → is_same m cond ≡ false
+    → is_processed d cond ≡ false
+    → ((f : EventId) → checks_at d k cond f + count_by (is_same f) (m ∷ left) ≤ times_member d cond f)
+    → ConditionsBasis (register cond (callback.Build cond) d) k
+    → ConditionsBasis (register cond (callback.Build cond) (register m (callback.Check cond) d)) k
 conditions_joining cond m left d k apart unprocessed room h =
     let build : Callback = callback.Build cond in
     let x : Callback = callback.Check cond in
@@ -143,7 +148,9 @@ heard_no_interrupt : (k : EventKind) → not (is_unheard_kind k) ≡ true → is
 heard_no_interrupt kind.Interrupt h = absurd (false≢true h)
 heard_no_interrupt _ h = refl
 
-joins_later : {B : Type 0} (s : State B) (cond m : EventId) (left : List EventId) (d : Calendar) → m.0 < length d.events → hears d m ≡ true → m.0 ≢ cond.0 → is_processed d m ≡ false → IsJoined s cond (m ∷ left) d → IsJoined s cond left (register m (callback.Check cond) d)
+joins_later : {B : Type 0} (s : State B) (cond m : EventId) (left : List EventId) (d : Calendar) → m.0 < length d.events
+    → hears d m ≡ true → m.0 ≢ cond.0 → is_processed d m ≡ false → IsJoined s cond (m ∷ left) d
+    → IsJoined s cond left (register m (callback.Check cond) d)
 joins_later s cond m left d made heard apart waits h =
     let k : Control = s.control in
     let x : Callback = callback.Check cond in
@@ -168,7 +175,9 @@ joins_later s cond m left d made heard apart waits h =
 abbrev pub may_join : Calendar → EventId → Bool
 may_join c m = nat_lt m.0 (length c.events) && hears c m
 
-joins : {B : Type 0} (s : State B) (cond m : EventId) (left : List EventId) (d : Calendar) → length s.facilities.calendar.events ≤ cond.0 → may_join s.facilities.calendar m ≡ true → IsJoined s cond (m ∷ left) d → IsJoined s cond left (join_member cond d m)
+joins : {B : Type 0} (s : State B) (cond m : EventId) (left : List EventId) (d : Calendar)
+    → length s.facilities.calendar.events ≤ cond.0 → may_join s.facilities.calendar m ≡ true → IsJoined s cond (m ∷ left) d
+    → IsJoined s cond left (join_member cond d m)
 joins s cond m left d new may h =
     let c : Calendar = s.facilities.calendar in
     let both = and_parts (nat_lt m.0 (length c.events)) (hears c m) may in
@@ -177,7 +186,9 @@ joins s cond m left d new may h =
     (λ processed. joins_checked s cond m left d h)
     (λ waits. joins_later s cond m left d (omega (arith, made, h.take.grown.longer)) (ap (λ (k : EventKind). not (is_unheard_kind k)) (h.take.grown.kinds m made) ∙ both.1) (λ same. omega (arith, same, made, new)) waits h)
 
-pub all_join : {B : Type 0} (s : State B) (cond : EventId) (ms : List EventId) (d : Calendar) → length s.facilities.calendar.events ≤ cond.0 → list_all (may_join s.facilities.calendar) ms ≡ true → IsJoined s cond ms d → IsJoined s cond [] (fold (join_member cond) d ms)
+pub all_join : {B : Type 0} (s : State B) (cond : EventId) (ms : List EventId) (d : Calendar)
+    → length s.facilities.calendar.events ≤ cond.0 → list_all (may_join s.facilities.calendar) ms ≡ true
+    → IsJoined s cond ms d → IsJoined s cond [] (fold (join_member cond) d ms)
 all_join s cond [] d new may h = h
 all_join s cond (m ∷ ms) d new may h =
     let both = and_parts (may_join s.facilities.calendar m) (list_all (may_join s.facilities.calendar) ms) may in

@@ -59,7 +59,9 @@ try_get_calls_nobody res = record { resumes = λ p. refl; strikes = refl; no_con
 abbrev pub with_new : EventKind → Callback → Calendar → Calendar
 with_new k x c = register (next_event c) x (make k c)
 
-pub lawful_new : {B : Type 0} (g : Plan B) (tell : Telling B) (sound : B → Type 0) (s : State B) (k : EventKind) (x : Callback) → is_interrupt_kind k ≡ false → CallsNobody x → LawfulBasis g tell sound s → LawfulBasis g tell sound (on_events (with_new k x) s)
+pub lawful_new : {B : Type 0} (g : Plan B) (tell : Telling B) (sound : B → Type 0) (s : State B) (k : EventKind)
+    (x : Callback) → is_interrupt_kind k ≡ false → CallsNobody x → LawfulBasis g tell sound s
+    → LawfulBasis g tell sound (on_events (with_new k x) s)
 lawful_new {B} g tell sound s k x other nobody l =
     let c : Calendar = calendar s in
     let d : Calendar = make k c in
@@ -74,7 +76,8 @@ lawful_new {B} g tell sound s k x other nobody l =
 pub new_made : (k : EventKind) (x : Callback) (c : Calendar) → (next_event c).0 < length (with_new k x c).events
 new_made k x c = omega (arith, make-length k c)
 
-pub new_waits : (k : EventKind) (x : Callback) (c : Calendar) (w : Waiter) → w.event ≡ next_event c → may_wait_kind k ≡ true → waits_well (with_new k x c) w ≡ true
+pub new_waits : (k : EventKind) (x : Callback) (c : Calendar) (w : Waiter) → w.event ≡ next_event c → may_wait_kind k ≡ true
+    → waits_well (with_new k x c) w ≡ true
 new_waits k x c w is kinds =
     let d : Calendar = with_new k x c in
     let e : EventId = next_event c in
@@ -83,7 +86,8 @@ new_waits k x c w is kinds =
     ∙ four_from (was_made d e) (is_pending d e) (not (event_at d e).cancelled) (may_wait_kind (kind_at d e)) (below_made d e (new_made k x c)) (ap (λ (z : EventOf). is_none z.outcome) new) (ap (λ (z : EventOf). not z.cancelled) new) (ap (λ (z : EventOf). may_wait_kind z.kind) new ∙ kinds)
 
 -- nothing waits for an event that is yet to be made
-pub waits_for_older : {B : Type 0} (g : Plan B) (tell : Telling B) (sound : B → Type 0) (s : State B) → LawfulBasis g tell sound s → All (λ v. v.event.0 ≢ (next_event (calendar s)).0) s.facilities.waiters
+pub waits_for_older : {B : Type 0} (g : Plan B) (tell : Telling B) (sound : B → Type 0) (s : State B)
+    → LawfulBasis g tell sound s → All (λ v. v.event.0 ≢ (next_event (calendar s)).0) s.facilities.waiters
 waits_for_older g tell sound s l =
     let c : Calendar = calendar s in
     All-weaker (λ v. waits_well c v ≡ true) (λ v. v.event.0 ≢ (next_event c).0) (λ v h same. older c v h same) s.facilities.waiters l.waiting.waiters
@@ -103,7 +107,11 @@ pub record IsMadeWell {B : Type 0} (g : Plan B) (tell : Telling B) (sound : B �
   pub unprocessed : is_processed f.calendar (next_event (calendar s)) ≡ false
 
 -- a wait that needs no scope and fits its resource
-lawful_joined : {B : Type 0} (g : Plan B) (tell : Telling B) (sound : B → Type 0) (s : State B) (k : EventKind) (res : ℕ) (want : Want) (x : Callback) → may_wait_kind k ≡ true → CallsNobody x → ((scopes : List OpenScope) (w : Waiter) → request_has_scope scopes w want ≡ true) → res < length g.setup.resources → ((c : Calendar) (w : Waiter) → kind_at c w.event ≡ k → waits_for_fitting c (resource_at g.setup.resources res) w want ≡ true) → LawfulBasis g tell sound s → LawfulBasis g tell sound (on_facilities (join k res want x) s)
+lawful_joined : {B : Type 0} (g : Plan B) (tell : Telling B) (sound : B → Type 0) (s : State B) (k : EventKind) (res : ℕ)
+    (want : Want) (x : Callback) → may_wait_kind k ≡ true → CallsNobody x
+    → ((scopes : List OpenScope) (w : Waiter) → request_has_scope scopes w want ≡ true) → res < length g.setup.resources
+    → ((c : Calendar) (w : Waiter) → kind_at c w.event ≡ k → waits_for_fitting c (resource_at g.setup.resources res) w want ≡ true)
+    → LawfulBasis g tell sound s → LawfulBasis g tell sound (on_facilities (join k res want x) s)
 lawful_joined {B} g tell sound s k res want x kinds nobody scope below fits l =
     let rs : List Resource = g.setup.resources in
     let c : Calendar = calendar s in
@@ -119,7 +127,10 @@ lawful_joined {B} g tell sound s k res want x kinds nobody scope below fits l =
     (and_from (nat_lt res (length rs)) (waits_for_fitting d (resource_at rs res) w want) (lt-ltb res (length rs) below) (fits d w (ap (λ (z : EventOf). z.kind) (make-new k c))))
 
 -- the try that follows leaves the event there
-made_well : {B : Type 0} (g : Plan B) (tell : Telling B) (sound : B → Type 0) (s t : State B) (k : EventKind) (x : Callback) (f : Facilities) → t.facilities.calendar ≡ with_new k x (calendar s) → LawfulBasis g tell sound (record s { facilities = f }) → Calm t.facilities.calendar f.calendar → IsMadeWell g tell sound s k f
+made_well : {B : Type 0} (g : Plan B) (tell : Telling B) (sound : B → Type 0) (s t : State B) (k : EventKind) (x : Callback)
+    (f : Facilities) → t.facilities.calendar ≡ with_new k x (calendar s)
+    → LawfulBasis g tell sound (record s { facilities = f }) → Calm t.facilities.calendar f.calendar
+    → IsMadeWell g tell sound s k f
 made_well g tell sound s t k x f same lawful calm =
     let c : Calendar = calendar s in
     let d : Calendar = with_new k x c in
@@ -136,7 +147,10 @@ made_well g tell sound s t k x f same lawful calm =
 
 -- ---- puts and gets
 
-pub lawful_put_made : {B : Type 0} (g : Plan B) (tell : Telling B) (sound : B → Type 0) (s : State B) (res : ℕ) (amount priority : ℤ) → res < length g.setup.resources → move_fits (resource_at g.setup.resources res).kind amount ≡ true → LawfulBasis g tell sound s → IsMadeWell g tell sound s kind.Put (make_put g.setup.resources res amount priority s.facilities)
+pub lawful_put_made : {B : Type 0} (g : Plan B) (tell : Telling B) (sound : B → Type 0) (s : State B) (res : ℕ)
+    (amount priority : ℤ) → res < length g.setup.resources → move_fits (resource_at g.setup.resources res).kind amount ≡ true
+    → LawfulBasis g tell sound s
+    → IsMadeWell g tell sound s kind.Put (make_put g.setup.resources res amount priority s.facilities)
 lawful_put_made {B} g tell sound s res amount priority below fits l =
     let rs : List Resource = g.setup.resources in
     let want : Want = Give amount priority in
@@ -146,7 +160,10 @@ lawful_put_made {B} g tell sound s res amount priority below fits l =
     let tried : IsTriedWell g tell sound t (make_put rs res amount priority s.facilities) = lawful_tried_put g tell sound t res joined in
     made_well g tell sound s t kind.Put x (make_put rs res amount priority s.facilities) refl tried.lawful tried.calm
 
-pub lawful_get_made : {B : Type 0} (g : Plan B) (tell : Telling B) (sound : B → Type 0) (s : State B) (res : ℕ) (least greatest : ℤ) → res < length g.setup.resources → move_fits (resource_at g.setup.resources res).kind least ≡ true → LawfulBasis g tell sound s → IsMadeWell g tell sound s kind.Get (make_get g.setup.resources res least greatest s.facilities)
+pub lawful_get_made : {B : Type 0} (g : Plan B) (tell : Telling B) (sound : B → Type 0) (s : State B) (res : ℕ)
+    (least greatest : ℤ) → res < length g.setup.resources → move_fits (resource_at g.setup.resources res).kind least ≡ true
+    → LawfulBasis g tell sound s
+    → IsMadeWell g tell sound s kind.Get (make_get g.setup.resources res least greatest s.facilities)
 lawful_get_made {B} g tell sound s res least greatest below fits l =
     let rs : List Resource = g.setup.resources in
     let want : Want = Take least greatest in

@@ -30,13 +30,18 @@ use Rattle.sim_machine.specs.Runs.{after_units}
 wait_processed : {B : Type 0} (e : EventId) (p : ProcId) (s : State B) → (wait e p s).processed ≡ s.processed
 wait_processed e p s = grind arith
 
-timeout_processed : {B : Type 0} (delay value : ℤ) (after : EventId → State B → State B) (s : State B) → ((e : EventId) (t : State B) → (after e t).processed ≡ t.processed) → (with_timeout delay value after s).processed ≡ s.processed
+timeout_processed : {B : Type 0} (delay value : ℤ) (after : EventId → State B → State B) (s : State B)
+    → ((e : EventId) (t : State B) → (after e t).processed ≡ t.processed)
+    → (with_timeout delay value after s).processed ≡ s.processed
 timeout_processed delay value after s h = grind (arith, h)
 
-move_processed : {B : Type 0} (g : Plan B) (res : ℕ) (amount : ℤ) (made : Facilities → Facilities) (after : EventId → State B → State B) (s : State B) → ((e : EventId) (t : State B) → (after e t).processed ≡ t.processed) → (with_move g res amount made after s).processed ≡ s.processed
+move_processed : {B : Type 0} (g : Plan B) (res : ℕ) (amount : ℤ) (made : Facilities → Facilities)
+    (after : EventId → State B → State B) (s : State B) → ((e : EventId) (t : State B) → (after e t).processed ≡ t.processed)
+    → (with_move g res amount made after s).processed ≡ s.processed
 move_processed g res amount made after s h = grind (arith, h)
 
-another_processed : {B : Type 0} (p q : ProcId) (does : State B → State B) (s : State B) → (does s).processed ≡ s.processed → (to_another p q does s).processed ≡ s.processed
+another_processed : {B : Type 0} (p q : ProcId) (does : State B → State B) (s : State B) → (does s).processed ≡ s.processed
+    → (to_another p q does s).processed ≡ s.processed
 another_processed p q does s h = grind (arith, h)
 
 close_processed : {B : Type 0} (x : Option OpenScope) (s : State B) → (close_if_any x s).processed ≡ s.processed
@@ -97,7 +102,8 @@ call_or_settle_processed : {B : Type 0} (g : Plan B) (e : EventId) (left : List 
 call_or_settle_processed g e [] s = refl
 call_or_settle_processed g e (x ∷ left) s = call_processed g e x left s
 
-poll_processed : {B : Type 0} (g : Plan B) (turn : TurnFunction B) (p : ProcId) (x : Signal) (o : Option (ProcessOf B)) (s : State B) → (poll_if_any g turn p x o s).processed ≡ s.processed
+poll_processed : {B : Type 0} (g : Plan B) (turn : TurnFunction B) (p : ProcId) (x : Signal) (o : Option (ProcessOf B))
+    (s : State B) → (poll_if_any g turn p x o s).processed ≡ s.processed
 poll_processed g turn p x None s = refl
 poll_processed g turn p x (Some y) s = effect_processed g p (turn y.body (calendar s).time x).0 (with_body p (turn y.body (calendar s).time x).1 s)
 
@@ -111,7 +117,8 @@ step_processed g turn s (Calling e left) = omega (arith, call_or_settle_processe
 step_processed g turn s (Active e left p x) = omega (arith, poll_processed g turn p x (process_at p s) s)
 step_processed g turn s (Over why e left) = omega arith
 
-unit_processed_at : {B : Type 0} (g : Plan B) (turn : TurnFunction B) (m : Course B) (o : Option Arrival) → m.state.processed ≤ (unit_at g turn m o).state.processed
+unit_processed_at : {B : Type 0} (g : Plan B) (turn : TurnFunction B) (m : Course B) (o : Option Arrival)
+    → m.state.processed ≤ (unit_at g turn m o).state.processed
 unit_processed_at g turn m None = step_processed g turn m.state m.state.control
 unit_processed_at g turn m (Some a) = omega arith
 
@@ -128,23 +135,29 @@ added a m = record { state = m.state; left = m.left ++ a ∷ [] }
 abbrev pub IsNotDue : {B : Type 0} → Arrival → Course B → Type 0
 IsNotDue a m = m.left ≡ [] → due_arrival m.state (a ∷ []) ≡ None
 
-same_head : {B : Type 0} (g : Plan B) (turn : TurnFunction B) (a x : Arrival) (later : List Arrival) (s : State B) (b : Bool) →
-    unit_at g turn (record { state = s; left = x ∷ (later ++ a ∷ []) }) (if b then Some x else None) ≡ added a (unit_at g turn (record { state = s; left = x ∷ later }) (if b then Some x else None))
+same_head : {B : Type 0} (g : Plan B) (turn : TurnFunction B) (a x : Arrival) (later : List Arrival) (s : State B) (b : Bool)
+    → unit_at g turn (record { state = s; left = x ∷ (later ++ a ∷ []) }) (if b then Some x else None)
+    ≡ added a (unit_at g turn (record { state = s; left = x ∷ later }) (if b then Some x else None))
 same_head g turn a x later s true = refl
 same_head g turn a x later s false = refl
 
-unit_added_at : {B : Type 0} (g : Plan B) (turn : TurnFunction B) (a : Arrival) (s : State B) (left : List Arrival) → (left ≡ [] → due_arrival s (a ∷ []) ≡ None) →
-    unit_of g turn (record { state = s; left = left ++ a ∷ [] }) ≡ added a (unit_of g turn (record { state = s; left = left }))
+unit_added_at : {B : Type 0} (g : Plan B) (turn : TurnFunction B) (a : Arrival) (s : State B) (left : List Arrival)
+    → (left ≡ [] → due_arrival s (a ∷ []) ≡ None)
+    → unit_of g turn (record { state = s; left = left ++ a ∷ [] })
+    ≡ added a (unit_of g turn (record { state = s; left = left }))
 unit_added_at g turn a s [] h =
     let P : Option Arrival → Type 0 = λ o. unit_at g turn (record { state = s; left = a ∷ [] }) o ≡ record { state = step_of g turn s; left = a ∷ [] } in
     subst P (sym (h refl)) refl
 unit_added_at g turn a s (x ∷ later) h = same_head g turn a x later s (is_idle s.control && (nat_le x.after s.processed || is_none (due (calendar s).agenda)))
 
-unit_added : {B : Type 0} (g : Plan B) (turn : TurnFunction B) (a : Arrival) (m : Course B) → IsNotDue a m → unit_of g turn (added a m) ≡ added a (unit_of g turn m)
+unit_added : {B : Type 0} (g : Plan B) (turn : TurnFunction B) (a : Arrival) (m : Course B) → IsNotDue a m
+    → unit_of g turn (added a m) ≡ added a (unit_of g turn m)
 unit_added g turn a m h = unit_added_at g turn a m.state m.left h
 
 -- so long as it is not due, it changes no unit
-pub units_added : {B : Type 0} (g : Plan B) (turn : TurnFunction B) (a : Arrival) (m : Course B) (n : ℕ) → ((k : ℕ) → k < n → IsNotDue a (after_units g turn k m)) → after_units g turn n (added a m) ≡ added a (after_units g turn n m)
+pub units_added : {B : Type 0} (g : Plan B) (turn : TurnFunction B) (a : Arrival) (m : Course B) (n : ℕ)
+    → ((k : ℕ) → k < n → IsNotDue a (after_units g turn k m))
+    → after_units g turn n (added a m) ≡ added a (after_units g turn n m)
 units_added g turn a m zero h = refl
 units_added g turn a m (suc n) h =
     ap (unit_of g turn) (units_added g turn a m n (λ k below. h k (omega (arith, below)))) ∙ unit_added g turn a (after_units g turn n m) (h n (omega arith))
@@ -155,23 +168,28 @@ zero_only k h = omega (arith, h)
 below_next : (k n : ℕ) → k ≤ suc n → ((k ≡ suc n) → ⊥) → k ≤ n
 below_next k n h differ = grind arith
 
-processed_from : {B : Type 0} (g : Plan B) (turn : TurnFunction B) (m : Course B) (k n : ℕ) → k ≤ n → (after_units g turn k m).state.processed ≤ (after_units g turn n m).state.processed
+processed_from : {B : Type 0} (g : Plan B) (turn : TurnFunction B) (m : Course B) (k n : ℕ) → k ≤ n
+    → (after_units g turn k m).state.processed ≤ (after_units g turn n m).state.processed
 processed_from g turn m k zero h = rw (zero_only k h) (omega arith)
 processed_from g turn m k (suc n) h = later (cases_eq k (suc n)) (λ below. processed_from g turn m k n below)
   where
-    later : (k ≡ suc n) ⊎ ((k ≡ suc n) → ⊥) → (k ≤ n → (after_units g turn k m).state.processed ≤ (after_units g turn n m).state.processed) → (after_units g turn k m).state.processed ≤ (after_units g turn (suc n) m).state.processed
+    later : (k ≡ suc n) ⊎ ((k ≡ suc n) → ⊥)
+        → (k ≤ n → (after_units g turn k m).state.processed ≤ (after_units g turn n m).state.processed)
+        → (after_units g turn k m).state.processed ≤ (after_units g turn (suc n) m).state.processed
     later (inl same) before = rw same (omega arith)
     later (inr differ) before = omega (arith, before (below_next k n h differ), unit_processed g turn (after_units g turn n m))
 
 is_later : (a b : ℕ) → b < a → nat_le a b ≡ false
 is_later a b h = grind (arith, nat_tests)
 
-popped_one : {B : Type 0} (g : Plan B) (turn : TurnFunction B) (s : State B) (x : Entry) (es : List Entry) → Idle ≡ s.control → x ∷ es ≡ (calendar s).agenda → (unit_of g turn (record { state = s; left = [] })).state.processed ≡ s.processed + 1
+popped_one : {B : Type 0} (g : Plan B) (turn : TurnFunction B) (s : State B) (x : Entry) (es : List Entry) → Idle ≡ s.control
+    → x ∷ es ≡ (calendar s).agenda → (unit_of g turn (record { state = s; left = [] })).state.processed ≡ s.processed + 1
 popped_one g turn s x es c a = rw (← c) (rw (← a) refl)
 
 -- an idle machine that has not ended pops next, so an entry that waits for that pop is not due
-not_due_at : {B : Type 0} (g : Plan B) (turn : TurnFunction B) (a : Arrival) (s : State B) (c : Control) (agenda : List Entry) → c ≡ s.control → agenda ≡ (calendar s).agenda → end_by g c agenda [] ≡ None →
-    (unit_of g turn (record { state = s; left = [] })).state.processed ≤ a.after → due_arrival s (a ∷ []) ≡ None
+not_due_at : {B : Type 0} (g : Plan B) (turn : TurnFunction B) (a : Arrival) (s : State B) (c : Control)
+    (agenda : List Entry) → c ≡ s.control → agenda ≡ (calendar s).agenda → end_by g c agenda [] ≡ None
+    → (unit_of g turn (record { state = s; left = [] })).state.processed ≤ a.after → due_arrival s (a ∷ []) ≡ None
 not_due_at g turn a s Idle [] c e h below = absurd (none-some _ (sym h))
 not_due_at g turn a s Idle (x ∷ es) c e h below =
     let one : (unit_of g turn (record { state = s; left = [] })).state.processed ≡ s.processed + 1 = popped_one g turn s x es c e in
@@ -181,8 +199,9 @@ not_due_at g turn a s (Calling f left) agenda c e h below = rw (← c) refl
 not_due_at g turn a s (Active f left p x) agenda c e h below = rw (← c) refl
 not_due_at g turn a s (Over why f left) agenda c e h below = rw (← c) refl
 
-not_due_with : {B : Type 0} (g : Plan B) (turn : TurnFunction B) (a : Arrival) (s : State B) (left : List Arrival) → left ≡ [] → end_of g (record { state = s; left = left }) ≡ None →
-    (unit_of g turn (record { state = s; left = left })).state.processed ≤ a.after → due_arrival s (a ∷ []) ≡ None
+not_due_with : {B : Type 0} (g : Plan B) (turn : TurnFunction B) (a : Arrival) (s : State B) (left : List Arrival)
+    → left ≡ [] → end_of g (record { state = s; left = left }) ≡ None
+    → (unit_of g turn (record { state = s; left = left })).state.processed ≤ a.after → due_arrival s (a ∷ []) ≡ None
 not_due_with {B} g turn a s left none h below =
     let P : List Arrival → Type 0 = λ l. end_of g (record { state = s; left = l }) ≡ None in
     let Q : List Arrival → Type 0 = λ l. (unit_of g turn (record { state = s; left = l })).state.processed ≤ a.after in
@@ -190,6 +209,8 @@ not_due_with {B} g turn a s left none h below =
 
 -- An entry that is added behind all others at a state, with `after` the events processed there, leaves all units before
 -- that state as they were.
-pub added_at_state : {B : Type 0} (g : Plan B) (turn : TurnFunction B) (a : Arrival) (m : Course B) (n : ℕ) → ((k : ℕ) → k < n → end_of g (after_units g turn k m) ≡ None) → a.after ≡ (after_units g turn n m).state.processed → after_units g turn n (added a m) ≡ added a (after_units g turn n m)
+pub added_at_state : {B : Type 0} (g : Plan B) (turn : TurnFunction B) (a : Arrival) (m : Course B) (n : ℕ)
+    → ((k : ℕ) → k < n → end_of g (after_units g turn k m) ≡ None) → a.after ≡ (after_units g turn n m).state.processed
+    → after_units g turn n (added a m) ≡ added a (after_units g turn n m)
 added_at_state g turn a m n runs at =
     units_added g turn a m n (λ k below none. not_due_with g turn a (after_units g turn k m).state (after_units g turn k m).left none (runs k below) (rw at (processed_from g turn m (suc k) n (omega (arith, below)))))

@@ -33,7 +33,8 @@ use Rattle.sim_machine_law.proofs.KeptBodiesEvents.{Grown, OldStay}
 
 -- ---- lists
 
-passes_at : {X : Type 0} (test : X → Bool) (x : X) (xs : List X) (y : X) → (find test xs ≡ Some y → test y ≡ true) → (b : Bool) → test x ≡ b → cond b (Some x) (find test xs) ≡ Some y → test y ≡ true
+passes_at : {X : Type 0} (test : X → Bool) (x : X) (xs : List X) (y : X) → (find test xs ≡ Some y → test y ≡ true)
+    → (b : Bool) → test x ≡ b → cond b (Some x) (find test xs) ≡ Some y → test y ≡ true
 passes_at {X} test x xs y later true e w = subst (λ (z : X). test z ≡ true) (same_Some x y w) e
 passes_at test x xs y later false e w = later w
 
@@ -42,7 +43,8 @@ pub find_passes : {X : Type 0} (test : X → Bool) (xs : List X) (y : X) → fin
 find_passes test [] y h = absurd (none-some y h)
 find_passes test (x ∷ xs) y h = passes_at test x xs y (find_passes test xs y) (test x) refl h
 
-has_at : {X : Type 0} (P : X → Type 0) (test : X → Bool) (x : X) (xs : List X) (y : X) → P x → (find test xs ≡ Some y → P y) → (b : Bool) → cond b (Some x) (find test xs) ≡ Some y → P y
+has_at : {X : Type 0} (P : X → Type 0) (test : X → Bool) (x : X) (xs : List X) (y : X) → P x → (find test xs ≡ Some y → P y)
+    → (b : Bool) → cond b (Some x) (find test xs) ≡ Some y → P y
 has_at P test x xs y here later true w = subst P (same_Some x y w) here
 has_at P test x xs y here later false w = later w
 
@@ -76,10 +78,12 @@ pub record IsBodyWell {B : Type 0} (tell : Telling B) (sound : B → Type 0) (c 
   pub places : list_all (place_fits c) (tell.places z.body) ≡ true
   pub told : is_told_well tell c z.id z.body k ≡ true
 
-pub bodies_well : {B : Type 0} (tell : Telling B) (sound : B → Type 0) (s : State B) → LawfulBodies tell sound s → All (IsBodyWell tell sound s.facilities.calendar s.control) s.processes
+pub bodies_well : {B : Type 0} (tell : Telling B) (sound : B → Type 0) (s : State B) → LawfulBodies tell sound s
+    → All (IsBodyWell tell sound s.facilities.calendar s.control) s.processes
 bodies_well tell sound s h = λ k d below. record { body = h.bodies k d below; own = h.own k d below; places = h.places k d below; told = h.told k d below }
 
-pub bodies_lawful : {B : Type 0} (tell : Telling B) (sound : B → Type 0) (s : State B) → All (IsBodyWell tell sound s.facilities.calendar s.control) s.processes → LawfulBodies tell sound s
+pub bodies_lawful : {B : Type 0} (tell : Telling B) (sound : B → Type 0) (s : State B)
+    → All (IsBodyWell tell sound s.facilities.calendar s.control) s.processes → LawfulBodies tell sound s
 bodies_lawful tell sound s h =
     record { bodies = λ k d below. (h k d below).body; own = λ k d below. (h k d below).own; places = λ k d below. (h k d below).places; told = λ k d below. (h k d below).told }
 
@@ -137,7 +141,8 @@ same_class class.Move class.Move h k w = w
 same_class _ _ h k w = absurd (false≢true h)
 
 -- an event that was made and is of the kind asked for fits in a place that gets it
-gets_fits : {B : Type 0} (tell : Telling B) (c : Calendar) (b : B) (x : Signal) (y : Place) → told_fits tell c b x ≡ true → gets_made (tell.last b) x y ≡ true → place_fits c y ≡ true
+gets_fits : {B : Type 0} (tell : Telling B) (c : Calendar) (b : B) (x : Signal) (y : Place) → told_fits tell c b x ≡ true
+    → gets_made (tell.last b) x y ≡ true → place_fits c y ≡ true
 gets_fits tell c b (signal.Made e) y h w =
     let fits : (may_be_told (tell.last b) (signal.Made e) ≡ true) × (was_made c e ≡ true) × (not (is_processed c e) ≡ true) × (makes_kind (tell.last b) (kind_at c e) ≡ true) = four_parts (may_be_told (tell.last b) (signal.Made e)) (was_made c e) (not (is_processed c e)) (makes_kind (tell.last b) (kind_at c e)) h in
     let gets : (is_same y.event e ≡ true) × (makes_class (tell.last b) y.class ≡ true) = and_parts (is_same y.event e) _ w in
@@ -145,12 +150,16 @@ gets_fits tell c b (signal.Made e) y h w =
     or_right (y.event.0 == 0) _ (and_from (was_made c y.event) _ (ap (was_made c) same ∙ fits.1) (ap (λ (n : EventId). kind_fits y.class (kind_at c n)) same ∙ made_fits (tell.last b) y.class (kind_at c e) gets.1 fits.3))
 gets_fits tell c b _ y h w = absurd (false≢true w)
 
-place_kept : {B : Type 0} (tell : Telling B) (c : Calendar) (b : B) (x : Signal) (v y : Place) → told_fits tell c b x ≡ true → place_fits c v ≡ true → (is_class y.class v.class && (is_same y.event v.event || gets_made (tell.last b) x y)) ≡ true → place_fits c y ≡ true
+place_kept : {B : Type 0} (tell : Telling B) (c : Calendar) (b : B) (x : Signal) (v y : Place) → told_fits tell c b x ≡ true
+    → place_fits c v ≡ true → (is_class y.class v.class && (is_same y.event v.event || gets_made (tell.last b) x y)) ≡ true
+    → place_fits c y ≡ true
 place_kept tell c b x v y told h w =
     let parts : (is_class y.class v.class ≡ true) × ((is_same y.event v.event || gets_made (tell.last b) x y) ≡ true) = and_parts (is_class y.class v.class) _ w in
     at parts.0 (or_cases (is_same y.event v.event) _ parts.1)
   where
-    kept : is_class y.class v.class ≡ true → y.event ≡ v.event → ((v.event.0 == 0) ≡ true) ⊎ ((was_made c v.event && kind_fits v.class (kind_at c v.event)) ≡ true) → place_fits c y ≡ true
+    kept : is_class y.class v.class ≡ true → y.event ≡ v.event
+        → ((v.event.0 == 0) ≡ true) ⊎ ((was_made c v.event && kind_fits v.class (kind_at c v.event)) ≡ true)
+        → place_fits c y ≡ true
     kept cls same (inl zero) = or_left (y.event.0 == 0) _ (ap (λ (n : EventId). n.0 == 0) same ∙ zero)
     kept cls same (inr fits) =
         let both : (was_made c v.event ≡ true) × (kind_fits v.class (kind_at c v.event) ≡ true) = and_parts (was_made c v.event) _ fits in
@@ -161,7 +170,9 @@ place_kept tell c b x v y told h w =
     at cls (inr gets) = gets_fits tell c b x y told gets
 
 -- the places of a body that was polled still fit
-pub places_polled : {B : Type 0} (tell : Telling B) (c : Calendar) (b : B) (x : Signal) (vs ys : List Place) → told_fits tell c b x ≡ true → list_all (place_fits c) vs ≡ true → places_kept (tell.last b) x vs ys ≡ true → list_all (place_fits c) ys ≡ true
+pub places_polled : {B : Type 0} (tell : Telling B) (c : Calendar) (b : B) (x : Signal) (vs ys : List Place)
+    → told_fits tell c b x ≡ true → list_all (place_fits c) vs ≡ true → places_kept (tell.last b) x vs ys ≡ true
+    → list_all (place_fits c) ys ≡ true
 places_polled tell c b x [] [] told h w = refl
 places_polled tell c b x [] (y ∷ ys) told h w = absurd (false≢true w)
 places_polled tell c b x (v ∷ vs) [] told h w = absurd (false≢true w)
@@ -183,7 +194,8 @@ last_resumes : (o : Option Op) (x : Signal) → elim o [ None ↦ true | Some as
 last_resumes None x h w = w
 last_resumes (Some o) x h w = wait_resumes o x h w
 
-pub fits_resumed : {B : Type 0} (tell : Telling B) (c : Calendar) (b : B) (x : Signal) → waits_or_new tell b ≡ true → is_resumption x ≡ true → told_fits tell c b x ≡ true
+pub fits_resumed : {B : Type 0} (tell : Telling B) (c : Calendar) (b : B) (x : Signal) → waits_or_new tell b ≡ true
+    → is_resumption x ≡ true → told_fits tell c b x ≡ true
 fits_resumed tell c b (signal.Made e) h w = absurd (false≢true w)
 fits_resumed tell c b signal.Begin h w = last_resumes (tell.last b) signal.Begin h w
 fits_resumed tell c b (signal.Value v) h w = last_resumes (tell.last b) (signal.Value v) h w
@@ -205,10 +217,14 @@ by_is_resumption kind.Init o = refl
 by_is_resumption _ o = of_is_resumption o
 
 -- a process that waits may be resumed
-pub told_resumed : {B : Type 0} (tell : Telling B) (c : Calendar) (q : ProcId) (b : B) (e : EventId) (left : List Callback) (p : ProcId) (x : Signal) → waits_or_new tell b ≡ true → is_resumption x ≡ true → is_told_well tell c q b (Active e left p x) ≡ true
+pub told_resumed : {B : Type 0} (tell : Telling B) (c : Calendar) (q : ProcId) (b : B) (e : EventId) (left : List Callback)
+    (p : ProcId) (x : Signal) → waits_or_new tell b ≡ true → is_resumption x ≡ true
+    → is_told_well tell c q b (Active e left p x) ≡ true
 told_resumed tell c q b e left p x h w = if_true (is_process p q) (told_fits tell c b x) (waits_or_new tell b) (fits_resumed tell c b x h w) h
 
-made_stays : (c d : Calendar) (e : EventId) (asked : Option Op) (m : Bool) → OldStay c d → (m && was_made c e && not (is_processed c e) && makes_kind asked (kind_at c e)) ≡ true → (m && was_made d e && not (is_processed d e) && makes_kind asked (kind_at d e)) ≡ true
+made_stays : (c d : Calendar) (e : EventId) (asked : Option Op) (m : Bool) → OldStay c d
+    → (m && was_made c e && not (is_processed c e) && makes_kind asked (kind_at c e)) ≡ true
+    → (m && was_made d e && not (is_processed d e) && makes_kind asked (kind_at d e)) ≡ true
 made_stays c d e asked m g h =
     let fits : (m ≡ true) × (was_made c e ≡ true) × (not (is_processed c e) ≡ true) × (makes_kind asked (kind_at c e) ≡ true) = four_parts m (was_made c e) (not (is_processed c e)) (makes_kind asked (kind_at c e)) h in
     let below : e.0 < length c.events = ltb-true e.0 (length c.events) fits.1 in
@@ -224,7 +240,8 @@ if_stays true p q r h w = h w
 if_stays false p q r h w = w
 
 -- what is told still fits, where the events stay as they were
-pub told_stays : {B : Type 0} (tell : Telling B) (c d : Calendar) (q : ProcId) (b : B) (k : Control) → OldStay c d → is_told_well tell c q b k ≡ true → is_told_well tell d q b k ≡ true
+pub told_stays : {B : Type 0} (tell : Telling B) (c d : Calendar) (q : ProcId) (b : B) (k : Control) → OldStay c d
+    → is_told_well tell c q b k ≡ true → is_told_well tell d q b k ≡ true
 told_stays tell c d q b Idle g h = h
 told_stays tell c d q b (Calling e left) g h = h
 told_stays tell c d q b (Active e left p x) g h = if_stays (is_process p q) (told_fits tell c b x) (told_fits tell d b x) (waits_or_new tell b) (fits_stays tell c d b x g) h

@@ -53,7 +53,8 @@ grown_joined c d f g h =
     }
 
 -- one event may change, where it keeps its kind and is not cancelled
-pub grown_changed : (e : EventId) (change : EventOf → EventOf) (c : Calendar) → ((x : EventOf) → (change x).kind ≡ x.kind) → ((x : EventOf) → (change x).cancelled ≡ x.cancelled) → Grown c (change_event e change c)
+pub grown_changed : (e : EventId) (change : EventOf → EventOf) (c : Calendar) → ((x : EventOf) → (change x).kind ≡ x.kind)
+    → ((x : EventOf) → (change x).cancelled ≡ x.cancelled) → Grown c (change_event e change c)
 grown_changed e change c kinds cancelled =
     record {
       longer = omega (arith, change_event-length e change c);
@@ -101,7 +102,8 @@ pub old_registered : (e : EventId) (x : Callback) (c d : Calendar) → OldStay c
 old_registered e x c d h = record { longer = h.longer; same = h.same; cancelled = h.cancelled }
 
 -- an event that is new may be scheduled
-pub old_scheduled : (e : EventId) (x : Outcome) (priority : ℕ) (delay : ℤ) (c d : Calendar) → length c.events ≤ e.0 → OldStay c d → OldStay c (schedule e x priority delay d)
+pub old_scheduled : (e : EventId) (x : Outcome) (priority : ℕ) (delay : ℤ) (c d : Calendar) → length c.events ≤ e.0
+    → OldStay c d → OldStay c (schedule e x priority delay d)
 old_scheduled e x priority delay c d new h =
     record {
       longer = omega (arith, change_event-length e (λ y. record y { outcome = Some x }) d, h.longer);

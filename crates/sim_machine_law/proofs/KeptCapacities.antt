@@ -38,7 +38,7 @@ use Rattle.sim_machine.specs.LawfulWaiting.{is_request_kind, is_put_kind, is_get
 use Rattle.sim_machine.specs.LawfulCapacities.{LawfulCapacities, is_in_use, waits_for_fitting}
 use Rattle.sim_machine_law.proofs.KeptRegistrationsCalendar.{Later, below_made, made_below, made_if, later_self, later_then, later_made, later_popped, calm_scheduled, calm_defuse_failed}
 use Rattle.sim_machine_law.proofs.KeptTimesCases.{wait_cases}
-use Rattle.sim_machine_law.proofs.LawfulBasis.{LawfulBasis}
+use Rattle.sim_machine_law.proofs.LawfulBasis.{AreNamedPending, LawfulBasis}
 
 -- ---- the calendar is later
 
@@ -49,16 +49,19 @@ in_use_later c d u l h =
     and_from _ _ (below_made d u.request (omega (arith, made_below c u.request k.0, longer))) (l.turned u.request k.1)
 
 -- a kind that is not that of an event that was not made stays
-pub kind_later : (test : EventKind → Bool) (c d : Calendar) (e : EventId) → test kind.Plain ≡ false → Later c d → test (kind_at c e) ≡ true → test (kind_at d e) ≡ true
+pub kind_later : (test : EventKind → Bool) (c d : Calendar) (e : EventId) → test kind.Plain ≡ false → Later c d
+    → test (kind_at c e) ≡ true → test (kind_at d e) ≡ true
 kind_later test c d e plain l h = ap test (l.kinds e (made_if (λ x. test x.kind) c e plain h)) ∙ h
 
-fitting_later : (c d : Calendar) (r : Resource) (w : Waiter) (want : Want) → Later c d → waits_for_fitting c r w want ≡ true → waits_for_fitting d r w want ≡ true
+fitting_later : (c d : Calendar) (r : Resource) (w : Waiter) (want : Want) → Later c d → waits_for_fitting c r w want ≡ true
+    → waits_for_fitting d r w want ≡ true
 fitting_later c d r w (Slot p key) l h = and_from _ _ (kind_later is_request_kind c d w.event refl l (and_parts _ _ h).0) (and_parts _ _ h).1
 fitting_later c d r w (Give amount priority) l h = and_from _ _ (kind_later is_put_kind c d w.event refl l (and_parts _ _ h).0) (and_parts _ _ h).1
 fitting_later c d r w (Take least greatest) l h = and_from _ _ (kind_later is_get_kind c d w.event refl l (and_parts _ _ h).0) (and_parts _ _ h).1
 
 -- a later calendar changes nothing at the resources
-pub capacities_later : (rs : List Resource) (f : Facilities) (d : Calendar) → Later f.calendar d → LawfulCapacities rs f → LawfulCapacities rs (record f { calendar = d })
+pub capacities_later : (rs : List Resource) (f : Facilities) (d : Calendar) → Later f.calendar d → LawfulCapacities rs f
+    → LawfulCapacities rs (record f { calendar = d })
 capacities_later rs f d l h =
     record {
       slots = h.slots;
@@ -75,7 +78,8 @@ later_timeout delay value c =
     later_then c (make kind.Timeout c) (make_timeout delay value c) (later_made kind.Timeout c) (calm_scheduled (next_event c) (outcome.Ok value) normal delay (make kind.Timeout c)).later
 
 -- an event is made, it is to call this, and it is scheduled
-pub later_new : (k : EventKind) (y : Callback) (x : Outcome) (priority : ℕ) (delay : ℤ) (c : Calendar) → Later c (schedule (next_event c) x priority delay (register (next_event c) y (make k c)))
+pub later_new : (k : EventKind) (y : Callback) (x : Outcome) (priority : ℕ) (delay : ℤ) (c : Calendar)
+    → Later c (schedule (next_event c) x priority delay (register (next_event c) y (make k c)))
 later_new k y x priority delay c =
     let d : Calendar = register (next_event c) y (make k c) in
     later_then c d (schedule (next_event c) x priority delay d) (later_then c (make k c) d (later_made k c) (later_self (make k c) d refl)) (calm_scheduled (next_event c) x priority delay d).later
@@ -90,31 +94,46 @@ later_stop until.Never c = later_self c c refl
 later_stop (until.At time) c = later_new kind.Stop callback.Stop (outcome.Ok (pos 0)) urgent time c
 later_stop (until.Event e) c = later_self c (register e callback.Stop c) refl
 
-pub capacities_wait : {B : Type 0} (rs : List Resource) (e : EventId) (p : ProcId) (s : State B) → LawfulCapacities rs s.facilities → LawfulCapacities rs (wait e p s).facilities
+pub capacities_wait : {B : Type 0} (rs : List Resource) (e : EventId) (p : ProcId) (s : State B)
+    → LawfulCapacities rs s.facilities → LawfulCapacities rs (wait e p s).facilities
 capacities_wait rs e p s h =
     wait_cases (λ t. LawfulCapacities rs t.facilities) e p s (λ k. capacities_later rs s.facilities (defuse_failed e (calendar s)) (calm_defuse_failed e (calendar s)).later h)
     (λ k. capacities_later rs s.facilities (register e (callback.Resume p) (calendar s)) (later_self (calendar s) (register e (callback.Resume p) (calendar s)) refl) h)
 
 -- ---- the units
 
-pub capacities-popped : {B : Type 0} (g : Plan B) (tell : Telling B) (sound : B → Type 0) (s : State B) (x : Entry) → s.control ≡ Idle → due (calendar s).agenda ≡ Some x → LawfulBasis g tell sound s → LawfulCapacities g.setup.resources (pop_entry x s).facilities
+pub capacities-popped : {B : Type 0} (g : Plan B) (tell : Telling B) (sound : B → Type 0) (s : State B) (x : Entry)
+    → s.control ≡ Idle → due (calendar s).agenda ≡ Some x → LawfulBasis g tell sound s
+    → LawfulCapacities g.setup.resources (pop_entry x s).facilities
 capacities-popped g tell sound s x idle h l = capacities_later g.setup.resources s.facilities (popped x (calendar s)) (later_popped x (calendar s)) l.capacities
 
-pub capacities-resumed : {B : Type 0} (g : Plan B) (tell : Telling B) (sound : B → Type 0) (s : State B) (e : EventId) (left : List Callback) (p : ProcId) → s.control ≡ Calling e (callback.Resume p ∷ left) → LawfulBasis g tell sound s → LawfulCapacities g.setup.resources (resume e left p s).facilities
+pub capacities-resumed : {B : Type 0} (g : Plan B) (tell : Telling B) (sound : B → Type 0) (s : State B) (e : EventId)
+    (left : List Callback) (p : ProcId) → s.control ≡ Calling e (callback.Resume p ∷ left) → LawfulBasis g tell sound s
+    → LawfulCapacities g.setup.resources (resume e left p s).facilities
 capacities-resumed g tell sound s e left p at l = capacities_later g.setup.resources s.facilities (defuse_failed e (calendar s)) (calm_defuse_failed e (calendar s)).later l.capacities
 
-pub capacities-stopped : {B : Type 0} (g : Plan B) (tell : Telling B) (sound : B → Type 0) (s : State B) (e : EventId) (left : List Callback) → s.control ≡ Calling e (callback.Stop ∷ left) → LawfulBasis g tell sound s → LawfulCapacities g.setup.resources (call g e callback.Stop left s).facilities
+pub capacities-stopped : {B : Type 0} (g : Plan B) (tell : Telling B) (sound : B → Type 0) (s : State B) (e : EventId)
+    (left : List Callback) → s.control ≡ Calling e (callback.Stop ∷ left) → LawfulBasis g tell sound s
+    → LawfulCapacities g.setup.resources (call g e callback.Stop left s).facilities
 capacities-stopped g tell sound s e left at l = l.capacities
 
-pub capacities-settled : {B : Type 0} (g : Plan B) (tell : Telling B) (sound : B → Type 0) (s : State B) (e : EventId) → s.control ≡ Calling e [] → LawfulBasis g tell sound s → LawfulCapacities g.setup.resources (settle e s).facilities
+pub capacities-settled : {B : Type 0} (g : Plan B) (tell : Telling B) (sound : B → Type 0) (s : State B) (e : EventId)
+    → s.control ≡ Calling e [] → LawfulBasis g tell sound s → LawfulCapacities g.setup.resources (settle e s).facilities
 capacities-settled g tell sound s e at l = l.capacities
 
-pub capacities-polled_end : {B : Type 0} (g : Plan B) (tell : Telling B) (sound : B → Type 0) (s : State B) (f : CodeFacts) (e : EventId) (left : List Callback) (p : ProcId) (x : Signal) (y : ProcessOf B) (b : B) (o : Outcome) →
-    s.control ≡ Active e left p x → process_at p s ≡ Some y → sound b → LawfulBasis g tell sound s → IsTrue (length (scopes_told (tell.scopes y.body) (tell.last y.body) x) == 0) → LawfulCapacities g.setup.resources (rest (end_process p o (with_body p b s))).facilities
+pub capacities-polled_end : {B : Type 0} (g : Plan B) (tell : Telling B) (sound : B → Type 0) (s : State B) (f : CodeFacts)
+    (e : EventId) (left : List Callback) (p : ProcId) (x : Signal) (y : ProcessOf B) (b : B) (o : Outcome)
+    → s.control ≡ Active e left p x → process_at p s ≡ Some y → sound b → LawfulBasis g tell sound s
+    → IsTrue (length (scopes_told (tell.scopes y.body) (tell.last y.body) x) == 0)
+    → LawfulCapacities g.setup.resources (rest (end_process p o (with_body p b s))).facilities
 capacities-polled_end g tell sound s f e left p x y b o at found keeps l closed = capacities_later g.setup.resources s.facilities (trigger (event_of p) o (calendar s)) (calm_scheduled (event_of p) o normal (pos 0) (calendar s)).later l.capacities
 
-pub capacities-made_process : {B : Type 0} (g : Plan B) (tell : Telling B) (sound : B → Type 0) (s : State B) (f : CodeFacts) (k : ℕ) (args : List ℤ) → IsTrue (nat_lt k (length f.params) && may_start (slice_index_or f.params k []) args) →
-    IsLawfulStart f tell k args (record { 0 = (next_event (calendar s)).0 }) (g.start k args (record { 0 = (next_event (calendar s)).0 })) → sound (g.start k args (record { 0 = (next_event (calendar s)).0 })) → LawfulBasis g tell sound s → LawfulCapacities g.setup.resources (make_process g k args s).facilities
+pub capacities-made_process : {B : Type 0} (g : Plan B) (tell : Telling B) (sound : B → Type 0) (s : State B) (f : CodeFacts)
+    (k : ℕ) (args : List ℤ) → IsTrue (nat_lt k (length f.params) && may_start (slice_index_or f.params k []) args)
+    → IsLawfulStart f tell k args (record { 0 = (next_event (calendar s)).0 })
+    (g.start k args (record { 0 = (next_event (calendar s)).0 }))
+    → sound (g.start k args (record { 0 = (next_event (calendar s)).0 })) → LawfulBasis g tell sound s
+    → LawfulCapacities g.setup.resources (make_process g k args s).facilities
 capacities-made_process g tell sound s f k args fits start keeps l = capacities_later g.setup.resources s.facilities (make_events_of_process (calendar s)) (later_of_process (calendar s)) l.capacities
 
 -- the capacity of a resource is not negative, and its opening is within it
@@ -132,7 +151,9 @@ in_range r h = range_of r.kind (most_capacity r.kind) (most_opening r.kind r.cap
     low : (least greatest n : ℤ) → is_within least greatest n ≡ true → (least ≤ℤ n) × (n ≤ℤ greatest)
     low least greatest n h = (grind (arith, ints), grind (arith, ints))
 
-    range_of : (kind : ResourceKind) (most top capacity opening : ℤ) → top ≡ most_opening kind capacity → (is_within (pos 1) most capacity && is_within (pos 0) top opening) ≡ true → (pos 0 ≤ℤ capacity) × (pos 0 ≤ℤ opening) × (opening ≤ℤ capacity)
+    range_of : (kind : ResourceKind) (most top capacity opening : ℤ) → top ≡ most_opening kind capacity
+        → (is_within (pos 1) most capacity && is_within (pos 0) top opening) ≡ true
+        → (pos 0 ≤ℤ capacity) × (pos 0 ≤ℤ opening) × (opening ≤ℤ capacity)
     range_of kind most top capacity opening is h =
         let parts = and_parts (is_within (pos 1) most capacity) (is_within (pos 0) top opening) h in
         let bounds = low (pos 1) most capacity parts.0 in
@@ -140,7 +161,8 @@ in_range r h = range_of r.kind (most_capacity r.kind) (most_opening r.kind r.cap
         let at_least : pos 0 ≤ℤ capacity = grind (arith, ints, bounds.0) in
         (at_least, opening_in.0, opens_within kind capacity opening at_least (rw is at opening_in.1))
 
-pub capacities-blank : {B : Type 0} (g : Plan B) (tell : Telling B) (sound : B → Type 0) (f : CodeFacts) → FitsCode f g.setup → LawfulCapacities g.setup.resources (blank_state g).facilities
+pub capacities-blank : {B : Type 0} (g : Plan B) (tell : Telling B) (sound : B → Type 0) (f : CodeFacts) → FitsCode f g.setup
+    → LawfulCapacities g.setup.resources (blank_state g).facilities
 capacities-blank g tell sound f fits =
     let rs : List Resource = g.setup.resources in
     let range : (res : ℕ) → res < length rs → InRange (resource_at rs res) = λ res below. in_range (resource_at rs res) (All-get_or (λ r. resource_fits r ≡ true) rs res _ below fits.capacities) in
@@ -153,6 +175,9 @@ capacities-blank g tell sound f fits =
       waiting = λ i d below. absurd (omega (arith, below));
     }
 
-pub capacities-set_stop : {B : Type 0} (g : Plan B) (tell : Telling B) (sound : B → Type 0) (s : State B) (until : Until) → IsTrue (until_fits g.setup.events until) →
-    ((h : EventId) → IsTrue (nat_lt 0 h.0 && nat_le h.0 g.setup.events) → IsTrue (is_pending (calendar s) h && not (is_processed (calendar s) h))) → (calendar s).time ≡ pos 0 → s.control ≡ Idle → LawfulBasis g tell sound s → LawfulCapacities g.setup.resources (on_events (set_stop until) s).facilities
+pub capacities-set_stop : {B : Type 0} (g : Plan B) (tell : Telling B) (sound : B → Type 0) (s : State B) (until : Until)
+    → IsTrue (until_fits g.setup.events until)
+    → AreNamedPending g s
+    → (calendar s).time ≡ pos 0 → s.control ≡ Idle → LawfulBasis g tell sound s
+    → LawfulCapacities g.setup.resources (on_events (set_stop until) s).facilities
 capacities-set_stop g tell sound s until fits named zero_time idle l = capacities_later g.setup.resources s.facilities (set_stop until (calendar s)) (later_stop until (calendar s)) l.capacities

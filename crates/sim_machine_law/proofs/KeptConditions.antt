@@ -93,7 +93,8 @@ still_counts true false true b h w = absurd (false≢true (h refl))
 still_counts true false false b h w = refl
 still_counts false p q b h w = refl
 
-pub counts_changed : (c d : Calendar) (e : EventId) → (event_at d e).condition ≡ (event_at c e).condition → (is_pending d e ≡ true → is_pending c e ≡ true) → counts_well c e ≡ true → counts_well d e ≡ true
+pub counts_changed : (c d : Calendar) (e : EventId) → (event_at d e).condition ≡ (event_at c e).condition
+    → (is_pending d e ≡ true → is_pending c e ≡ true) → counts_well c e ≡ true → counts_well d e ≡ true
 counts_changed c d e same pending h =
     ap (λ (o : Option ConditionOf). not (is_some o && is_pending d e) || is_below_all (condition_of o)) same ∙ still_counts (is_condition c e) (is_pending c e) (is_pending d e) (is_below_all (condition_at c e)) pending h
 
@@ -166,7 +167,8 @@ counts_no_more : (p : Callback → Bool) (e f : EventId) (x : Callback) (b : Boo
 counts_no_more p e f x true h w = rw h (rw w refl)
 counts_no_more p e f x false h w = rw h refl
 
-count_registered : (p : Callback → Bool) (e f : EventId) (x : Callback) (c : Calendar) → p x ≡ false → count_by p (callbacks_of f (register e x c)) ≡ count_by p (callbacks_of f c)
+count_registered : (p : Callback → Bool) (e f : EventId) (x : Callback) (c : Calendar) → p x ≡ false
+    → count_by p (callbacks_of f (register e x c)) ≡ count_by p (callbacks_of f c)
 count_registered p e f x c h =
     ap (count_by p) (callbacks_registered e f x c) ∙ (count_by-append p (callbacks_of f c) (one_more e f x) ∙ omega (arith, counts_no_more p e f x (is_same e f) refl h))
 
@@ -175,7 +177,8 @@ first_stays p [] ys h = absurd (false≢true h)
 first_stays p (x ∷ xs) ys h = h
 
 -- a callback that is no condition's may be registered
-pub conditions_registered : (e : EventId) (x : Callback) (c : Calendar) (k : Control) → IsNoConditions x → ConditionsBasis c k → ConditionsBasis (register e x c) k
+pub conditions_registered : (e : EventId) (x : Callback) (c : Calendar) (k : Control) → IsNoConditions x
+    → ConditionsBasis c k → ConditionsBasis (register e x c) k
 conditions_registered e x c k n h =
     conditions_kept c (register e x c) k k (record { conditions = λ f. refl; processed = λ f. refl; pending = λ f w. w }) (record {
       checks = λ cond f.
@@ -209,11 +212,13 @@ conditions_controlled c a b calls h =
       left = calls.left;
     }) h
 
-called_failing : (p : Callback → Bool) (b : Bool) (x : Callback) (xs : List Callback) → p x ≡ false → count_by p (if b then x ∷ xs else []) ≡ count_by p (if b then xs else [])
+called_failing : (p : Callback → Bool) (b : Bool) (x : Callback) (xs : List Callback) → p x ≡ false
+    → count_by p (if b then x ∷ xs else []) ≡ count_by p (if b then xs else [])
 called_failing p true x xs h = count_failing p x xs h
 called_failing p false x xs h = refl
 
-building_failing : (p : Callback → Bool) (b : Bool) (x : Callback) (xs : List Callback) → p x ≡ false → (b && list_any p (x ∷ xs)) ≡ true → (b && list_any p xs) ≡ true
+building_failing : (p : Callback → Bool) (b : Bool) (x : Callback) (xs : List Callback) → p x ≡ false
+    → (b && list_any p (x ∷ xs)) ≡ true → (b && list_any p xs) ≡ true
 building_failing p true x xs h w = rw h at w
 building_failing p false x xs h w = w
 
@@ -221,7 +226,9 @@ pub first_failing : (a b q : Bool) (n : ℕ) → q ≡ false → ((n == 0) || (n
 first_failing a b q n h w = grind (arith, nat_tests)
 
 -- of the callbacks of e the first one is called, and it is no condition's
-pub calls_less : (e : EventId) (x : Callback) (left : List Callback) (b : Control) → ((f : EventId) → is_event_of b f ≡ is_same e f) → left_of b ≡ left → IsNoConditions x → KeepsCalls (Calling e (x ∷ left)) b
+pub calls_less : (e : EventId) (x : Callback) (left : List Callback) (b : Control)
+    → ((f : EventId) → is_event_of b f ≡ is_same e f) → left_of b ≡ left → IsNoConditions x
+    → KeepsCalls (Calling e (x ∷ left)) b
 calls_less e x left b same at n =
     record {
       checks = λ cond f. rw (same f, at) (sym (called_failing (is_check_of cond) (is_same e f) x left (n.no_check cond)));

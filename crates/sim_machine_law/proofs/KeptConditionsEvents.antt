@@ -20,7 +20,9 @@ use Rattle.sim_machine_law.proofs.EventLaws.{change_event-keeps, make-keeps}
 use Rattle.sim_machine_law.proofs.KeptConditions.{IsNoConditions, conditions_changed, conditions_registered, conditions_told, conditions_rested}
 use Rattle.sim_machine_law.proofs.LawfulBasis.{ConditionsBasis}
 
-still_pending : (xs : List EventOf) (n m : ℕ) (x d : EventOf) → (is_none x.outcome ≡ true → is_none (slice_index_or xs n d).outcome ≡ true) → is_none (slice_index_or (slice_set xs n x) m d).outcome ≡ true → is_none (slice_index_or xs m d).outcome ≡ true
+still_pending : (xs : List EventOf) (n m : ℕ) (x d : EventOf)
+    → (is_none x.outcome ≡ true → is_none (slice_index_or xs n d).outcome ≡ true)
+    → is_none (slice_index_or (slice_set xs n x) m d).outcome ≡ true → is_none (slice_index_or xs m d).outcome ≡ true
 still_pending [] n m x d h w = w
 still_pending (y ∷ xs) zero zero x d h w = h w
 still_pending (y ∷ xs) zero (suc m) x d h w = w
@@ -28,11 +30,16 @@ still_pending (y ∷ xs) (suc n) zero x d h w = w
 still_pending (y ∷ xs) (suc n) (suc m) x d h w = still_pending xs n m x d h w
 
 -- a change of one event that makes nothing pending makes no event pending
-pub pending_changed : (e f : EventId) (change : EventOf → EventOf) (c : Calendar) → ((x : EventOf) → is_none (change x).outcome ≡ true → is_none x.outcome ≡ true) → is_pending (change_event e change c) f ≡ true → is_pending c f ≡ true
+pub pending_changed : (e f : EventId) (change : EventOf → EventOf) (c : Calendar)
+    → ((x : EventOf) → is_none (change x).outcome ≡ true → is_none x.outcome ≡ true)
+    → is_pending (change_event e change c) f ≡ true → is_pending c f ≡ true
 pending_changed e f change c h w = still_pending c.events e.0 f.0 (change (event_at c e)) (pending_event kind.Plain) (h (event_at c e)) w
 
 -- one event may change, where it stays the same condition, as far as it is processed, and is not pending again
-pub conditions_event_changed : (e : EventId) (change : EventOf → EventOf) (c : Calendar) (k : Control) → ((x : EventOf) → (change x).condition ≡ x.condition) → ((x : EventOf) → (change x).processed ≡ x.processed) → ((x : EventOf) → is_none (change x).outcome ≡ true → is_none x.outcome ≡ true) → ConditionsBasis c k → ConditionsBasis (change_event e change c) k
+pub conditions_event_changed : (e : EventId) (change : EventOf → EventOf) (c : Calendar) (k : Control)
+    → ((x : EventOf) → (change x).condition ≡ x.condition) → ((x : EventOf) → (change x).processed ≡ x.processed)
+    → ((x : EventOf) → is_none (change x).outcome ≡ true → is_none x.outcome ≡ true) → ConditionsBasis c k
+    → ConditionsBasis (change_event e change c) k
 conditions_event_changed e change c k same processed pending h =
     conditions_changed c (change_event e change c) k (record {
       conditions = λ f. change_event-keeps (λ x. x.condition) e f change c same;
@@ -51,7 +58,8 @@ conditions_made x c k h =
 none_is_not : (x : Outcome) (y : Option Outcome) → is_none (Some x) ≡ true → is_none y ≡ true
 none_is_not x y h = cc
 
-pub conditions_scheduled : (e : EventId) (x : Outcome) (priority : ℕ) (delay : ℤ) (c : Calendar) (k : Control) → ConditionsBasis c k → ConditionsBasis (schedule e x priority delay c) k
+pub conditions_scheduled : (e : EventId) (x : Outcome) (priority : ℕ) (delay : ℤ) (c : Calendar) (k : Control)
+    → ConditionsBasis c k → ConditionsBasis (schedule e x priority delay c) k
 conditions_scheduled e x priority delay c k h =
     conditions_changed c (schedule e x priority delay c) k (record {
       conditions = λ f. change_event-keeps (λ y. y.condition) e f (λ y. record y { outcome = Some x }) c (λ y. refl);

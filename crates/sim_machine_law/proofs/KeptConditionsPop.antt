@@ -54,13 +54,16 @@ calls_at e rs = map (λ r. r.callback) (filter (λ r. is_same r.event e) rs)
 abbrev calls_of_others : EventId → List Registration → List Registration
 calls_of_others e rs = filter (λ r. not (is_same r.event e)) rs
 
-pub split_calls : (p : Callback → Bool) (e : EventId) (rs : List Registration) → count_by p (calls_at e rs) + count_by (λ r. p r.callback) (calls_of_others e rs) ≡ count_by (λ r. p r.callback) rs
+pub split_calls : (p : Callback → Bool) (e : EventId) (rs : List Registration)
+    → count_by p (calls_at e rs) + count_by (λ r. p r.callback) (calls_of_others e rs) ≡ count_by (λ r. p r.callback) rs
 split_calls p e rs =
     let q : Registration → Bool = λ r. is_same r.event e in
     let mapped : count_by p (calls_at e rs) ≡ count_by (λ r. p r.callback) (filter q rs) = fold-map (λ a x. a + cond {A = ℕ} (p x) 1 0) (λ r. r.callback) 0 (filter q rs) in
     omega (arith, mapped, sum_by-filter_both q (λ r. not (is_same r.event e)) (λ r. refl) (λ r. cond {A = ℕ} (p r.callback) 1 0) rs)
 
-within_step : {X : Type 0} (p q : X → Bool) (x : X) (xs : List X) (b : Bool) → (p x ≡ true → b ≡ true) → filter p (filter q xs) ≡ filter p xs → filter p (cond b (x ∷ filter q xs) (filter q xs)) ≡ cond (p x) (x ∷ filter p xs) (filter p xs)
+within_step : {X : Type 0} (p q : X → Bool) (x : X) (xs : List X) (b : Bool) → (p x ≡ true → b ≡ true)
+    → filter p (filter q xs) ≡ filter p xs
+    → filter p (cond b (x ∷ filter q xs) (filter q xs)) ≡ cond (p x) (x ∷ filter p xs) (filter p xs)
 within_step p q x xs true h w = rw w refl
 within_step p q x xs false h w =
     let no : p x ≡ false = false_from_ne_true (p x) (λ e. false≢true (h e)) in
@@ -114,7 +117,8 @@ build_stands : (c : Calendar) (k : Control) (cond : EventId) → ConditionsBasis
 build_stands c k cond h true needs = first_counts (is_build_of cond) (callbacks_of cond c) (rw needs at (h.first cond))
 build_stands c k cond h false needs = omega arith
 
-builds_all : (c : Calendar) (k : Control) (f cond : EventId) → ConditionsBasis c k → builds_at f cond c + builds_of_others f cond c ≡ one_if (needs_build c cond)
+builds_all : (c : Calendar) (k : Control) (f cond : EventId) → ConditionsBasis c k
+    → builds_at f cond c + builds_of_others f cond c ≡ one_if (needs_build c cond)
 builds_all c k f cond h = split_calls (is_build_of cond) f c.registered ∙ h.builds cond
 
 others_bear : (c : Calendar) (f cond : EventId) → (cond.0 ≡ f.0 → ⊥) → builds_at cond cond c ≤ builds_of_others f cond c
@@ -137,7 +141,8 @@ abbrev emptied : Entry → Calendar → Calendar
 emptied x c = record c { time = x.key.time; agenda = without_entry x c.agenda; registered = calls_of_others x.event c.registered }
 
 -- a pop leaves an event all but processed
-pub popped-keeps : {X : Type 0} (part : EventOf → X) (x : Entry) (c : Calendar) (e : EventId) → ((y : EventOf) → part (record y { processed = true }) ≡ part y) → part (event_at (popped x c) e) ≡ part (event_at c e)
+pub popped-keeps : {X : Type 0} (part : EventOf → X) (x : Entry) (c : Calendar) (e : EventId)
+    → ((y : EventOf) → part (record y { processed = true }) ≡ part y) → part (event_at (popped x c) e) ≡ part (event_at c e)
 popped-keeps part x c e keeps = change_event-keeps part x.event e (λ y. record y { processed = true }) (emptied x c) keeps
 
 pub popped-other : (x : Entry) (c : Calendar) (e : EventId) → e.0 ≢ x.event.0 → event_at (popped x c) e ≡ event_at c e
@@ -149,7 +154,8 @@ popped-processed x c made = ap (λ (y : EventOf). y.processed) (change_event-sam
 is_same-no : (e f : EventId) → (e.0 ≡ f.0 → ⊥) → is_same e f ≡ false
 is_same-no e f h = grind (arith, nat_tests)
 
-callbacks_at : (x : Entry) (c : Calendar) (e : EventId) → (e.0 ≡ x.event.0) ⊎ (e.0 ≢ x.event.0) → all_callbacks_of (popped x c) (Calling x.event (callbacks_of x.event c)) e ≡ all_callbacks_of c Idle e
+callbacks_at : (x : Entry) (c : Calendar) (e : EventId) → (e.0 ≡ x.event.0) ⊎ (e.0 ≢ x.event.0)
+    → all_callbacks_of (popped x c) (Calling x.event (callbacks_of x.event c)) e ≡ all_callbacks_of c Idle e
 callbacks_at x c e (inl same) =
     let left : List Callback = callbacks_of x.event c in
     let P : EventId → Type 0 = λ f. all_callbacks_of (popped x c) (Calling x.event left) f ≡ all_callbacks_of c Idle f in
@@ -161,7 +167,8 @@ callbacks_at x c e (inr differ) =
     ap (λ (xs : List Callback). xs ++ (if is_same x.event e then left else [])) (calls_at_others e x.event c.registered differ) ∙ ap (λ (b : Bool). callbacks_of e c ++ (if b then left else [])) (is_same-no x.event e (λ s. differ (sym s)))
 
 -- at a pop no callback is lost, and each still counts for its event
-pub callbacks-popped : (x : Entry) (c : Calendar) (e : EventId) → all_callbacks_of (popped x c) (Calling x.event (callbacks_of x.event c)) e ≡ all_callbacks_of c Idle e
+pub callbacks-popped : (x : Entry) (c : Calendar) (e : EventId)
+    → all_callbacks_of (popped x c) (Calling x.event (callbacks_of x.event c)) e ≡ all_callbacks_of c Idle e
 callbacks-popped x c e = callbacks_at x c e (cases_eq e.0 x.event.0)
 
 processed_needs_none : (c : Calendar) (e : EventId) → is_processed c e ≡ true → needs_build c e ≡ false
@@ -174,7 +181,8 @@ processed_needs_none c e h = ap (λ (b : Bool). is_condition c e && not b && not
 popped_needs : (x : Entry) (c : Calendar) (e : EventId) → e.0 ≢ x.event.0 → needs_build (popped x c) e ≡ needs_build c e
 popped_needs x c e differ = ap (λ (y : EventOf). is_some y.condition && not y.processed && not (is_empty (condition_of y.condition).members)) (popped-other x c e differ)
 
-builds_popped : (x : Entry) (c : Calendar) (k : Control) (e : EventId) → x.event.0 < length c.events → ConditionsBasis c k → (e.0 ≡ x.event.0) ⊎ (e.0 ≢ x.event.0) → builds_of_others x.event e c ≡ one_if (needs_build (popped x c) e)
+builds_popped : (x : Entry) (c : Calendar) (k : Control) (e : EventId) → x.event.0 < length c.events → ConditionsBasis c k
+    → (e.0 ≡ x.event.0) ⊎ (e.0 ≢ x.event.0) → builds_of_others x.event e c ≡ one_if (needs_build (popped x c) e)
 builds_popped x c k e made h (inl same) =
     let P : EventId → Type 0 = λ f. builds_of_others x.event f c ≡ one_if (needs_build (popped x c) f) in
     let none : needs_build (popped x c) x.event ≡ false = processed_needs_none (popped x c) x.event (popped-processed x c made) in
@@ -183,7 +191,8 @@ builds_popped x c k e made h (inr differ) =
     let kept : builds_of_others x.event e c ≡ one_if (needs_build c e) = omega (arith, builds_all c k x.event e h, no_build_at_others c k x.event e differ h) in
     kept ∙ ap one_if (sym (popped_needs x c e differ))
 
-first_popped : (x : Entry) (c : Calendar) (k : Control) (e : EventId) → x.event.0 < length c.events → ConditionsBasis c k → (e.0 ≡ x.event.0) ⊎ (e.0 ≢ x.event.0) → builds_first (popped x c) e ≡ true
+first_popped : (x : Entry) (c : Calendar) (k : Control) (e : EventId) → x.event.0 < length c.events → ConditionsBasis c k
+    → (e.0 ≡ x.event.0) ⊎ (e.0 ≢ x.event.0) → builds_first (popped x c) e ≡ true
 first_popped x c k e made h (inl same) =
     let P : EventId → Type 0 = λ f. builds_first (popped x c) f ≡ true in
     let none : needs_build (popped x c) x.event ≡ false = processed_needs_none (popped x c) x.event (popped-processed x c made) in
@@ -191,7 +200,8 @@ first_popped x c k e made h (inl same) =
 first_popped x c k e made h (inr differ) =
     ap (λ (b : Bool). not b || first_passes (is_build_of e) (callbacks_of e (popped x c))) (popped_needs x c e differ) ∙ (ap (λ (xs : List Callback). not (needs_build c e) || first_passes (is_build_of e) xs) (calls_at_others e x.event c.registered differ) ∙ h.first e)
 
-left_at : (c : Calendar) (k : Control) (f : EventId) → ConditionsBasis c k → (b : Bool) → needs_build c f ≡ b → builds_left_first (Calling f (callbacks_of f c)) f ≡ true
+left_at : (c : Calendar) (k : Control) (f : EventId) → ConditionsBasis c k → (b : Bool) → needs_build c f ≡ b
+    → builds_left_first (Calling f (callbacks_of f c)) f ≡ true
 left_at c k f h true needs =
     let first : first_passes (is_build_of f) (callbacks_of f c) ≡ true = rw needs at (h.first f) in
     let one : builds_at f f c ≡ 1 = omega (arith, builds_all c k f f h, no_build_of_others c k f h, ap one_if needs) in
@@ -203,7 +213,8 @@ left_at c k f h false needs =
     let none : builds_at f f c ≡ 0 = omega (arith, builds_all c k f f h, ap one_if needs) in
     ap (λ (n : ℕ). (n == 0) || (n == 1) && is_same f f && first_passes (is_build_of f) (callbacks_of f c)) none
 
-left_popped : (c : Calendar) (k : Control) (f cond : EventId) → ConditionsBasis c k → (cond.0 ≡ f.0) ⊎ (cond.0 ≢ f.0) → builds_left_first (Calling f (callbacks_of f c)) cond ≡ true
+left_popped : (c : Calendar) (k : Control) (f cond : EventId) → ConditionsBasis c k → (cond.0 ≡ f.0) ⊎ (cond.0 ≢ f.0)
+    → builds_left_first (Calling f (callbacks_of f c)) cond ≡ true
 left_popped c k f cond h (inl same) =
     let P : EventId → Type 0 = λ e. builds_left_first (Calling f (callbacks_of f c)) e ≡ true in
     subst P (sym (same_event cond f same)) (left_at c k f h (needs_build c f) refl)
@@ -222,12 +233,15 @@ needs_from : (a b m : Bool) → a ≡ true → b ≡ false → m ≡ true → (a
 needs_from a b m p q r = rw (p, q, r) refl
 
 -- a condition that is checked and not processed needs its build
-checked_needs : (c : Calendar) (k : Control) (cond e : EventId) → ConditionsBasis c k → 1 ≤ checks_at c k cond e → is_processed c cond ≡ false → needs_build c cond ≡ true
+checked_needs : (c : Calendar) (k : Control) (cond e : EventId) → ConditionsBasis c k → 1 ≤ checks_at c k cond e
+    → is_processed c cond ≡ false → needs_build c cond ≡ true
 checked_needs c k cond e h some unprocessed =
     let members : not (is_empty (members_of c cond)) ≡ true = some_members e (members_of c cond) (omega (arith, some, h.checks cond e)) in
     needs_from (is_condition c cond) (is_processed c cond) (not (is_empty (members_of c cond))) (some_condition (event_at c cond).condition members) unprocessed members
 
-unbuilt_popped : (x : Entry) (c : Calendar) (cond e : EventId) → is_processed c x.event ≡ false → ConditionsBasis c Idle → 1 ≤ checks_at c Idle cond e → (cond.0 ≡ x.event.0) ⊎ (cond.0 ≢ x.event.0) → is_to_be_built (popped x c) (Calling x.event (callbacks_of x.event c)) cond ≡ true
+unbuilt_popped : (x : Entry) (c : Calendar) (cond e : EventId) → is_processed c x.event ≡ false → ConditionsBasis c Idle
+    → 1 ≤ checks_at c Idle cond e → (cond.0 ≡ x.event.0) ⊎ (cond.0 ≢ x.event.0)
+    → is_to_be_built (popped x c) (Calling x.event (callbacks_of x.event c)) cond ≡ true
 unbuilt_popped x c cond e unprocessed h some (inl same) =
     let left : List Callback = callbacks_of x.event c in
     let at : cond ≡ x.event = same_event cond x.event same in
@@ -245,11 +259,13 @@ unbuilt_popped x c cond e unprocessed h some (inr differ) =
     no_more true h = refl
     no_more false h = h
 
-checks_popped : (x : Entry) (c : Calendar) (cond e : EventId) → checks_at (popped x c) (Calling x.event (callbacks_of x.event c)) cond e ≡ checks_at c Idle cond e
+checks_popped : (x : Entry) (c : Calendar) (cond e : EventId)
+    → checks_at (popped x c) (Calling x.event (callbacks_of x.event c)) cond e ≡ checks_at c Idle cond e
 checks_popped x c cond e = ap (count_by (is_check_of cond)) (callbacks-popped x c e)
 
 -- the entry that is due may be popped
-pub conditions_popped : (x : Entry) (c : Calendar) → due c.agenda ≡ Some x → LawfulTimes c → ConditionsBasis c Idle → ConditionsBasis (popped x c) (Calling x.event (callbacks_of x.event c))
+pub conditions_popped : (x : Entry) (c : Calendar) → due c.agenda ≡ Some x → LawfulTimes c → ConditionsBasis c Idle
+    → ConditionsBasis (popped x c) (Calling x.event (callbacks_of x.event c))
 conditions_popped x c is_due l h =
     let triggered : is_triggered c x.event ≡ true = due_triggered c x is_due l in
     let made : x.event.0 < length c.events = triggered_made c x.event triggered in

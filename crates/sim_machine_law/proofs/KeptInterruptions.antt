@@ -30,7 +30,8 @@ hearing-popped x c =
     let done : EventOf → EventOf = λ y. record y { processed = true } in
     hearing-events c (change_event x.event done c) (popped x c) refl (hearing-changed x.event done c (λ y. refl) (λ y. refl) (λ y h. h))
 
-pub interruptions-popped : {B : Type 0} (g : Plan B) (tell : Telling B) (sound : B → Type 0) (s : State B) (x : Entry) → s.control ≡ Idle → due (calendar s).agenda ≡ Some x → LawfulBasis g tell sound s → LawfulInterruptions (pop_entry x s)
+pub interruptions-popped : {B : Type 0} (g : Plan B) (tell : Telling B) (sound : B → Type 0) (s : State B) (x : Entry)
+    → s.control ≡ Idle → due (calendar s).agenda ≡ Some x → LawfulBasis g tell sound s → LawfulInterruptions (pop_entry x s)
 interruptions-popped g tell sound s x idle found h =
     let c : Calendar = calendar s in
     let before : StrikesAlone c Idle = rw idle at (interruptions-strikes s h.interruptions) in
@@ -40,7 +41,8 @@ interruptions-popped g tell sound s x idle found h =
 -- ---- a call
 
 -- a change of the control alone
-pub interruptions-control : {B : Type 0} (s : State B) (l : Control) → StrikesAlone (calendar s) l → LawfulInterruptions s → LawfulInterruptions (control_to l s)
+pub interruptions-control : {B : Type 0} (s : State B) (l : Control) → StrikesAlone (calendar s) l → LawfulInterruptions s
+    → LawfulInterruptions (control_to l s)
 interruptions-control s l strikes h =
     record {
       registered = interruptions-registered (control_to l s) strikes;
@@ -65,20 +67,27 @@ interruptions-defused s e made h =
     interruptions-kept s (on_events (defuse_failed e) s) refl made (hearing-defused e c) (strikes-kept c s.control (defuse_failed e c) s.control (hearing-defused e c) (λ f. callbacks-defused e f c s.control) (interruptions-strikes s h)) h
 
 -- a callback less is left to call
-pub interruptions-called : {B : Type 0} (s : State B) (l : Control) (x : Callback) → left_of s.control ≡ x ∷ left_of l → ((f : EventId) → is_event_of s.control f ≡ is_event_of l f) → LawfulInterruptions s → LawfulInterruptions (control_to l s)
+pub interruptions-called : {B : Type 0} (s : State B) (l : Control) (x : Callback) → left_of s.control ≡ x ∷ left_of l
+    → ((f : EventId) → is_event_of s.control f ≡ is_event_of l f) → LawfulInterruptions s
+    → LawfulInterruptions (control_to l s)
 interruptions-called s l x left of h = interruptions-control s l (strikes-called (calendar s) s.control l x left of (interruptions-strikes s h)) h
 
-pub interruptions-resumed : {B : Type 0} (g : Plan B) (tell : Telling B) (sound : B → Type 0) (s : State B) (e : EventId) (left : List Callback) (p : ProcId) → s.control ≡ Calling e (callback.Resume p ∷ left) → LawfulBasis g tell sound s → LawfulInterruptions (resume e left p s)
+pub interruptions-resumed : {B : Type 0} (g : Plan B) (tell : Telling B) (sound : B → Type 0) (s : State B) (e : EventId)
+    (left : List Callback) (p : ProcId) → s.control ≡ Calling e (callback.Resume p ∷ left) → LawfulBasis g tell sound s
+    → LawfulInterruptions (resume e left p s)
 interruptions-resumed g tell sound s e left p calling h =
     let told : Signal = signal_by (event_at (calendar s) e).kind (event_at (calendar s) e).outcome in
     interruptions-called (on_events (defuse_failed e) s) (Active e left p told) (callback.Resume p) (rw calling refl) (λ f. rw calling refl) (interruptions-defused s e (all_made g tell sound s h) h.interruptions)
 
-pub interruptions-stopped : {B : Type 0} (g : Plan B) (tell : Telling B) (sound : B → Type 0) (s : State B) (e : EventId) (left : List Callback) → s.control ≡ Calling e (callback.Stop ∷ left) → LawfulBasis g tell sound s → LawfulInterruptions (call g e callback.Stop left s)
+pub interruptions-stopped : {B : Type 0} (g : Plan B) (tell : Telling B) (sound : B → Type 0) (s : State B) (e : EventId)
+    (left : List Callback) → s.control ≡ Calling e (callback.Stop ∷ left) → LawfulBasis g tell sound s
+    → LawfulInterruptions (call g e callback.Stop left s)
 interruptions-stopped g tell sound s e left calling h = interruptions-called s (Over (end_at e s) e left) callback.Stop (rw calling refl) (λ f. rw calling refl) h.interruptions
 
 -- ---- the settling
 
-pub interruptions-settled : {B : Type 0} (g : Plan B) (tell : Telling B) (sound : B → Type 0) (s : State B) (e : EventId) → s.control ≡ Calling e [] → LawfulBasis g tell sound s → LawfulInterruptions (settle e s)
+pub interruptions-settled : {B : Type 0} (g : Plan B) (tell : Telling B) (sound : B → Type 0) (s : State B) (e : EventId)
+    → s.control ≡ Calling e [] → LawfulBasis g tell sound s → LawfulInterruptions (settle e s)
 interruptions-settled g tell sound s e calling h =
     let c : Calendar = calendar s in
     let over : Control = Over end.Crash e [] in

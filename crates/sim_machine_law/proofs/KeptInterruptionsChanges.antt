@@ -26,7 +26,9 @@ use Rattle.sim_machine_law.proofs.KeptInterruptions.{interruptions-control, inte
 
 -- ---- processes that are changed and wait for the same
 
-pub interruptions-mapped : {B : Type 0} (s : State B) (f : ProcessOf B → ProcessOf B) → ((x : ProcessOf B) → (f x).target ≡ x.target) → LawfulInterruptions s → LawfulInterruptions (record s { processes = map f s.processes })
+pub interruptions-mapped : {B : Type 0} (s : State B) (f : ProcessOf B → ProcessOf B)
+    → ((x : ProcessOf B) → (f x).target ≡ x.target) → LawfulInterruptions s
+    → LawfulInterruptions (record s { processes = map f s.processes })
 interruptions-mapped {B} s f targets h =
     let heard : EventId → Bool = λ e. not (is_unheard_kind (kind_at (calendar s) e)) in
     record {
@@ -37,7 +39,8 @@ interruptions-mapped {B} s f targets h =
       members = h.members;
     }
 
-pub all_made-mapped : {B : Type 0} (s : State B) (f : ProcessOf B → ProcessOf B) → ((x : ProcessOf B) → (f x).target ≡ x.target) → AllMade s → AllMade (record s { processes = map f s.processes })
+pub all_made-mapped : {B : Type 0} (s : State B) (f : ProcessOf B → ProcessOf B)
+    → ((x : ProcessOf B) → (f x).target ≡ x.target) → AllMade s → AllMade (record s { processes = map f s.processes })
 all_made-mapped {B} s f targets h =
     let c : Calendar = calendar s in
     record {
@@ -58,7 +61,8 @@ all_made-bodies s p b h = all_made-mapped s (λ x. if is_process x.id p then rec
 -- ---- a process goes on
 
 -- a state with the same events, control and processes
-pub interruptions-same : {B : Type 0} (s t : State B) → t.processes ≡ s.processes → t.facilities.calendar ≡ s.facilities.calendar → t.control ≡ s.control → LawfulInterruptions s → LawfulInterruptions t
+pub interruptions-same : {B : Type 0} (s t : State B) → t.processes ≡ s.processes
+    → t.facilities.calendar ≡ s.facilities.calendar → t.control ≡ s.control → LawfulInterruptions s → LawfulInterruptions t
 interruptions-same s t processes events control h =
     record {
       registered = rw (events, control) h.registered;
@@ -89,7 +93,9 @@ heard_no_interrupt kind.Interrupt h = absurd (true≢false h)
 heard_no_interrupt _ h = refl
 
 -- one that does not strike is registered, at an event that is no interruption
-pub interruptions-registers : {B : Type 0} (s : State B) (e : EventId) (x : Callback) → is_strike x ≡ false → is_interrupt_kind (kind_at (calendar s) e) ≡ false → LawfulInterruptions s → LawfulInterruptions (on_events (register e x) s)
+pub interruptions-registers : {B : Type 0} (s : State B) (e : EventId) (x : Callback) → is_strike x ≡ false
+    → is_interrupt_kind (kind_at (calendar s) e) ≡ false → LawfulInterruptions s
+    → LawfulInterruptions (on_events (register e x) s)
 interruptions-registers {B} s e x other kinds h =
     let t : State B = on_events (register e x) s in
     let strikes : StrikesAlone (calendar t) t.control = strikes-registered e x (calendar s) s.control other kinds (interruptions-strikes s h) in
@@ -105,7 +111,9 @@ pub all_made-registers : {B : Type 0} (s : State B) (e : EventId) (x : Callback)
 all_made-registers s e x made = record { targets = made.targets; members = made.members }
 
 -- a process waits for an event that may be waited for
-pub interruptions-targets : {B : Type 0} (s : State B) (e : EventId) (p : ProcId) → is_unheard_kind (kind_at (calendar s) e) ≡ false → LawfulInterruptions s → LawfulInterruptions (change_process p (λ x. record x { target = e }) s)
+pub interruptions-targets : {B : Type 0} (s : State B) (e : EventId) (p : ProcId)
+    → is_unheard_kind (kind_at (calendar s) e) ≡ false → LawfulInterruptions s
+    → LawfulInterruptions (change_process p (λ x. record x { target = e }) s)
 interruptions-targets {B} s e p heard h =
     let new : ProcessOf B → ProcessOf B = λ x. record x { target = e } in
     let f : ProcessOf B → ProcessOf B = λ x. if is_process x.id p then new x else x in
@@ -118,14 +126,16 @@ interruptions-targets {B} s e p heard h =
       members = h.members;
     }
 
-pub interruptions-waits : {B : Type 0} (s : State B) (e : EventId) (p : ProcId) → is_unheard_kind (kind_at (calendar s) e) ≡ false → LawfulInterruptions s → LawfulInterruptions (waiting_for e p s)
+pub interruptions-waits : {B : Type 0} (s : State B) (e : EventId) (p : ProcId)
+    → is_unheard_kind (kind_at (calendar s) e) ≡ false → LawfulInterruptions s → LawfulInterruptions (waiting_for e p s)
 interruptions-waits {B} s e p heard h =
     let registers : State B = on_events (register e (callback.Resume p)) s in
     let targets : State B = change_process p (λ x. record x { target = e }) registers in
     interruptions-rest targets (interruptions-targets registers e p heard (interruptions-registers s e (callback.Resume p) refl (heard_no_interrupt (kind_at (calendar s) e) heard) h))
 
 -- at an event that is processed it goes on
-pub interruptions-wait : {B : Type 0} (s : State B) (e : EventId) (p : ProcId) → is_unheard_kind (kind_at (calendar s) e) ≡ false → AllMade s → LawfulInterruptions s → LawfulInterruptions (wait e p s)
+pub interruptions-wait : {B : Type 0} (s : State B) (e : EventId) (p : ProcId)
+    → is_unheard_kind (kind_at (calendar s) e) ≡ false → AllMade s → LawfulInterruptions s → LawfulInterruptions (wait e p s)
 interruptions-wait {B} s e p heard made h =
     let told : Signal = signal_of (event_at (calendar s) e).outcome in
     let s_defused : State B = on_events (defuse_failed e) s in
@@ -134,7 +144,9 @@ interruptions-wait {B} s e p heard made h =
 
 -- ---- an event gets an outcome
 
-pub interruptions-schedules : {B : Type 0} (s : State B) (e : EventId) (x : Outcome) (priority : ℕ) (delay : ℤ) → is_failed_interruption (record (event_at (calendar s) e) { outcome = Some x }) ≡ true → AllMade s → LawfulInterruptions s → LawfulInterruptions (on_events (schedule e x priority delay) s)
+pub interruptions-schedules : {B : Type 0} (s : State B) (e : EventId) (x : Outcome) (priority : ℕ) (delay : ℤ)
+    → is_failed_interruption (record (event_at (calendar s) e) { outcome = Some x }) ≡ true → AllMade s
+    → LawfulInterruptions s → LawfulInterruptions (on_events (schedule e x priority delay) s)
 interruptions-schedules s e x priority delay fails made h =
     let c : Calendar = calendar s in
     let v : KeepsHearing c (schedule e x priority delay c) = hearing-scheduled e x priority delay c fails in
@@ -142,7 +154,8 @@ interruptions-schedules s e x priority delay fails made h =
 
 -- ---- an event is made
 
-pub interruptions-makes : {B : Type 0} (s : State B) (k : EventKind) → is_interrupt_kind k ≡ false → AllMade s → LawfulInterruptions s → LawfulInterruptions (on_events (make k) s)
+pub interruptions-makes : {B : Type 0} (s : State B) (k : EventKind) → is_interrupt_kind k ≡ false → AllMade s
+    → LawfulInterruptions s → LawfulInterruptions (on_events (make k) s)
 interruptions-makes s k other made h =
     let c : Calendar = calendar s in
     let v : KeepsHearing c (make k c) = hearing-made k c other in
@@ -154,7 +167,8 @@ all_made-makes s k other made = all_made-kept s (on_events (make k) s) refl (hea
 -- ---- a process ends
 
 -- some processes are no longer alive
-pub interruptions-fewer : {B : Type 0} (s : State B) (keeps : ProcessOf B → Bool) → LawfulInterruptions s → LawfulInterruptions (record s { processes = filter keeps s.processes })
+pub interruptions-fewer : {B : Type 0} (s : State B) (keeps : ProcessOf B → Bool) → LawfulInterruptions s
+    → LawfulInterruptions (record s { processes = filter keeps s.processes })
 interruptions-fewer s keeps h =
     record {
       registered = h.registered;
@@ -167,7 +181,9 @@ interruptions-fewer s keeps h =
 pub all_made-fewer : {B : Type 0} (s : State B) (keeps : ProcessOf B → Bool) → AllMade s → AllMade (record s { processes = filter keeps s.processes })
 all_made-fewer s keeps h = record { targets = All-filter keeps (λ x. x.target.0 < length (calendar s).events) s.processes h.targets; members = h.members }
 
-pub interruptions-ended : {B : Type 0} (s : State B) (p : ProcId) (o : Outcome) → is_interrupt_kind (kind_at (calendar s) (event_of p)) ≡ false → AllMade s → LawfulInterruptions s → LawfulInterruptions (rest (end_process p o s))
+pub interruptions-ended : {B : Type 0} (s : State B) (p : ProcId) (o : Outcome)
+    → is_interrupt_kind (kind_at (calendar s) (event_of p)) ≡ false → AllMade s → LawfulInterruptions s
+    → LawfulInterruptions (rest (end_process p o s))
 interruptions-ended {B} s p o kinds made h =
     let keeps : ProcessOf B → Bool = λ y. not (is_process y.id p) in
     let fewer : State B = record s { processes = filter keeps s.processes } in

@@ -44,7 +44,8 @@ counted_any p [] h = absurd (false≢true h)
 counted_any p (x ∷ xs) h =
     ⊎_elim (λ a. omega (arith, count_by-cons p x xs, counts_one (p x) a)) (λ b. omega (arith, count_by-cons p x xs, counted_any p xs b)) (or_cases (p x) (list_any p xs) h)
 
-more_calls : (test : Callback → Bool) (e : EventId) (r : Registration) (rs : List Registration) → count_by test (calls_at e rs) ≤ count_by test (calls_at e (r ∷ rs))
+more_calls : (test : Callback → Bool) (e : EventId) (r : Registration) (rs : List Registration)
+    → count_by test (calls_at e rs) ≤ count_by test (calls_at e (r ∷ rs))
 more_calls test e r rs =
     let others : List Registration = filter (λ q. is_same q.event e) rs in
     cond_both (is_same r.event e) (r ∷ others) others (λ xs. count_by test (calls_at e rs) ≤ count_by test (map (λ (q : Registration). q.callback) xs))
@@ -64,7 +65,8 @@ each_counts test (r ∷ rs) =
     (λ q f h. let before : 0 < count_by test (calls_at q.event rs) = f h in omega (arith, before, more_calls test q.event r rs)) rs (each_counts test rs))
 
 -- what the events of such callbacks have, an event has that has one
-good_at : (test : Callback → Bool) (good : EventId → Bool) (e : EventId) (rs : List Registration) → AllPass (λ r. not (test r.callback) || good r.event) rs → 0 < count_by test (calls_at e rs) → good e ≡ true
+good_at : (test : Callback → Bool) (good : EventId → Bool) (e : EventId) (rs : List Registration)
+    → AllPass (λ r. not (test r.callback) || good r.event) rs → 0 < count_by test (calls_at e rs) → good e ≡ true
 good_at test good e [] h counted = absurd (omega (arith, counted))
 good_at test good e (r ∷ rs) h counted =
     let fits : Registration → Type 0 = λ q. (not (test q.callback) || good q.event) ≡ true in
@@ -77,7 +79,9 @@ good_at test good e (r ∷ rs) h counted =
     (cases_Bool (test r.callback)))
     (λ differ n. later n) counted
 
-struck : {B : Type 0} (s : State B) → LawfulInterruptions s → (e : EventId) → 0 < count_by is_strike (all_callbacks_of s.facilities.calendar s.control e) → strikes_alone s.facilities.calendar s.control e ≡ true
+struck : {B : Type 0} (s : State B) → LawfulInterruptions s → (e : EventId)
+    → 0 < count_by is_strike (all_callbacks_of s.facilities.calendar s.control e)
+    → strikes_alone s.facilities.calendar s.control e ≡ true
 struck s h e counted =
     let c : Calendar = s.facilities.calendar in
     let k : Control = s.control in
@@ -95,7 +99,8 @@ struck s h e counted =
 pub interruptions-strikes : {B : Type 0} (s : State B) → LawfulInterruptions s → StrikesAlone s.facilities.calendar s.control
 interruptions-strikes s h = record { alone = λ e counted. struck s h e counted }
 
-pub interruptions-registered : {B : Type 0} (s : State B) → StrikesAlone s.facilities.calendar s.control → AllPass (λ r. not (is_strike r.callback) || strikes_alone s.facilities.calendar s.control r.event) s.facilities.calendar.registered
+pub interruptions-registered : {B : Type 0} (s : State B) → StrikesAlone s.facilities.calendar s.control
+    → AllPass (λ r. not (is_strike r.callback) || strikes_alone s.facilities.calendar s.control r.event) s.facilities.calendar.registered
 interruptions-registered s h = λ i r below.
     let c : Calendar = s.facilities.calendar in
     let k : Control = s.control in
@@ -107,7 +112,9 @@ interruptions-registered s h = λ i r below.
     (λ b. or_left (not (is_strike q.callback)) (strikes_alone c k q.event) (not_from_false (is_strike q.callback) b))
     (cases_Bool (is_strike q.callback))
 
-pub interruptions-calling : {B : Type 0} (s : State B) → StrikesAlone s.facilities.calendar s.control → (e : EventId) → is_event_of s.control e ≡ true → (not (list_any is_strike (left_of s.control)) || strikes_alone s.facilities.calendar s.control e) ≡ true
+pub interruptions-calling : {B : Type 0} (s : State B) → StrikesAlone s.facilities.calendar s.control → (e : EventId)
+    → is_event_of s.control e ≡ true
+    → (not (list_any is_strike (left_of s.control)) || strikes_alone s.facilities.calendar s.control e) ≡ true
 interruptions-calling s h e of =
     let c : Calendar = s.facilities.calendar in
     let k : Control = s.control in
@@ -133,7 +140,9 @@ pub record AllMade {B : Type 0} (s : State B) : Type 0 where
   pub targets : All (λ x. x.target.0 < length s.facilities.calendar.events) s.processes
   pub members : (e : EventId) → list_all (was_made s.facilities.calendar) (members_of s.facilities.calendar e) ≡ true
 
-passes_after : (test : EventOf → Bool) (e f : EventId) (change : EventOf → EventOf) (c : Calendar) → test (change (event_at c e)) ≡ true → test (event_at c f) ≡ true → (f.0 ≡ e.0) ⊎ (f.0 ≢ e.0) → (f.0 < length c.events) ⊎ (length c.events ≤ f.0) → test (event_at (change_event e change c) f) ≡ true
+passes_after : (test : EventOf → Bool) (e f : EventId) (change : EventOf → EventOf) (c : Calendar)
+    → test (change (event_at c e)) ≡ true → test (event_at c f) ≡ true → (f.0 ≡ e.0) ⊎ (f.0 ≢ e.0)
+    → (f.0 < length c.events) ⊎ (length c.events ≤ f.0) → test (event_at (change_event e change c) f) ≡ true
 passes_after test e f change c new h (inr differ) made = ap test (change_event-other e f change c differ) ∙ h
 passes_after test e f change c new h (inl same) (inl made) = rw (same_event f e same) (ap test (change_event-same e change c (rw (← same) made)) ∙ new)
 passes_after test e f change c new h (inl same) (inr unmade) =
@@ -142,15 +151,18 @@ passes_after test e f change c new h (inl same) (inr unmade) =
     ap test (unmade_at d f past ∙ sym (unmade_at c f unmade)) ∙ h
 
 -- a test that a change keeps at one event is kept at all
-pub change_event-passes : (test : EventOf → Bool) (e f : EventId) (change : EventOf → EventOf) (c : Calendar) → test (change (event_at c e)) ≡ true → test (event_at c f) ≡ true → test (event_at (change_event e change c) f) ≡ true
+pub change_event-passes : (test : EventOf → Bool) (e f : EventId) (change : EventOf → EventOf) (c : Calendar)
+    → test (change (event_at c e)) ≡ true → test (event_at c f) ≡ true → test (event_at (change_event e change c) f) ≡ true
 change_event-passes test e f change c new h = passes_after test e f change c new h (cases_eq f.0 e.0) (cases_lt f.0 (length c.events))
 
 -- what all events have an event has that may not be made
-pub passes_at : (test : EventOf → Bool) (c : Calendar) (e : EventId) → test (pending_event kind.Plain) ≡ true → AllPass test c.events → test (event_at c e) ≡ true
+pub passes_at : (test : EventOf → Bool) (c : Calendar) (e : EventId) → test (pending_event kind.Plain) ≡ true
+    → AllPass test c.events → test (event_at c e) ≡ true
 passes_at test c e plain h =
     ⊎_elim (λ made. h e.0 (pending_event kind.Plain) made) (λ unmade. ap test (get_or_past c.events e.0 (pending_event kind.Plain) unmade) ∙ plain) (cases_lt e.0 (length c.events))
 
-pub list_all-both : {X : Type 0} (p q r : X → Bool) (xs : List X) → ((x : X) → p x ≡ true → q x ≡ true → r x ≡ true) → list_all p xs ≡ true → list_all q xs ≡ true → list_all r xs ≡ true
+pub list_all-both : {X : Type 0} (p q r : X → Bool) (xs : List X) → ((x : X) → p x ≡ true → q x ≡ true → r x ≡ true)
+    → list_all p xs ≡ true → list_all q xs ≡ true → list_all r xs ≡ true
 list_all-both p q r [] both h i = refl
 list_all-both p q r (x ∷ xs) both h i =
     let a = and_parts (p x) (list_all p xs) h in
@@ -192,7 +204,10 @@ hearing-made k c other =
       failed = λ f h. make-keeps is_failed_interruption k c f (rw other refl) ∙ h;
     }
 
-pub hearing-changed : (e : EventId) (change : EventOf → EventOf) (c : Calendar) → ((x : EventOf) → (change x).kind ≡ x.kind) → ((x : EventOf) → (change x).condition ≡ x.condition) → ((x : EventOf) → is_failed_interruption x ≡ true → is_failed_interruption (change x) ≡ true) → KeepsHearing c (change_event e change c)
+pub hearing-changed : (e : EventId) (change : EventOf → EventOf) (c : Calendar) → ((x : EventOf) → (change x).kind ≡ x.kind)
+    → ((x : EventOf) → (change x).condition ≡ x.condition)
+    → ((x : EventOf) → is_failed_interruption x ≡ true → is_failed_interruption (change x) ≡ true)
+    → KeepsHearing c (change_event e change c)
 hearing-changed e change c kinds conditions failed =
     record {
       longer = rw (change_event-length e change c) (omega arith);
@@ -202,7 +217,9 @@ hearing-changed e change c kinds conditions failed =
     }
 
 -- an event gets an outcome, and where it is an interruption it fails
-pub hearing-scheduled : (e : EventId) (x : Outcome) (priority : ℕ) (delay : ℤ) (c : Calendar) → is_failed_interruption (record (event_at c e) { outcome = Some x }) ≡ true → KeepsHearing c (schedule e x priority delay c)
+pub hearing-scheduled : (e : EventId) (x : Outcome) (priority : ℕ) (delay : ℤ) (c : Calendar)
+    → is_failed_interruption (record (event_at c e) { outcome = Some x }) ≡ true
+    → KeepsHearing c (schedule e x priority delay c)
 hearing-scheduled e x priority delay c fails =
     let change : EventOf → EventOf = λ y. record y { outcome = Some x } in
     record {
@@ -241,16 +258,19 @@ made_interrupt : (c : Calendar) (e : EventId) → is_interrupt_kind (kind_at c e
 made_interrupt c e h =
     ⊎_elim (λ made. made) (λ unmade. absurd (both_ways (is_interrupt_kind (kind_at c e)) (ap (λ (x : EventOf). is_interrupt_kind x.kind) (unmade_at c e unmade)) h)) (cases_lt e.0 (length c.events))
 
-pub alone_parts : (c : Calendar) (k : Control) (e : EventId) → strikes_alone c k e ≡ true → (is_interrupt_kind (kind_at c e) ≡ true) × (length (all_callbacks_of c k e) ≡ 1)
+pub alone_parts : (c : Calendar) (k : Control) (e : EventId) → strikes_alone c k e ≡ true
+    → (is_interrupt_kind (kind_at c e) ≡ true) × (length (all_callbacks_of c k e) ≡ 1)
 alone_parts c k e h =
     let parts = and_parts (is_interrupt_kind (kind_at c e)) (length (all_callbacks_of c k e) == 1) h in
     (parts.0, eqb-true (length (all_callbacks_of c k e)) 1 parts.1)
 
-pub alone_from : (c : Calendar) (k : Control) (e : EventId) → is_interrupt_kind (kind_at c e) ≡ true → length (all_callbacks_of c k e) ≡ 1 → strikes_alone c k e ≡ true
+pub alone_from : (c : Calendar) (k : Control) (e : EventId) → is_interrupt_kind (kind_at c e) ≡ true
+    → length (all_callbacks_of c k e) ≡ 1 → strikes_alone c k e ≡ true
 alone_from c k e kinds one = and_from (is_interrupt_kind (kind_at c e)) (length (all_callbacks_of c k e) == 1) kinds (eq-eqb (length (all_callbacks_of c k e)) 1 one)
 
 -- the same callbacks
-pub strikes-kept : (c : Calendar) (k : Control) (d : Calendar) (l : Control) → KeepsHearing c d → ((e : EventId) → all_callbacks_of d l e ≡ all_callbacks_of c k e) → StrikesAlone c k → StrikesAlone d l
+pub strikes-kept : (c : Calendar) (k : Control) (d : Calendar) (l : Control) → KeepsHearing c d
+    → ((e : EventId) → all_callbacks_of d l e ≡ all_callbacks_of c k e) → StrikesAlone c k → StrikesAlone d l
 strikes-kept c k d l v same h = record {
   alone = λ e counted.
       let before = alone_parts c k e (h.alone e (rw (same e) at counted)) in
@@ -258,7 +278,8 @@ strikes-kept c k d l v same h = record {
 }
 
 -- one that does not strike is registered, at an event that is no interruption
-pub strikes-registered : (e : EventId) (x : Callback) (c : Calendar) (k : Control) → is_strike x ≡ false → is_interrupt_kind (kind_at c e) ≡ false → StrikesAlone c k → StrikesAlone (register e x c) k
+pub strikes-registered : (e : EventId) (x : Callback) (c : Calendar) (k : Control) → is_strike x ≡ false
+    → is_interrupt_kind (kind_at c e) ≡ false → StrikesAlone c k → StrikesAlone (register e x c) k
 strikes-registered e x c k other kinds h =
     let d : Calendar = register e x c in
     let here : (f : EventId) → is_same e f ≡ true → 0 < count_by is_strike (all_callbacks_of d k f) → ⊥ = λ f same counted.
@@ -272,7 +293,8 @@ strikes-registered e x c k other kinds h =
     record { alone = λ f counted. ⊎_elim (λ same. absurd (here f same counted)) (λ differ. there f differ counted) (cases_Bool (is_same e f)) }
 
 -- a callback less is left to call
-pub strikes-called : (c : Calendar) (k l : Control) (x : Callback) → left_of k ≡ x ∷ left_of l → ((f : EventId) → is_event_of k f ≡ is_event_of l f) → StrikesAlone c k → StrikesAlone c l
+pub strikes-called : (c : Calendar) (k l : Control) (x : Callback) → left_of k ≡ x ∷ left_of l
+    → ((f : EventId) → is_event_of k f ≡ is_event_of l f) → StrikesAlone c k → StrikesAlone c l
 strikes-called c k l x left of h =
     let every : Callback → Bool = λ y. true in
     let sum : (f : EventId) → length (all_callbacks_of c k f) ≡ one_if (is_event_of l f && true) + length (all_callbacks_of c l f) = λ f.
@@ -293,20 +315,25 @@ pub failed_after : (c d : Calendar) → KeepsHearing c d → AllPass is_failed_i
 failed_after c d v h =
     All-from_get_or (λ x. is_failed_interruption x ≡ true) d.events (pending_event kind.Plain) (λ i below. let e : EventId = record { 0 = i } in v.failed e (passes_at is_failed_interruption c e refl h))
 
-heard_after : (c d : Calendar) → KeepsHearing c d → (o : Option ConditionOf) (x : EventOf) → list_all (was_made c) (condition_of o).members ≡ true → has_heard_members c (record x { condition = o }) ≡ true → has_heard_members d (record x { condition = o }) ≡ true
+heard_after : (c d : Calendar) → KeepsHearing c d → (o : Option ConditionOf) (x : EventOf)
+    → list_all (was_made c) (condition_of o).members ≡ true → has_heard_members c (record x { condition = o }) ≡ true
+    → has_heard_members d (record x { condition = o }) ≡ true
 heard_after c d v None x made h = refl
 heard_after c d v (Some y) x made h =
     list_all-both (was_made c) (λ e. not (is_unheard_kind (kind_at c e))) (λ e. not (is_unheard_kind (kind_at d e))) y.members
     (λ e m n. ap (λ k. not (is_unheard_kind k)) (v.kinds e (ltb-true e.0 (length c.events) m)) ∙ n) made h
 
-pub members_after : (c d : Calendar) → KeepsHearing c d → ((e : EventId) → list_all (was_made c) (members_of c e) ≡ true) → AllPass (has_heard_members c) c.events → AllPass (has_heard_members d) d.events
+pub members_after : (c d : Calendar) → KeepsHearing c d → ((e : EventId) → list_all (was_made c) (members_of c e) ≡ true)
+    → AllPass (has_heard_members c) c.events → AllPass (has_heard_members d) d.events
 members_after c d v made h =
     All-from_get_or (λ x. has_heard_members d x ≡ true) d.events (pending_event kind.Plain) (λ i below.
     let e : EventId = record { 0 = i } in
     let P : Option ConditionOf → Bool = λ o. has_heard_members d (record (event_at d e) { condition = o }) in
     ap P (v.conditions e) ∙ heard_after c d v (event_at c e).condition (event_at d e) (made e) (passes_at (has_heard_members c) c e refl h))
 
-pub interruptions-kept : {B : Type 0} (s t : State B) → t.processes ≡ s.processes → AllMade s → KeepsHearing s.facilities.calendar t.facilities.calendar → StrikesAlone t.facilities.calendar t.control → LawfulInterruptions s → LawfulInterruptions t
+pub interruptions-kept : {B : Type 0} (s t : State B) → t.processes ≡ s.processes → AllMade s
+    → KeepsHearing s.facilities.calendar t.facilities.calendar → StrikesAlone t.facilities.calendar t.control
+    → LawfulInterruptions s → LawfulInterruptions t
 interruptions-kept s t same made v strikes h =
     let c : Calendar = s.facilities.calendar in
     let d : Calendar = t.facilities.calendar in

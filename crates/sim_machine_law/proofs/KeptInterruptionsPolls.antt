@@ -27,7 +27,11 @@ pub process_no_interrupt : (k : EventKind) → is_process_kind k ≡ true → is
 process_no_interrupt kind.Interrupt h = absurd (true≢false (sym h))
 process_no_interrupt _ h = refl
 
-pub interruptions-polled_end : {B : Type 0} (g : Plan B) (tell : Telling B) (sound : B → Type 0) (s : State B) (f : CodeFacts) (e : EventId) (left : List Callback) (p : ProcId) (x : Signal) (y : ProcessOf B) (b : B) (o : Outcome) → s.control ≡ Active e left p x → process_at p s ≡ Some y → sound b → LawfulBasis g tell sound s → IsTrue (length (scopes_told (tell.scopes y.body) (tell.last y.body) x) == 0) → LawfulInterruptions (rest (end_process p o (with_body p b s)))
+pub interruptions-polled_end : {B : Type 0} (g : Plan B) (tell : Telling B) (sound : B → Type 0) (s : State B)
+    (f : CodeFacts) (e : EventId) (left : List Callback) (p : ProcId) (x : Signal) (y : ProcessOf B) (b : B) (o : Outcome)
+    → s.control ≡ Active e left p x → process_at p s ≡ Some y → sound b → LawfulBasis g tell sound s
+    → IsTrue (length (scopes_told (tell.scopes y.body) (tell.last y.body) x) == 0)
+    → LawfulInterruptions (rest (end_process p o (with_body p b s)))
 interruptions-polled_end g t sound s f e left p x y b o running found fine h closed =
     let alive = h.processes.active p (rw running (is_process-self p)) in
     let lives = alive_has s p (λ z. is_living_well s z ≡ true) h.processes.living alive in

@@ -29,7 +29,7 @@ use Rattle.sim_machine_law.proofs.EventLaws.{make-new, change_event-keeps}
 use Rattle.sim_machine_law.proofs.KeptProcessesStart.{init_of, with_init}
 use Rattle.sim_machine_law.proofs.KeptInterruptionsParts.{AllMade, all_made}
 use Rattle.sim_machine_law.proofs.KeptInterruptionsChanges.{interruptions-same, interruptions-registers, all_made-registers, interruptions-schedules, interruptions-makes, all_made-makes}
-use Rattle.sim_machine_law.proofs.LawfulBasis.{LawfulBasis}
+use Rattle.sim_machine_law.proofs.LawfulBasis.{AreNamedPending, LawfulBasis}
 
 -- ---- a process is made
 
@@ -56,8 +56,12 @@ kind_init c =
     change_event-keeps (λ x. x.kind) (init_of c) (init_of c) (λ y. record y { outcome = Some (outcome.Ok (pos 0)) }) (with_init c) (λ y. refl) ∙ ap (λ (x : EventOf). x.kind) (make-new kind.Init (make kind.Process c))
 
 -- a process more, which waits for its init event
-pub interruptions-joined : {B : Type 0} (s : State B) (b : B) → AllMade s → LawfulInterruptions s →
-    LawfulInterruptions (on_events make_events_of_process (record s { processes = s.processes ++ record { id = record { 0 = (next_event (calendar s)).0 }; body = b; target = next_event (make kind.Process (calendar s)) } ∷ [] }))
+pub interruptions-joined : {B : Type 0} (s : State B) (b : B) → AllMade s → LawfulInterruptions s
+    → LawfulInterruptions (on_events make_events_of_process
+    (record s {
+      processes = s.processes
+          ++ record { id = record { 0 = (next_event (calendar s)).0 }; body = b; target = next_event (make kind.Process (calendar s)) } ∷ [];
+    }))
 interruptions-joined {B} s b made h =
     let c : Calendar = calendar s in
     let d : Calendar = make_events_of_process c in
@@ -71,7 +75,13 @@ interruptions-joined {B} s b made h =
       members = after.members;
     }
 
-pub interruptions-made_process : {B : Type 0} (g : Plan B) (tell : Telling B) (sound : B → Type 0) (s : State B) (f : CodeFacts) (k : ℕ) (args : List ℤ) → IsTrue (nat_lt k (length f.params) && may_start (slice_index_or f.params k []) args) → IsLawfulStart f tell k args (record { 0 = (next_event (calendar s)).0 }) (g.start k args (record { 0 = (next_event (calendar s)).0 })) → sound (g.start k args (record { 0 = (next_event (calendar s)).0 })) → LawfulBasis g tell sound s → LawfulInterruptions (make_process g k args s)
+pub interruptions-made_process : {B : Type 0} (g : Plan B) (tell : Telling B) (sound : B → Type 0) (s : State B)
+    (f : CodeFacts) (k : ℕ) (args : List ℤ)
+    → IsTrue (nat_lt k (length f.params) && may_start (slice_index_or f.params k []) args)
+    → IsLawfulStart f tell k args (record { 0 = (next_event (calendar s)).0 })
+    (g.start k args (record { 0 = (next_event (calendar s)).0 }))
+    → sound (g.start k args (record { 0 = (next_event (calendar s)).0 })) → LawfulBasis g tell sound s
+    → LawfulInterruptions (make_process g k args s)
 interruptions-made_process g tell sound s f k args fits law fine h = interruptions-joined s (g.start k args (record { 0 = (next_event (calendar s)).0 })) (all_made g tell sound s h) h.interruptions
 
 -- ---- the state before any process is made
@@ -81,7 +91,8 @@ first_pass : (test : EventOf → Bool) (named : ℕ) → test event_zero ≡ tru
 first_pass test named zero_has named_has =
     All-cons (λ x. test x ≡ true) event_zero (replicate named (pending_event kind.Plain)) zero_has (All-replicate (λ x. test x ≡ true) named (pending_event kind.Plain) named_has)
 
-pub interruptions-blank : {B : Type 0} (g : Plan B) (tell : Telling B) (sound : B → Type 0) (f : CodeFacts) → FitsCode f g.setup → LawfulInterruptions (blank_state g)
+pub interruptions-blank : {B : Type 0} (g : Plan B) (tell : Telling B) (sound : B → Type 0) (f : CodeFacts)
+    → FitsCode f g.setup → LawfulInterruptions (blank_state g)
 interruptions-blank {B} g tell sound f fits =
     let s : State B = blank_state g in
     let c : Calendar = first_calendar g.setup.events in
@@ -99,7 +110,9 @@ plain_no_interrupt : (k : EventKind) → is_plain_kind k ≡ true → is_interru
 plain_no_interrupt kind.Interrupt h = absurd (true≢false (sym h))
 plain_no_interrupt _ h = refl
 
-stop_set : {B : Type 0} (g : Plan B) (tell : Telling B) (sound : B → Type 0) (s : State B) (until : Until) → IsTrue (until_fits g.setup.events until) → LawfulBasis g tell sound s → LawfulInterruptions (on_events (set_stop until) s)
+stop_set : {B : Type 0} (g : Plan B) (tell : Telling B) (sound : B → Type 0) (s : State B) (until : Until)
+    → IsTrue (until_fits g.setup.events until) → LawfulBasis g tell sound s
+    → LawfulInterruptions (on_events (set_stop until) s)
 stop_set g tell sound s until.Never fits h = interruptions-same s s refl refl refl h.interruptions
 stop_set {B} g tell sound s (until.At time) fits h =
     let c : Calendar = calendar s in
@@ -116,5 +129,9 @@ stop_set g tell sound s (until.Event e) fits h =
     let within : e.0 ≤ g.setup.events = leb-true e.0 g.setup.events (and_parts (nat_lt 0 e.0) (nat_le e.0 g.setup.events) fits).1 in
     interruptions-registers s e callback.Stop refl (plain_no_interrupt (kind_at (calendar s) e) (h.processes.named_plain e.0 within)) h.interruptions
 
-pub interruptions-set_stop : {B : Type 0} (g : Plan B) (tell : Telling B) (sound : B → Type 0) (s : State B) (until : Until) → IsTrue (until_fits g.setup.events until) → ((h : EventId) → IsTrue (nat_lt 0 h.0 && nat_le h.0 g.setup.events) → IsTrue (is_pending (calendar s) h && not (is_processed (calendar s) h))) → (calendar s).time ≡ pos 0 → s.control ≡ Idle → LawfulBasis g tell sound s → LawfulInterruptions (on_events (set_stop until) s)
+pub interruptions-set_stop : {B : Type 0} (g : Plan B) (tell : Telling B) (sound : B → Type 0) (s : State B) (until : Until)
+    → IsTrue (until_fits g.setup.events until)
+    → AreNamedPending g s
+    → (calendar s).time ≡ pos 0 → s.control ≡ Idle → LawfulBasis g tell sound s
+    → LawfulInterruptions (on_events (set_stop until) s)
 interruptions-set_stop g tell sound s until fits waits begins idle h = stop_set g tell sound s until fits h

@@ -35,10 +35,12 @@ use Rattle.sim_machine_law.proofs.KeptProcessesStart.{processes-blank, processes
 use Rattle.sim_machine_law.proofs.KeptRegistrations.{registrations-blank, registrations-made_process, registrations-polled_end, registrations-popped, registrations-resumed, registrations-set_stop, registrations-settled, registrations-stopped}
 use Rattle.sim_machine_law.proofs.KeptTimes.{times-blank, times-made_process, times-polled_end, times-popped, times-resumed, times-set_stop, times-settled, times-stopped}
 use Rattle.sim_machine_law.proofs.KeptWaitingUnits.{waiting-blank, waiting-made_process, waiting-polled_end, waiting-popped, waiting-resumed, waiting-set_stop, waiting-settled, waiting-stopped}
-use Rattle.sim_machine_law.proofs.LawfulBasis.{LawfulBasis}
+use Rattle.sim_machine_law.proofs.LawfulBasis.{AreNamedPending, LawfulBasis}
 
 -- an entry is popped
-pub lawful-popped : {B : Type 0} (g : Plan B) (tell : Telling B) (sound : B → Type 0) (s : State B) (x : Entry) → s.control ≡ Idle → due (calendar s).agenda ≡ Some x → LawfulBasis g tell sound s → LawfulBasis g tell sound (pop_entry x s)
+pub lawful-popped : {B : Type 0} (g : Plan B) (tell : Telling B) (sound : B → Type 0) (s : State B) (x : Entry)
+    → s.control ≡ Idle → due (calendar s).agenda ≡ Some x → LawfulBasis g tell sound s
+    → LawfulBasis g tell sound (pop_entry x s)
 lawful-popped g tell sound s x idle is_due h =
     record {
       times = times-popped g tell sound s x idle is_due h;
@@ -53,7 +55,9 @@ lawful-popped g tell sound s x idle is_due h =
     }
 
 -- a process is resumed
-pub lawful-resumed : {B : Type 0} (g : Plan B) (tell : Telling B) (sound : B → Type 0) (s : State B) (e : EventId) (left : List Callback) (p : ProcId) → s.control ≡ Calling e (callback.Resume p ∷ left) → LawfulBasis g tell sound s → LawfulBasis g tell sound (resume e left p s)
+pub lawful-resumed : {B : Type 0} (g : Plan B) (tell : Telling B) (sound : B → Type 0) (s : State B) (e : EventId)
+    (left : List Callback) (p : ProcId) → s.control ≡ Calling e (callback.Resume p ∷ left) → LawfulBasis g tell sound s
+    → LawfulBasis g tell sound (resume e left p s)
 lawful-resumed g tell sound s e left p calling h =
     record {
       times = times-resumed g tell sound s e left p calling h;
@@ -68,7 +72,9 @@ lawful-resumed g tell sound s e left p calling h =
     }
 
 -- an event stops the run
-pub lawful-stopped : {B : Type 0} (g : Plan B) (tell : Telling B) (sound : B → Type 0) (s : State B) (e : EventId) (left : List Callback) → s.control ≡ Calling e (callback.Stop ∷ left) → LawfulBasis g tell sound s → LawfulBasis g tell sound (call g e callback.Stop left s)
+pub lawful-stopped : {B : Type 0} (g : Plan B) (tell : Telling B) (sound : B → Type 0) (s : State B) (e : EventId)
+    (left : List Callback) → s.control ≡ Calling e (callback.Stop ∷ left) → LawfulBasis g tell sound s
+    → LawfulBasis g tell sound (call g e callback.Stop left s)
 lawful-stopped g tell sound s e left calling h =
     record {
       times = times-stopped g tell sound s e left calling h;
@@ -83,7 +89,8 @@ lawful-stopped g tell sound s e left calling h =
     }
 
 -- an event is settled
-pub lawful-settled : {B : Type 0} (g : Plan B) (tell : Telling B) (sound : B → Type 0) (s : State B) (e : EventId) → s.control ≡ Calling e [] → LawfulBasis g tell sound s → LawfulBasis g tell sound (settle e s)
+pub lawful-settled : {B : Type 0} (g : Plan B) (tell : Telling B) (sound : B → Type 0) (s : State B) (e : EventId)
+    → s.control ≡ Calling e [] → LawfulBasis g tell sound s → LawfulBasis g tell sound (settle e s)
 lawful-settled g tell sound s e calling h =
     record {
       times = times-settled g tell sound s e calling h;
@@ -98,7 +105,11 @@ lawful-settled g tell sound s e calling h =
     }
 
 -- the active process ends, with no scope open
-pub lawful-polled_end : {B : Type 0} (g : Plan B) (tell : Telling B) (sound : B → Type 0) (s : State B) (f : CodeFacts) (e : EventId) (left : List Callback) (p : ProcId) (x : Signal) (y : ProcessOf B) (b : B) (o : Outcome) → s.control ≡ Active e left p x → process_at p s ≡ Some y → sound b → LawfulBasis g tell sound s → IsTrue (length (scopes_told (tell.scopes y.body) (tell.last y.body) x) == 0) → LawfulBasis g tell sound (rest (end_process p o (with_body p b s)))
+pub lawful-polled_end : {B : Type 0} (g : Plan B) (tell : Telling B) (sound : B → Type 0) (s : State B) (f : CodeFacts)
+    (e : EventId) (left : List Callback) (p : ProcId) (x : Signal) (y : ProcessOf B) (b : B) (o : Outcome)
+    → s.control ≡ Active e left p x → process_at p s ≡ Some y → sound b → LawfulBasis g tell sound s
+    → IsTrue (length (scopes_told (tell.scopes y.body) (tell.last y.body) x) == 0)
+    → LawfulBasis g tell sound (rest (end_process p o (with_body p b s)))
 lawful-polled_end g tell sound s f e left p x y b o active found sb h no_scopes =
     record {
       times = times-polled_end g tell sound s f e left p x y b o active found sb h no_scopes;
@@ -113,7 +124,13 @@ lawful-polled_end g tell sound s f e left p x y b o active found sb h no_scopes 
     }
 
 -- a process is made, whose places fit as it begins
-pub lawful-made_process : {B : Type 0} (g : Plan B) (tell : Telling B) (sound : B → Type 0) (s : State B) (f : CodeFacts) (k : ℕ) (args : List ℤ) → IsTrue (may_begin f k args) → IsLawfulStart f tell k args (record { 0 = (next_event (calendar s)).0 }) (g.start k args (record { 0 = (next_event (calendar s)).0 })) → IsTrue (list_all (place_fits (calendar s)) (tell.places (g.start k args (record { 0 = (next_event (calendar s)).0 })))) → sound (g.start k args (record { 0 = (next_event (calendar s)).0 })) → LawfulBasis g tell sound s → LawfulBasis g tell sound (make_process g k args s)
+pub lawful-made_process : {B : Type 0} (g : Plan B) (tell : Telling B) (sound : B → Type 0) (s : State B) (f : CodeFacts)
+    (k : ℕ) (args : List ℤ) → IsTrue (may_begin f k args)
+    → IsLawfulStart f tell k args (record { 0 = (next_event (calendar s)).0 })
+    (g.start k args (record { 0 = (next_event (calendar s)).0 }))
+    → IsTrue (list_all (place_fits (calendar s)) (tell.places (g.start k args (record { 0 = (next_event (calendar s)).0 }))))
+    → sound (g.start k args (record { 0 = (next_event (calendar s)).0 })) → LawfulBasis g tell sound s
+    → LawfulBasis g tell sound (make_process g k args s)
 lawful-made_process g tell sound s f k args may start placed sb h =
     record {
       times = times-made_process g tell sound s f k args may start sb h;
@@ -128,7 +145,8 @@ lawful-made_process g tell sound s f k args may start placed sb h =
     }
 
 -- no process was made
-pub lawful-blank : {B : Type 0} (g : Plan B) (tell : Telling B) (sound : B → Type 0) (f : CodeFacts) → FitsCode f g.setup → LawfulBasis g tell sound (blank_state g)
+pub lawful-blank : {B : Type 0} (g : Plan B) (tell : Telling B) (sound : B → Type 0) (f : CodeFacts) → FitsCode f g.setup
+    → LawfulBasis g tell sound (blank_state g)
 lawful-blank g tell sound f fits =
     record {
       times = times-blank g tell sound f fits;
@@ -143,7 +161,11 @@ lawful-blank g tell sound f fits =
     }
 
 -- what is to stop the run is set
-pub lawful-set_stop : {B : Type 0} (g : Plan B) (tell : Telling B) (sound : B → Type 0) (s : State B) (until : Until) → IsTrue (until_fits g.setup.events until) → ((h : EventId) → IsTrue (nat_lt 0 h.0 && nat_le h.0 g.setup.events) → IsTrue (is_pending (calendar s) h && not (is_processed (calendar s) h))) → (calendar s).time ≡ pos 0 → s.control ≡ Idle → LawfulBasis g tell sound s → LawfulBasis g tell sound (on_events (set_stop until) s)
+pub lawful-set_stop : {B : Type 0} (g : Plan B) (tell : Telling B) (sound : B → Type 0) (s : State B) (until : Until)
+    → IsTrue (until_fits g.setup.events until)
+    → AreNamedPending g s
+    → (calendar s).time ≡ pos 0 → s.control ≡ Idle → LawfulBasis g tell sound s
+    → LawfulBasis g tell sound (on_events (set_stop until) s)
 lawful-set_stop g tell sound s until fits named start idle h =
     record {
       times = times-set_stop g tell sound s until fits named start idle h;

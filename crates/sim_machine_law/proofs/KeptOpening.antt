@@ -26,11 +26,15 @@ pub record OpensLawfully {B : Type 0} (g : Plan B) (tell : Telling B) (sound : B
   pub opens : Opens g s
 
 -- no process was made
-pub blank_lawful : {B : Type 0} (f : CodeFacts) (tell : Telling B) (sound : B → Type 0) (g : Plan B) → FitsCode f g.setup → OpensLawfully g tell sound (blank_state g)
+pub blank_lawful : {B : Type 0} (f : CodeFacts) (tell : Telling B) (sound : B → Type 0) (g : Plan B) → FitsCode f g.setup
+    → OpensLawfully g tell sound (blank_state g)
 blank_lawful f tell sound g fits = record { lawful = lawful-blank g tell sound f fits; opens = blank_opens g }
 
 -- one process more is started
-pub started_lawful : {B : Type 0} (f : CodeFacts) (tell : Telling B) (sound : B → Type 0) (g : Plan B) (turn : B → ℤ → Signal → Op → B → Type 0) (s : State B) (x : Start) → IsLawfulBody f tell sound g.start turn → FitsCode f g.setup → IsTrue (start_fits f x) → OpensLawfully g tell sound s → OpensLawfully g tell sound (start_process g s x)
+pub started_lawful : {B : Type 0} (f : CodeFacts) (tell : Telling B) (sound : B → Type 0) (g : Plan B)
+    (turn : B → ℤ → Signal → Op → B → Type 0) (s : State B) (x : Start) → IsLawfulBody f tell sound g.start turn
+    → FitsCode f g.setup → IsTrue (start_fits f x) → OpensLawfully g tell sound s
+    → OpensLawfully g tell sound (start_process g s x)
 started_lawful f tell sound g turn s x law fits start h =
     let p : ProcId = record { 0 = (next_event (calendar s)).0 } in
     let may : IsTrue (may_begin f x.kind x.args) = start_fits_starts f x start in
@@ -43,18 +47,24 @@ started_lawful f tell sound g turn s x law fits start h =
     }
 
 -- any number of processes are started
-pub all_started_lawful : {B : Type 0} (f : CodeFacts) (tell : Telling B) (sound : B → Type 0) (g : Plan B) (turn : B → ℤ → Signal → Op → B → Type 0) (s : State B) (xs : List Start) → IsLawfulBody f tell sound g.start turn → FitsCode f g.setup → AllPass (start_fits f) xs → OpensLawfully g tell sound s → OpensLawfully g tell sound (fold (start_process g) s xs)
+pub all_started_lawful : {B : Type 0} (f : CodeFacts) (tell : Telling B) (sound : B → Type 0) (g : Plan B)
+    (turn : B → ℤ → Signal → Op → B → Type 0) (s : State B) (xs : List Start) → IsLawfulBody f tell sound g.start turn
+    → FitsCode f g.setup → AllPass (start_fits f) xs → OpensLawfully g tell sound s
+    → OpensLawfully g tell sound (fold (start_process g) s xs)
 all_started_lawful f tell sound g turn s [] law fits starts h = h
 all_started_lawful f tell sound g turn s (x ∷ xs) law fits starts h =
     let P : Start → Type 0 = λ y. start_fits f y ≡ true in
     all_started_lawful f tell sound g turn (start_process g s x) xs law fits (All-tail P x xs starts) (started_lawful f tell sound g turn s x law fits (All-head P x xs starts) h)
 
 -- once all that run from the start are started, what is to stop the run is set
-pub stop_lawful : {B : Type 0} (f : CodeFacts) (tell : Telling B) (sound : B → Type 0) (g : Plan B) (s : State B) → FitsCode f g.setup → OpensLawfully g tell sound s → LawfulBasis g tell sound (on_events (set_stop g.setup.until) s)
+pub stop_lawful : {B : Type 0} (f : CodeFacts) (tell : Telling B) (sound : B → Type 0) (g : Plan B) (s : State B)
+    → FitsCode f g.setup → OpensLawfully g tell sound s → LawfulBasis g tell sound (on_events (set_stop g.setup.until) s)
 stop_lawful f tell sound g s fits h =
     let P : ℕ → Type 0 = λ n. IsTrue (until_fits n g.setup.until) in
     lawful-set_stop g tell sound s g.setup.until (subst P (sym fits.events) fits.until) h.opens.named h.opens.time h.opens.idle h.lawful
 
-pub opening_lawful : {B : Type 0} (f : CodeFacts) (tell : Telling B) (sound : B → Type 0) (g : Plan B) (turn : B → ℤ → Signal → Op → B → Type 0) → IsLawfulBody f tell sound g.start turn → FitsCode f g.setup → LawfulBasis g tell sound (opening g)
+pub opening_lawful : {B : Type 0} (f : CodeFacts) (tell : Telling B) (sound : B → Type 0) (g : Plan B)
+    (turn : B → ℤ → Signal → Op → B → Type 0) → IsLawfulBody f tell sound g.start turn → FitsCode f g.setup
+    → LawfulBasis g tell sound (opening g)
 opening_lawful f tell sound g turn law fits =
     stop_lawful f tell sound g (fold (start_process g) (blank_state g) g.setup.starts) fits (all_started_lawful f tell sound g turn (blank_state g) g.setup.starts law fits fits.starts (blank_lawful f tell sound g fits))

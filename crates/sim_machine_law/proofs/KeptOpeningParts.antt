@@ -20,7 +20,8 @@ use Rattle.sim_machine_law.proofs.KeptLawful.{lawful-made_process}
 use Rattle.sim_machine_law.proofs.LawfulBasis.{LawfulBasis}
 
 -- what is drawn and what is written change nothing else
-pub lawful_noted : {B : Type 0} (g : Plan B) (tell : Telling B) (sound : B → Type 0) (s : State B) (drawn : ℕ) (lines : List Line) → LawfulBasis g tell sound s → LawfulBasis g tell sound (record s { drawn = drawn; lines = lines })
+pub lawful_noted : {B : Type 0} (g : Plan B) (tell : Telling B) (sound : B → Type 0) (s : State B) (drawn : ℕ)
+    (lines : List Line) → LawfulBasis g tell sound s → LawfulBasis g tell sound (record s { drawn = drawn; lines = lines })
 lawful_noted g tell sound s drawn lines h =
     record {
       times = h.times;
@@ -58,7 +59,10 @@ lawful_noted g tell sound s drawn lines h =
     }
 
 -- a value comes in by a port
-pub lawful-arrived : {B : Type 0} (f : CodeFacts) (tell : Telling B) (sound : B → Type 0) (g : Plan B) (turn : B → ℤ → Signal → Op → B → Type 0) (s : State B) (port : ℕ) (value : ℤ) → IsLawfulBody f tell sound g.start turn → FitsCode f g.setup → port < length g.setup.ports → LawfulBasis g tell sound s → LawfulBasis g tell sound (arrive g port value s)
+pub lawful-arrived : {B : Type 0} (f : CodeFacts) (tell : Telling B) (sound : B → Type 0) (g : Plan B)
+    (turn : B → ℤ → Signal → Op → B → Type 0) (s : State B) (port : ℕ) (value : ℤ) → IsLawfulBody f tell sound g.start turn
+    → FitsCode f g.setup → port < length g.setup.ports → LawfulBasis g tell sound s
+    → LawfulBasis g tell sound (arrive g port value s)
 lawful-arrived {B} f tell sound g turn s port value law fits below h =
     let k : ℕ = slice_index_or g.setup.ports port 0 in
     let p : ProcId = record { 0 = (next_event (calendar s)).0 } in

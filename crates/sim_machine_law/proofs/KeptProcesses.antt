@@ -40,18 +40,23 @@ living-popped x c =
     let done : EventOf → EventOf = λ y. record y { processed = true } in
     living-events c (change_event x.event done c) (popped x c) refl (living-changed x.event done c (λ y. refl) (λ y. refl) (λ y h. refl))
 
-pub processes-popped : {B : Type 0} (g : Plan B) (tell : Telling B) (sound : B → Type 0) (s : State B) (x : Entry) → s.control ≡ Idle → due (calendar s).agenda ≡ Some x → LawfulBasis g tell sound s → LawfulProcesses g.setup.events (pop_entry x s)
+pub processes-popped : {B : Type 0} (g : Plan B) (tell : Telling B) (sound : B → Type 0) (s : State B) (x : Entry)
+    → s.control ≡ Idle → due (calendar s).agenda ≡ Some x → LawfulBasis g tell sound s
+    → LawfulProcesses g.setup.events (pop_entry x s)
 processes-popped g tell sound s x idle found h =
     processes-kept g.setup.events s (pop_entry x s) refl (living-popped x (calendar s)) (rw idle (resumes-popped x (calendar s))) h.processes
 
 -- ---- a call
 
 -- a change of the events alone
-pub processes-events : {B : Type 0} (named : ℕ) (s : State B) (change : Calendar → Calendar) → KeepsLiving (calendar s) (change (calendar s)) → KeepsResumes (calendar s) s.control (change (calendar s)) s.control → LawfulProcesses named s → LawfulProcesses named (on_events change s)
+pub processes-events : {B : Type 0} (named : ℕ) (s : State B) (change : Calendar → Calendar)
+    → KeepsLiving (calendar s) (change (calendar s)) → KeepsResumes (calendar s) s.control (change (calendar s)) s.control
+    → LawfulProcesses named s → LawfulProcesses named (on_events change s)
 processes-events named s change v r h = processes-kept named s (on_events change s) refl v r h
 
 -- a change of the control alone
-pub processes-control : {B : Type 0} (named : ℕ) (s : State B) (l : Control) → KeepsResumes (calendar s) s.control (calendar s) l → LawfulProcesses named s → LawfulProcesses named (control_to l s)
+pub processes-control : {B : Type 0} (named : ℕ) (s : State B) (l : Control)
+    → KeepsResumes (calendar s) s.control (calendar s) l → LawfulProcesses named s → LawfulProcesses named (control_to l s)
 processes-control named s l r h = processes-kept named s (control_to l s) refl (living-same (calendar s)) r h
 
 living-defused : (e : EventId) (c : Calendar) → KeepsLiving c (defuse_failed e c)
@@ -69,14 +74,17 @@ processes-defused named s e h =
     processes-events named s (defuse_failed e) (living-defused e c) (resumes-same c s.control (defuse_failed e c) s.control (registered-defused e c) refl (λ f. refl) (λ p. refl)) h
 
 -- a live process that is found, and what holds of all
-pub alive_has : {B : Type 0} (s : State B) (p : ProcId) (P : ProcessOf B → Type 0) → All P s.processes → is_alive p s ≡ true → (x : ProcessOf B) × (x.id ≡ p) × P x
+pub alive_has : {B : Type 0} (s : State B) (p : ProcId) (P : ProcessOf B → Type 0) → All P s.processes → is_alive p s ≡ true
+    → (x : ProcessOf B) × (x.id ≡ p) × P x
 alive_has s p P h a =
     let found = Any-from_list_any (λ (x : ProcessOf _). is_process x.id p) s.processes a in
     let x = found.1 in
     (x, is_process-yes x.id p found.4, subst P found.3 (h found.0 x found.2))
 
 -- the process that an event resumes is active, and no other callback resumes it
-pub processes-activated : {B : Type 0} (named : ℕ) (s : State B) (e : EventId) (left : List Callback) (p : ProcId) (y : Signal) → s.control ≡ Calling e (callback.Resume p ∷ left) → LawfulProcesses named s → LawfulProcesses named (control_to (Active e left p y) s)
+pub processes-activated : {B : Type 0} (named : ℕ) (s : State B) (e : EventId) (left : List Callback) (p : ProcId)
+    (y : Signal) → s.control ≡ Calling e (callback.Resume p ∷ left) → LawfulProcesses named s
+    → LawfulProcesses named (control_to (Active e left p y) s)
 processes-activated {B} named s e left p y calling h =
     let c : Calendar = calendar s in
     let l : Control = Active e left p y in
@@ -112,18 +120,23 @@ processes-activated {B} named s e left p y calling h =
       zero_ok = h.zero_ok;
     }
 
-pub processes-resumed : {B : Type 0} (g : Plan B) (tell : Telling B) (sound : B → Type 0) (s : State B) (e : EventId) (left : List Callback) (p : ProcId) → s.control ≡ Calling e (callback.Resume p ∷ left) → LawfulBasis g tell sound s → LawfulProcesses g.setup.events (resume e left p s)
+pub processes-resumed : {B : Type 0} (g : Plan B) (tell : Telling B) (sound : B → Type 0) (s : State B) (e : EventId)
+    (left : List Callback) (p : ProcId) → s.control ≡ Calling e (callback.Resume p ∷ left) → LawfulBasis g tell sound s
+    → LawfulProcesses g.setup.events (resume e left p s)
 processes-resumed g tell sound s e left p calling h =
     processes-activated g.setup.events (on_events (defuse_failed e) s) e left p (signal_by (event_at (calendar s) e).kind (event_at (calendar s) e).outcome) calling (processes-defused g.setup.events s e h.processes)
 
-pub processes-stopped : {B : Type 0} (g : Plan B) (tell : Telling B) (sound : B → Type 0) (s : State B) (e : EventId) (left : List Callback) → s.control ≡ Calling e (callback.Stop ∷ left) → LawfulBasis g tell sound s → LawfulProcesses g.setup.events (call g e callback.Stop left s)
+pub processes-stopped : {B : Type 0} (g : Plan B) (tell : Telling B) (sound : B → Type 0) (s : State B) (e : EventId)
+    (left : List Callback) → s.control ≡ Calling e (callback.Stop ∷ left) → LawfulBasis g tell sound s
+    → LawfulProcesses g.setup.events (call g e callback.Stop left s)
 processes-stopped g tell sound s e left calling h =
     let l : Control = Over (end_at e s) e left in
     processes-control g.setup.events s l (resumes-called (calendar s) s.control l callback.Stop (rw calling refl) (λ f. rw calling refl) (λ p. rw calling refl) (λ p. refl)) h.processes
 
 -- ---- the settling
 
-pub processes-settled : {B : Type 0} (g : Plan B) (tell : Telling B) (sound : B → Type 0) (s : State B) (e : EventId) → s.control ≡ Calling e [] → LawfulBasis g tell sound s → LawfulProcesses g.setup.events (settle e s)
+pub processes-settled : {B : Type 0} (g : Plan B) (tell : Telling B) (sound : B → Type 0) (s : State B) (e : EventId)
+    → s.control ≡ Calling e [] → LawfulBasis g tell sound s → LawfulProcesses g.setup.events (settle e s)
 processes-settled g tell sound s e calling h =
     let over : Control = Over end.Crash e [] in
     let l : Control = if is_crash e s then over else Idle in

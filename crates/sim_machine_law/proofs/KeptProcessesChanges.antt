@@ -41,14 +41,18 @@ list_any-map p q f (x ∷ xs) h = rw (h x, list_any-map p q f xs h) refl
 abbrev pub KeepsNumbers : {B : Type 0} → (ProcessOf B → ProcessOf B) → Type 0
 KeepsNumbers {B} f = (x : ProcessOf B) → (f x).id ≡ x.id
 
-pub alive-mapped : {B : Type 0} (f : ProcessOf B → ProcessOf B) (p : ProcId) (xs : List (ProcessOf B)) → KeepsNumbers f → list_any (λ (x : ProcessOf B). is_process x.id p) (map f xs) ≡ list_any (λ (x : ProcessOf B). is_process x.id p) xs
+pub alive-mapped : {B : Type 0} (f : ProcessOf B → ProcessOf B) (p : ProcId) (xs : List (ProcessOf B)) → KeepsNumbers f
+    → list_any (λ (x : ProcessOf B). is_process x.id p) (map f xs) ≡ list_any (λ (x : ProcessOf B). is_process x.id p) xs
 alive-mapped {B} f p xs keeps = list_any-map (λ (x : ProcessOf B). is_process x.id p) (λ (x : ProcessOf B). is_process x.id p) f xs (λ x. ap (λ i. is_process i p) (keeps x))
 
-pub distinct-mapped : {B : Type 0} (f : ProcessOf B → ProcessOf B) (xs : List (ProcessOf B)) → KeepsNumbers f → AllPairs (λ (x y : ProcessOf B). x.id ≢ y.id) xs → AllPairs (λ (x y : ProcessOf B). x.id ≢ y.id) (map f xs)
+pub distinct-mapped : {B : Type 0} (f : ProcessOf B → ProcessOf B) (xs : List (ProcessOf B)) → KeepsNumbers f
+    → AllPairs (λ (x y : ProcessOf B). x.id ≢ y.id) xs → AllPairs (λ (x y : ProcessOf B). x.id ≢ y.id) (map f xs)
 distinct-mapped {B} f xs keeps h = AllPairs-map (λ (x y : ProcessOf B). x.id ≢ y.id) f xs (λ i j d before below. λ same. h i j d before below (sym (keeps (get_or xs i d)) ∙ (same ∙ keeps (get_or xs j d))))
 
 -- what changes neither their numbers nor what they wait for
-pub processes-mapped : {B : Type 0} (named : ℕ) (s : State B) (f : ProcessOf B → ProcessOf B) → KeepsNumbers f → ((x : ProcessOf B) → (f x).target ≡ x.target) → LawfulProcesses named s → LawfulProcesses named (record s { processes = map f s.processes })
+pub processes-mapped : {B : Type 0} (named : ℕ) (s : State B) (f : ProcessOf B → ProcessOf B) → KeepsNumbers f
+    → ((x : ProcessOf B) → (f x).target ≡ x.target) → LawfulProcesses named s
+    → LawfulProcesses named (record s { processes = map f s.processes })
 processes-mapped {B} named s f keeps targets h =
     let t : State B = record s { processes = map f s.processes } in
     record {
@@ -74,7 +78,9 @@ processes-bodies {B} named s p b h =
 -- ---- a process goes on
 
 -- a state with the same events, control and processes
-pub processes-same : {B : Type 0} (named : ℕ) (s t : State B) → t.processes ≡ s.processes → t.facilities.calendar ≡ s.facilities.calendar → t.control ≡ s.control → LawfulProcesses named s → LawfulProcesses named t
+pub processes-same : {B : Type 0} (named : ℕ) (s t : State B) → t.processes ≡ s.processes
+    → t.facilities.calendar ≡ s.facilities.calendar → t.control ≡ s.control → LawfulProcesses named s
+    → LawfulProcesses named t
 processes-same named s t processes events control h =
     let c = s.facilities.calendar in
     processes-kept named s t processes (rw events (living-same c)) (rw (events, control) (resumes-same c s.control c s.control refl refl (λ f. refl) (λ p. refl))) h
@@ -99,14 +105,18 @@ processes-makes named s k h =
     processes-events named s (make k) (living-made k c) (resumes-same c s.control (make k c) s.control refl refl (λ f. refl) (λ p. refl)) h
 
 -- one that is no process's and not event 0
-pub processes-schedules : {B : Type 0} (named : ℕ) (s : State B) (e : EventId) (x : Outcome) (priority : ℕ) (delay : ℤ) → is_process_kind (kind_at (calendar s) e) ≡ false → e.0 ≢ 0 → LawfulProcesses named s → LawfulProcesses named (on_events (schedule e x priority delay) s)
+pub processes-schedules : {B : Type 0} (named : ℕ) (s : State B) (e : EventId) (x : Outcome) (priority : ℕ) (delay : ℤ)
+    → is_process_kind (kind_at (calendar s) e) ≡ false → e.0 ≢ 0 → LawfulProcesses named s
+    → LawfulProcesses named (on_events (schedule e x priority delay) s)
 processes-schedules named s e x priority delay other nonzero h =
     let c : Calendar = calendar s in
     let d : Calendar = schedule e x priority delay c in
     processes-events named s (schedule e x priority delay) (living-scheduled e x priority delay c other nonzero) (resumes-same c s.control d s.control refl refl (λ f. refl) (λ p. refl)) h
 
 -- a callback that resumes nobody
-pub processes-registers : {B : Type 0} (named : ℕ) (s : State B) (e : EventId) (x : Callback) → ((p : ProcId) → is_resume_of p x ≡ false) → LawfulProcesses named s → LawfulProcesses named (on_events (register e x) s)
+pub processes-registers : {B : Type 0} (named : ℕ) (s : State B) (e : EventId) (x : Callback)
+    → ((p : ProcId) → is_resume_of p x ≡ false) → LawfulProcesses named s
+    → LawfulProcesses named (on_events (register e x) s)
 processes-registers named s e x others h =
     let c : Calendar = calendar s in
     processes-events named s (register e x) (living-events c c (register e x c) refl (living-same c)) (resumes-registered e x c s.control others) h
@@ -124,7 +134,9 @@ abbrev pub waiting_for : {B : Type 0} → EventId → ProcId → State B → Sta
 waiting_for e p s = rest (change_process p (λ x. record x { target = e }) (on_events (register e (callback.Resume p)) s))
 
 -- the process that was active is resumed by what it waits for, and all others as before
-pub processes-waits : {B : Type 0} (named : ℕ) (s : State B) (e : EventId) (p : ProcId) → ((q : ProcId) → is_active s.control q ≡ is_process p q) → e.0 < length (calendar s).events → LawfulProcesses named s → LawfulProcesses named (waiting_for e p s)
+pub processes-waits : {B : Type 0} (named : ℕ) (s : State B) (e : EventId) (p : ProcId)
+    → ((q : ProcId) → is_active s.control q ≡ is_process p q) → e.0 < length (calendar s).events → LawfulProcesses named s
+    → LawfulProcesses named (waiting_for e p s)
 processes-waits {B} named s e p runs made h =
     let c : Calendar = calendar s in
     let d : Calendar = register e (callback.Resume p) c in
@@ -174,7 +186,9 @@ processes-waits {B} named s e p runs made h =
     }
 
 -- at an event that is processed it goes on
-pub processes-wait : {B : Type 0} (named : ℕ) (s : State B) (e : EventId) (p : ProcId) → ((q : ProcId) → is_active s.control q ≡ is_process p q) → e.0 < length (calendar s).events → LawfulProcesses named s → LawfulProcesses named (wait e p s)
+pub processes-wait : {B : Type 0} (named : ℕ) (s : State B) (e : EventId) (p : ProcId)
+    → ((q : ProcId) → is_active s.control q ≡ is_process p q) → e.0 < length (calendar s).events → LawfulProcesses named s
+    → LawfulProcesses named (wait e p s)
 processes-wait {B} named s e p runs made h =
     let told : Signal = signal_of (event_at (calendar s) e).outcome in
     let s_defused : State B = on_events (defuse_failed e) s in
@@ -189,7 +203,8 @@ is_numbered q x = is_process x.id q
 abbrev all_but : {B : Type 0} → ProcId → List (ProcessOf B) → List (ProcessOf B)
 all_but p xs = filter (λ y. not (is_process y.id p)) xs
 
-alive_filtered : {B : Type 0} (p q : ProcId) (xs : List (ProcessOf B)) → is_process q p ≡ false → list_any (is_numbered q) xs ≡ true → list_any (is_numbered q) (all_but p xs) ≡ true
+alive_filtered : {B : Type 0} (p q : ProcId) (xs : List (ProcessOf B)) → is_process q p ≡ false
+    → list_any (is_numbered q) xs ≡ true → list_any (is_numbered q) (all_but p xs) ≡ true
 alive_filtered p q [] differ h = h
 alive_filtered {B} p q (x ∷ xs) differ h =
     cond_both (not (is_process x.id p)) (x ∷ all_but p xs) (all_but p xs) (λ ys. list_any (is_numbered q) ys ≡ true)
@@ -197,7 +212,9 @@ alive_filtered {B} p q (x ∷ xs) differ h =
     (λ gone. ⊎_elim (λ a. absurd (both_ways (is_process q p) differ (subst (λ r. is_process r p ≡ true) (is_process-yes x.id q a) (not-false (is_process x.id p) gone)))) (λ b. alive_filtered p q xs differ b) (or_cases (is_process x.id q) (list_any (is_numbered q) xs) h))
 
 -- the process that was active has ended, and its event is triggered
-pub processes-ended : {B : Type 0} (named : ℕ) (s : State B) (p : ProcId) (o : Outcome) → ((q : ProcId) → is_active s.control q ≡ is_process p q) → LawfulProcesses named s → LawfulProcesses named (rest (end_process p o s))
+pub processes-ended : {B : Type 0} (named : ℕ) (s : State B) (p : ProcId) (o : Outcome)
+    → ((q : ProcId) → is_active s.control q ≡ is_process p q) → LawfulProcesses named s
+    → LawfulProcesses named (rest (end_process p o s))
 processes-ended {B} named s p o runs h =
     let c : Calendar = calendar s in
     let d : Calendar = trigger (event_of p) o c in

@@ -90,7 +90,9 @@ lives_on c d p target v h =
       kind = ap is_process_kind (v.kinds (event_of p) h.made) ∙ h.kind;
     }
 
-pub named_plain_on : (named : ℕ) (c d : Calendar) → KeepsLiving c d → named < length c.events → ((n : ℕ) → n ≤ named → is_plain_kind (kind_at c (record { 0 = n })) ≡ true) → (n : ℕ) → n ≤ named → is_plain_kind (kind_at d (record { 0 = n })) ≡ true
+pub named_plain_on : (named : ℕ) (c d : Calendar) → KeepsLiving c d → named < length c.events
+    → ((n : ℕ) → n ≤ named → is_plain_kind (kind_at c (record { 0 = n })) ≡ true) → (n : ℕ) → n ≤ named
+    → is_plain_kind (kind_at d (record { 0 = n })) ≡ true
 named_plain_on named c d v made h n low =
     let e : EventId = record { 0 = n } in
     ap is_plain_kind (v.kinds e (omega (arith, made, low))) ∙ h n low
@@ -108,7 +110,8 @@ waits_parts a m i p h =
 waits_again : (a : Bool) (m i : ℕ) → m ≡ 1 → i ≡ 1 → (a || (m == 1) && (i == 1)) ≡ true
 waits_again a m i p q = or_right a ((m == 1) && (i == 1)) (rw (p, q) refl)
 
-pub waits_once : {B : Type 0} (s : State B) (x : ProcessOf B) → is_active s.control x.id ≡ false → is_waiting_well s x ≡ true → WaitsOnce s.facilities.calendar s.control x.id x.target
+pub waits_once : {B : Type 0} (s : State B) (x : ProcessOf B) → is_active s.control x.id ≡ false → is_waiting_well s x ≡ true
+    → WaitsOnce s.facilities.calendar s.control x.id x.target
 waits_once s x rests h =
     let c = s.facilities.calendar in
     let parts = waits_parts (is_active s.control x.id) (callbacks_in_all (is_resume_of x.id) c s.control) (count_by (is_resume_of x.id) (all_callbacks_of c s.control x.target)) rests h in
@@ -128,7 +131,10 @@ waits_from : (a b : Bool) (m n i j : ℕ) → b ≡ a → n ≡ m → j ≡ i �
 waits_from a b m n i j p q r h = rw (p, q, r) h
 
 -- a lawful state stays so, where its processes are the same ones
-pub processes-kept : {B : Type 0} (named : ℕ) (s t : State B) → t.processes ≡ s.processes → KeepsLiving s.facilities.calendar t.facilities.calendar → KeepsResumes s.facilities.calendar s.control t.facilities.calendar t.control → LawfulProcesses named s → LawfulProcesses named t
+pub processes-kept : {B : Type 0} (named : ℕ) (s t : State B) → t.processes ≡ s.processes
+    → KeepsLiving s.facilities.calendar t.facilities.calendar
+    → KeepsResumes s.facilities.calendar s.control t.facilities.calendar t.control → LawfulProcesses named s
+    → LawfulProcesses named t
 processes-kept named s t same v r h =
     let c = s.facilities.calendar in
     let d = t.facilities.calendar in
@@ -153,7 +159,9 @@ processes-kept named s t same v r h =
 pub unmade_at : (c : Calendar) (f : EventId) → length c.events ≤ f.0 → event_at c f ≡ pending_event kind.Plain
 unmade_at c f h = get_or_past c.events f.0 (pending_event kind.Plain) h
 
-holds_after : (test : EventOf → Bool) (e f : EventId) (change : EventOf → EventOf) (c : Calendar) → ((x : EventOf) → test x ≡ true → test (change x) ≡ true) → test (event_at c f) ≡ true → (f.0 ≡ e.0) ⊎ (f.0 ≢ e.0) → (f.0 < length c.events) ⊎ (length c.events ≤ f.0) → test (event_at (change_event e change c) f) ≡ true
+holds_after : (test : EventOf → Bool) (e f : EventId) (change : EventOf → EventOf) (c : Calendar)
+    → ((x : EventOf) → test x ≡ true → test (change x) ≡ true) → test (event_at c f) ≡ true → (f.0 ≡ e.0) ⊎ (f.0 ≢ e.0)
+    → (f.0 < length c.events) ⊎ (length c.events ≤ f.0) → test (event_at (change_event e change c) f) ≡ true
 holds_after test e f change c keeps h (inr differ) made = ap test (change_event-other e f change c differ) ∙ h
 holds_after test e f change c keeps h (inl same) (inl made) =
     let P : EventId → Type 0 = λ g. test (event_at c g) ≡ true in
@@ -166,7 +174,9 @@ holds_after test e f change c keeps h (inl same) (inr unmade) =
     ap test (unmade_at d f past ∙ sym (unmade_at c f unmade)) ∙ h
 
 -- a test that a change keeps at each event is kept at all
-pub change_event-holds : (test : EventOf → Bool) (e f : EventId) (change : EventOf → EventOf) (c : Calendar) → ((x : EventOf) → test x ≡ true → test (change x) ≡ true) → test (event_at c f) ≡ true → test (event_at (change_event e change c) f) ≡ true
+pub change_event-holds : (test : EventOf → Bool) (e f : EventId) (change : EventOf → EventOf) (c : Calendar)
+    → ((x : EventOf) → test x ≡ true → test (change x) ≡ true) → test (event_at c f) ≡ true
+    → test (event_at (change_event e change c) f) ≡ true
 change_event-holds test e f change c keeps h = holds_after test e f change c keeps h (cases_eq f.0 e.0) (cases_lt f.0 (length c.events))
 
 ok_kept : (x y : EventOf) → y.outcome ≡ x.outcome → is_ok_zero y ≡ is_ok_zero x
@@ -174,7 +184,9 @@ ok_kept x y h =
     let P : Option Outcome → Bool = λ o. is_ok_zero (record x { outcome = o }) in
     ap P h
 
-pub living-changed : (e : EventId) (change : EventOf → EventOf) (c : Calendar) → ((x : EventOf) → (change x).kind ≡ x.kind) → ((x : EventOf) → (change x).outcome ≡ x.outcome) → ((x : EventOf) → x.processed ≡ true → (change x).processed ≡ true) → KeepsLiving c (change_event e change c)
+pub living-changed : (e : EventId) (change : EventOf → EventOf) (c : Calendar) → ((x : EventOf) → (change x).kind ≡ x.kind)
+    → ((x : EventOf) → (change x).outcome ≡ x.outcome) → ((x : EventOf) → x.processed ≡ true → (change x).processed ≡ true)
+    → KeepsLiving c (change_event e change c)
 living-changed e change c kinds outcomes processed =
     record {
       longer = rw (change_event-length e change c) (omega arith);
@@ -219,7 +231,8 @@ living-made k c =
     }
 
 -- an event that is no process's and not event 0 may get an outcome
-pub living-scheduled : (e : EventId) (x : Outcome) (priority : ℕ) (delay : ℤ) (c : Calendar) → is_process_kind (kind_at c e) ≡ false → e.0 ≢ 0 → KeepsLiving c (schedule e x priority delay c)
+pub living-scheduled : (e : EventId) (x : Outcome) (priority : ℕ) (delay : ℤ) (c : Calendar)
+    → is_process_kind (kind_at c e) ≡ false → e.0 ≢ 0 → KeepsLiving c (schedule e x priority delay c)
 living-scheduled e x priority delay c other nonzero =
     let change : EventOf → EventOf = λ y. record y { outcome = Some x } in
     let is_process_of : EventId → Bool = λ f. is_process_kind (kind_at c f) in
@@ -234,11 +247,14 @@ living-scheduled e x priority delay c other nonzero =
 
 -- ---- changes of registrations and of the control
 
-pub resumes-same : (c : Calendar) (k : Control) (d : Calendar) (l : Control) → d.registered ≡ c.registered → left_of l ≡ left_of k → ((f : EventId) → is_event_of l f ≡ is_event_of k f) → ((p : ProcId) → is_active l p ≡ is_active k p) → KeepsResumes c k d l
+pub resumes-same : (c : Calendar) (k : Control) (d : Calendar) (l : Control) → d.registered ≡ c.registered
+    → left_of l ≡ left_of k → ((f : EventId) → is_event_of l f ≡ is_event_of k f)
+    → ((p : ProcId) → is_active l p ≡ is_active k p) → KeepsResumes c k d l
 resumes-same c k d l same left of active = record { active = active; in_all = λ p. rw (same, left) refl; at = λ p f. rw (same, left, of f) refl }
 
 -- what is no resumption may be registered
-pub resumes-registered : (e : EventId) (x : Callback) (c : Calendar) (k : Control) → ((p : ProcId) → is_resume_of p x ≡ false) → KeepsResumes c k (register e x c) k
+pub resumes-registered : (e : EventId) (x : Callback) (c : Calendar) (k : Control)
+    → ((p : ProcId) → is_resume_of p x ≡ false) → KeepsResumes c k (register e x c) k
 resumes-registered e x c k others =
     record {
       active = λ p. refl;
@@ -247,7 +263,9 @@ resumes-registered e x c k others =
     }
 
 -- and it may be called
-pub resumes-called : (c : Calendar) (k l : Control) (x : Callback) → left_of k ≡ x ∷ left_of l → ((f : EventId) → is_event_of k f ≡ is_event_of l f) → ((p : ProcId) → is_active l p ≡ is_active k p) → ((p : ProcId) → is_resume_of p x ≡ false) → KeepsResumes c k c l
+pub resumes-called : (c : Calendar) (k l : Control) (x : Callback) → left_of k ≡ x ∷ left_of l
+    → ((f : EventId) → is_event_of k f ≡ is_event_of l f) → ((p : ProcId) → is_active l p ≡ is_active k p)
+    → ((p : ProcId) → is_resume_of p x ≡ false) → KeepsResumes c k c l
 resumes-called c k l x left of active others =
     record {
       active = active;

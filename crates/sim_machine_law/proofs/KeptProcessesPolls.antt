@@ -14,6 +14,10 @@ use Rattle.sim_machine.specs.LawfulProcesses.{LawfulProcesses}
 use Rattle.sim_machine_law.proofs.KeptProcessesChanges.{processes-bodies, processes-ended}
 use Rattle.sim_machine_law.proofs.LawfulBasis.{LawfulBasis}
 
-pub processes-polled_end : {B : Type 0} (g : Plan B) (tell : Telling B) (sound : B → Type 0) (s : State B) (f : CodeFacts) (e : EventId) (left : List Callback) (p : ProcId) (x : Signal) (y : ProcessOf B) (b : B) (o : Outcome) → s.control ≡ Active e left p x → process_at p s ≡ Some y → sound b → LawfulBasis g tell sound s → IsTrue (length (scopes_told (tell.scopes y.body) (tell.last y.body) x) == 0) → LawfulProcesses g.setup.events (rest (end_process p o (with_body p b s)))
+pub processes-polled_end : {B : Type 0} (g : Plan B) (tell : Telling B) (sound : B → Type 0) (s : State B) (f : CodeFacts)
+    (e : EventId) (left : List Callback) (p : ProcId) (x : Signal) (y : ProcessOf B) (b : B) (o : Outcome)
+    → s.control ≡ Active e left p x → process_at p s ≡ Some y → sound b → LawfulBasis g tell sound s
+    → IsTrue (length (scopes_told (tell.scopes y.body) (tell.last y.body) x) == 0)
+    → LawfulProcesses g.setup.events (rest (end_process p o (with_body p b s)))
 processes-polled_end g t sound s f e left p x y b o running found fine h closed =
     processes-ended g.setup.events (with_body p b s) p o (λ q. rw running refl) (processes-bodies g.setup.events s p b h.processes)

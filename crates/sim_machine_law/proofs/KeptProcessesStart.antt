@@ -30,7 +30,7 @@ use Rattle.sim_machine_law.proofs.CallbackLaws.{counts_one, counts_none, counts_
 use Rattle.sim_machine_law.proofs.KeptProcessesParts.{same_process, is_process-yes, is_process-no, is_process-self, is_process-swap, KeepsLiving, LivesWell, WaitsOnce, lives_well, living_well, lives_on, named_plain_on, waits_once, waiting_well, waiting_active, living-events, living-made, living-scheduled, living-trans}
 use Rattle.sim_machine_law.proofs.KeptProcesses.{alive_has}
 use Rattle.sim_machine_law.proofs.KeptProcessesChanges.{processes-makes, processes-schedules, processes-registers, processes-same}
-use Rattle.sim_machine_law.proofs.LawfulBasis.{LawfulBasis}
+use Rattle.sim_machine_law.proofs.LawfulBasis.{AreNamedPending, LawfulBasis}
 
 -- ---- a process is made
 
@@ -66,8 +66,12 @@ event-joined c =
     change_event-other (init_of c) p triggered (with_init c) (λ same. omega (arith, same, init_is c)) ∙ (make-old kind.Init d p (omega (arith, init_is c)) ∙ make-new kind.Process c)
 
 -- a process more, which its init event is to resume
-pub processes-joined : {B : Type 0} (named : ℕ) (s : State B) (b : B) → LawfulProcesses named s →
-    LawfulProcesses named (on_events make_events_of_process (record s { processes = s.processes ++ record { id = record { 0 = (next_event (calendar s)).0 }; body = b; target = next_event (make kind.Process (calendar s)) } ∷ [] }))
+pub processes-joined : {B : Type 0} (named : ℕ) (s : State B) (b : B) → LawfulProcesses named s
+    → LawfulProcesses named (on_events make_events_of_process
+    (record s {
+      processes = s.processes
+          ++ record { id = record { 0 = (next_event (calendar s)).0 }; body = b; target = next_event (make kind.Process (calendar s)) } ∷ [];
+    }))
 processes-joined {B} named s b h =
     let c : Calendar = calendar s in
     let d : Calendar = make_events_of_process c in
@@ -127,7 +131,12 @@ processes-joined {B} named s b h =
       zero_ok = v.ok h.zero_ok;
     }
 
-pub processes-made_process : {B : Type 0} (g : Plan B) (tell : Telling B) (sound : B → Type 0) (s : State B) (f : CodeFacts) (k : ℕ) (args : List ℤ) → IsTrue (nat_lt k (length f.params) && may_start (slice_index_or f.params k []) args) → IsLawfulStart f tell k args (record { 0 = (next_event (calendar s)).0 }) (g.start k args (record { 0 = (next_event (calendar s)).0 })) → sound (g.start k args (record { 0 = (next_event (calendar s)).0 })) → LawfulBasis g tell sound s → LawfulProcesses g.setup.events (make_process g k args s)
+pub processes-made_process : {B : Type 0} (g : Plan B) (tell : Telling B) (sound : B → Type 0) (s : State B) (f : CodeFacts)
+    (k : ℕ) (args : List ℤ) → IsTrue (nat_lt k (length f.params) && may_start (slice_index_or f.params k []) args)
+    → IsLawfulStart f tell k args (record { 0 = (next_event (calendar s)).0 })
+    (g.start k args (record { 0 = (next_event (calendar s)).0 }))
+    → sound (g.start k args (record { 0 = (next_event (calendar s)).0 })) → LawfulBasis g tell sound s
+    → LawfulProcesses g.setup.events (make_process g k args s)
 processes-made_process g tell sound s f k args fits law fine h = processes-joined g.setup.events s (g.start k args (record { 0 = (next_event (calendar s)).0 })) h.processes
 
 -- ---- the state before any process is made
@@ -141,7 +150,8 @@ plain_first : (named n : ℕ) → is_plain_kind (kind_at (first_calendar named) 
 plain_first named zero = refl
 plain_first named (suc n) = ap (λ (x : EventOf). is_plain_kind x.kind) (replicate_at named n (pending_event kind.Plain))
 
-pub processes-blank : {B : Type 0} (g : Plan B) (tell : Telling B) (sound : B → Type 0) (f : CodeFacts) → FitsCode f g.setup → LawfulProcesses g.setup.events (blank_state g)
+pub processes-blank : {B : Type 0} (g : Plan B) (tell : Telling B) (sound : B → Type 0) (f : CodeFacts) → FitsCode f g.setup
+    → LawfulProcesses g.setup.events (blank_state g)
 processes-blank g tell sound f fits = record {
   distinct = λ i j d before below. absurd (omega (arith, below));
   active = λ p a. absurd (false≢true a);
@@ -167,5 +177,9 @@ stop_set {B} named s (until.At time) h =
     processes-schedules named registers e (outcome.Ok (pos 0)) urgent time kinds (λ z. omega (arith, z, h.named_made)) (processes-registers named made e callback.Stop (λ p. refl) (processes-makes named s kind.Stop h))
 stop_set named s (until.Event e) h = processes-registers named s e callback.Stop (λ p. refl) h
 
-pub processes-set_stop : {B : Type 0} (g : Plan B) (tell : Telling B) (sound : B → Type 0) (s : State B) (until : Until) → IsTrue (until_fits g.setup.events until) → ((h : EventId) → IsTrue (nat_lt 0 h.0 && nat_le h.0 g.setup.events) → IsTrue (is_pending (calendar s) h && not (is_processed (calendar s) h))) → (calendar s).time ≡ pos 0 → s.control ≡ Idle → LawfulBasis g tell sound s → LawfulProcesses g.setup.events (on_events (set_stop until) s)
+pub processes-set_stop : {B : Type 0} (g : Plan B) (tell : Telling B) (sound : B → Type 0) (s : State B) (until : Until)
+    → IsTrue (until_fits g.setup.events until)
+    → AreNamedPending g s
+    → (calendar s).time ≡ pos 0 → s.control ≡ Idle → LawfulBasis g tell sound s
+    → LawfulProcesses g.setup.events (on_events (set_stop until) s)
 processes-set_stop g tell sound s until fits waits begins idle h = stop_set g.setup.events s until h.processes

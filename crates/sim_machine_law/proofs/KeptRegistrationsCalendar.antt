@@ -34,11 +34,13 @@ pub record Calm (c d : Calendar) : Type 0 where
 
 -- ---- events of which something holds that holds of no event that was not made
 
-made_if_at : (part : EventOf → Bool) (xs : List EventOf) (n : ℕ) → part (pending_event kind.Plain) ≡ false → part (get_or xs n (pending_event kind.Plain)) ≡ true → (n < length xs) ⊎ (length xs ≤ n) → n < length xs
+made_if_at : (part : EventOf → Bool) (xs : List EventOf) (n : ℕ) → part (pending_event kind.Plain) ≡ false
+    → part (get_or xs n (pending_event kind.Plain)) ≡ true → (n < length xs) ⊎ (length xs ≤ n) → n < length xs
 made_if_at part xs n plain h (inl below) = below
 made_if_at part xs n plain h (inr above) = absurd (false≢true (sym plain ∙ (ap part (sym (get_or_past xs n (pending_event kind.Plain) above)) ∙ h)))
 
-pub made_if : (part : EventOf → Bool) (c : Calendar) (f : EventId) → part (pending_event kind.Plain) ≡ false → part (event_at c f) ≡ true → f.0 < length c.events
+pub made_if : (part : EventOf → Bool) (c : Calendar) (f : EventId) → part (pending_event kind.Plain) ≡ false
+    → part (event_at c f) ≡ true → f.0 < length c.events
 made_if part c f plain h = made_if_at part c.events f.0 plain h (cases_lt f.0 (length c.events))
 
 pub processed_made : (c : Calendar) (f : EventId) → is_processed c f ≡ true → f.0 < length c.events
@@ -54,8 +56,10 @@ pub made_below : (c : Calendar) (f : EventId) → was_made c f ≡ true → f.0 
 made_below c f h = grind (arith, nat_tests)
 
 -- what a change keeps true of an event stays true of every event
-changed_test : (test : EventOf → Bool) (e f : EventId) (change : EventOf → EventOf) (c : Calendar) → (test (event_at c e) ≡ true → test (change (event_at c e)) ≡ true) → test (event_at c f) ≡ true →
-    (f.0 ≡ e.0) ⊎ (f.0 ≢ e.0) → (e.0 < length c.events) ⊎ (length c.events ≤ e.0) → test (event_at (change_event e change c) f) ≡ true
+changed_test : (test : EventOf → Bool) (e f : EventId) (change : EventOf → EventOf) (c : Calendar)
+    → (test (event_at c e) ≡ true → test (change (event_at c e)) ≡ true) → test (event_at c f) ≡ true
+    → (f.0 ≡ e.0) ⊎ (f.0 ≢ e.0) → (e.0 < length c.events) ⊎ (length c.events ≤ e.0)
+    → test (event_at (change_event e change c) f) ≡ true
 changed_test test e f change c keeps h (inr differ) made = ap test (change_event-other e f change c differ) ∙ h
 changed_test test e f change c keeps h (inl same) (inl made) =
     let P : EventId → Type 0 = λ g. test (event_at (change_event e change c) g) ≡ true in
@@ -64,7 +68,9 @@ changed_test test e f change c keeps h (inl same) (inl made) =
 changed_test test e f change c keeps h (inl same) (inr unmade) =
     ap (λ xs. test (slice_index_or xs f.0 (pending_event kind.Plain))) (set_past c.events e.0 (change (event_at c e)) unmade) ∙ h
 
-pub change_event-test : (test : EventOf → Bool) (e f : EventId) (change : EventOf → EventOf) (c : Calendar) → (test (event_at c e) ≡ true → test (change (event_at c e)) ≡ true) → test (event_at c f) ≡ true → test (event_at (change_event e change c) f) ≡ true
+pub change_event-test : (test : EventOf → Bool) (e f : EventId) (change : EventOf → EventOf) (c : Calendar)
+    → (test (event_at c e) ≡ true → test (change (event_at c e)) ≡ true) → test (event_at c f) ≡ true
+    → test (event_at (change_event e change c) f) ≡ true
 change_event-test test e f change c keeps h = changed_test test e f change c keeps h (cases_eq f.0 e.0) (cases_lt e.0 (length c.events))
 
 -- ---- what is later
@@ -83,7 +89,9 @@ later_then a b c p q =
     }
 
 -- a change of one event that keeps its kind, and its outcome if it has one
-pub later_changed : (e : EventId) (change : EventOf → EventOf) (c : Calendar) → ((x : EventOf) → (change x).kind ≡ x.kind) → ((x : EventOf) → not (is_none x.outcome) ≡ true → not (is_none (change x).outcome) ≡ true) → Later c (change_event e change c)
+pub later_changed : (e : EventId) (change : EventOf → EventOf) (c : Calendar) → ((x : EventOf) → (change x).kind ≡ x.kind)
+    → ((x : EventOf) → not (is_none x.outcome) ≡ true → not (is_none (change x).outcome) ≡ true)
+    → Later c (change_event e change c)
 later_changed e change c kinds turned =
     let same : length (change_event e change c).events ≡ length c.events = change_event-length e change c in
     record {
@@ -130,7 +138,8 @@ calm_then a b c p q =
     }
 
 -- what all events are, an event that was not made is too
-any_turned_out : (xs : List EventOf) (n : ℕ) → AllPass turned_out xs → (n < length xs) ⊎ (length xs ≤ n) → turned_out (get_or xs n (pending_event kind.Plain)) ≡ true
+any_turned_out : (xs : List EventOf) (n : ℕ) → AllPass turned_out xs → (n < length xs) ⊎ (length xs ≤ n)
+    → turned_out (get_or xs n (pending_event kind.Plain)) ≡ true
 any_turned_out xs n h (inl below) = All-get_or (λ x. turned_out x ≡ true) xs n (pending_event kind.Plain) below h
 any_turned_out xs n h (inr above) = ap turned_out (get_or_past xs n (pending_event kind.Plain) above)
 
@@ -151,12 +160,15 @@ turned_by : (p q a b : Bool) → q ≡ p → (a ≡ true → b ≡ true) → (no
 turned_by true q a b same keeps h = rw same (keeps h)
 turned_by false q a b same keeps h = rw same refl
 
-keeps_turned_out : (old new : EventOf) → new.processed ≡ old.processed → (not (is_none old.outcome) ≡ true → not (is_none new.outcome) ≡ true) → turned_out old ≡ true → turned_out new ≡ true
+keeps_turned_out : (old new : EventOf) → new.processed ≡ old.processed
+    → (not (is_none old.outcome) ≡ true → not (is_none new.outcome) ≡ true) → turned_out old ≡ true → turned_out new ≡ true
 keeps_turned_out old new same keeps h =
     turned_by old.processed new.processed (is_some old.outcome) (is_some new.outcome) same (λ t. some_if_not_none new.outcome ∙ keeps (sym (some_if_not_none old.outcome) ∙ t)) h
 
-pub calm_changed : (e : EventId) (change : EventOf → EventOf) (c : Calendar) → ((x : EventOf) → (change x).kind ≡ x.kind) → ((x : EventOf) → (change x).processed ≡ x.processed) →
-    ((x : EventOf) → not (is_none x.outcome) ≡ true → not (is_none (change x).outcome) ≡ true) → Calm c (change_event e change c)
+pub calm_changed : (e : EventId) (change : EventOf → EventOf) (c : Calendar) → ((x : EventOf) → (change x).kind ≡ x.kind)
+    → ((x : EventOf) → (change x).processed ≡ x.processed)
+    → ((x : EventOf) → not (is_none x.outcome) ≡ true → not (is_none (change x).outcome) ≡ true)
+    → Calm c (change_event e change c)
 calm_changed e change c kinds processed turned =
     record {
       later = later_changed e change c kinds turned;

@@ -40,7 +40,7 @@ use Rattle.sim_machine_law.proofs.EventLaws.{is_same-self, change_event-keeps, m
 use Rattle.sim_machine_law.proofs.KeptRegistrationsCalendar.{turned_made, made_below, pending_unprocessed}
 use Rattle.sim_machine_law.proofs.KeptTimesCases.{if_cases, wait_cases, found_has}
 use Rattle.sim_machine_law.proofs.ScheduledOnce.{outcomes_changed, outcomes_first}
-use Rattle.sim_machine_law.proofs.LawfulBasis.{LawfulBasis}
+use Rattle.sim_machine_law.proofs.LawfulBasis.{AreNamedPending, LawfulBasis}
 use Rattle.sim_machine_law.proofs.KeptConditionsPop.{one_if_yes}
 use Rattle.sim_machine_law.proofs.KeptProcessesParts.{is_process-yes}
 
@@ -108,7 +108,9 @@ times_wait e p s h =
     wait_cases (λ t. LawfulTimes (calendar t)) e p s (λ k. times_defuse_failed e (calendar s) h) (λ k. times_registered (register e (callback.Resume p) (calendar s)).registered (calendar s) h)
 
 -- an event of which nothing is known but that it was just made, and is then scheduled
-pub new_scheduled : (k : EventKind) (rs : List Registration) (x : Outcome) (priority : ℕ) (delay : ℤ) (c : Calendar) → pos 0 ≤ℤ delay → (c.time +ℤ delay) ≤ℤ pos (2 ^ 62) → LawfulTimes c → LawfulTimes (schedule (next_event c) x priority delay (record (make k c) { registered = rs }))
+pub new_scheduled : (k : EventKind) (rs : List Registration) (x : Outcome) (priority : ℕ) (delay : ℤ) (c : Calendar)
+    → pos 0 ≤ℤ delay → (c.time +ℤ delay) ≤ℤ pos (2 ^ 62) → LawfulTimes c
+    → LawfulTimes (schedule (next_event c) x priority delay (record (make k c) { registered = rs }))
 new_scheduled k rs x priority delay c low high h =
     let d : Calendar = record (make k c) { registered = rs } in
     let more : length (make k c).events ≡ length c.events + 1 = make-length k c in
@@ -125,8 +127,10 @@ four_parts : (a b c d : Bool) → (a && b && c && d) ≡ true → (b ≡ true) �
 four_parts a b c d h = (grind arith, grind arith, grind arith)
 
 -- the event of a process that is found was made, is of the kind of processes, and is neither triggered nor processed
-pub found_pending : {B : Type 0} (g : Plan B) (tell : Telling B) (sound : B → Type 0) (s : State B) (p : ProcId) (y : ProcessOf B) → process_at p s ≡ Some y → LawfulBasis g tell sound s →
-    ((event_of p).0 < length (calendar s).events) × (is_pending (calendar s) (event_of p) ≡ true) × (is_processed (calendar s) (event_of p) ≡ false) × (is_process_kind (kind_at (calendar s) (event_of p)) ≡ true)
+pub found_pending : {B : Type 0} (g : Plan B) (tell : Telling B) (sound : B → Type 0) (s : State B) (p : ProcId)
+    (y : ProcessOf B) → process_at p s ≡ Some y → LawfulBasis g tell sound s
+    → ((event_of p).0 < length (calendar s).events) × (is_pending (calendar s) (event_of p) ≡ true)
+    × (is_processed (calendar s) (event_of p) ≡ false) × (is_process_kind (kind_at (calendar s) (event_of p)) ≡ true)
 found_pending {B} g tell sound s p y found l =
     let c : Calendar = calendar s in
     let here : (is_living_well s y ≡ true) × (is_process y.id p ≡ true) = found_has (λ z. is_living_well s z ≡ true) (λ z. is_process z.id p) s.processes y found l.processes.living in
@@ -136,31 +140,46 @@ found_pending {B} g tell sound s p y found l =
 
 -- ---- the units
 
-pub times-popped : {B : Type 0} (g : Plan B) (tell : Telling B) (sound : B → Type 0) (s : State B) (x : Entry) → s.control ≡ Idle → due (calendar s).agenda ≡ Some x → LawfulBasis g tell sound s → LawfulTimes (pop_entry x s).facilities.calendar
+pub times-popped : {B : Type 0} (g : Plan B) (tell : Telling B) (sound : B → Type 0) (s : State B) (x : Entry)
+    → s.control ≡ Idle → due (calendar s).agenda ≡ Some x → LawfulBasis g tell sound s
+    → LawfulTimes (pop_entry x s).facilities.calendar
 times-popped g tell sound s x idle h l = popped_lawful x (calendar s) h (due_made x (calendar s) h l.times) l.times
 
-pub times-resumed : {B : Type 0} (g : Plan B) (tell : Telling B) (sound : B → Type 0) (s : State B) (e : EventId) (left : List Callback) (p : ProcId) → s.control ≡ Calling e (callback.Resume p ∷ left) → LawfulBasis g tell sound s → LawfulTimes (resume e left p s).facilities.calendar
+pub times-resumed : {B : Type 0} (g : Plan B) (tell : Telling B) (sound : B → Type 0) (s : State B) (e : EventId)
+    (left : List Callback) (p : ProcId) → s.control ≡ Calling e (callback.Resume p ∷ left) → LawfulBasis g tell sound s
+    → LawfulTimes (resume e left p s).facilities.calendar
 times-resumed g tell sound s e left p at l = times_defuse_failed e (calendar s) l.times
 
-pub times-stopped : {B : Type 0} (g : Plan B) (tell : Telling B) (sound : B → Type 0) (s : State B) (e : EventId) (left : List Callback) → s.control ≡ Calling e (callback.Stop ∷ left) → LawfulBasis g tell sound s → LawfulTimes (call g e callback.Stop left s).facilities.calendar
+pub times-stopped : {B : Type 0} (g : Plan B) (tell : Telling B) (sound : B → Type 0) (s : State B) (e : EventId)
+    (left : List Callback) → s.control ≡ Calling e (callback.Stop ∷ left) → LawfulBasis g tell sound s
+    → LawfulTimes (call g e callback.Stop left s).facilities.calendar
 times-stopped g tell sound s e left at l = l.times
 
-pub times-settled : {B : Type 0} (g : Plan B) (tell : Telling B) (sound : B → Type 0) (s : State B) (e : EventId) → s.control ≡ Calling e [] → LawfulBasis g tell sound s → LawfulTimes (settle e s).facilities.calendar
+pub times-settled : {B : Type 0} (g : Plan B) (tell : Telling B) (sound : B → Type 0) (s : State B) (e : EventId)
+    → s.control ≡ Calling e [] → LawfulBasis g tell sound s → LawfulTimes (settle e s).facilities.calendar
 times-settled g tell sound s e at l = l.times
 
-pub times_triggered : (e : EventId) (x : Outcome) (c : Calendar) → e.0 < length c.events → is_pending c e ≡ true → is_processed c e ≡ false → LawfulTimes c → LawfulTimes (trigger e x c)
+pub times_triggered : (e : EventId) (x : Outcome) (c : Calendar) → e.0 < length c.events → is_pending c e ≡ true
+    → is_processed c e ≡ false → LawfulTimes c → LawfulTimes (trigger e x c)
 times_triggered e x c made pending unprocessed h =
     let high : c.time ≤ℤ pos (2 ^ 62) = h.in_limit in
     schedule_lawful e x normal (pos 0) c made pending unprocessed (omega (arith, ints)) (omega (arith, ints, high)) h
 
-pub times-polled_end : {B : Type 0} (g : Plan B) (tell : Telling B) (sound : B → Type 0) (s : State B) (f : CodeFacts) (e : EventId) (left : List Callback) (p : ProcId) (x : Signal) (y : ProcessOf B) (b : B) (o : Outcome) →
-    s.control ≡ Active e left p x → process_at p s ≡ Some y → sound b → LawfulBasis g tell sound s → IsTrue (length (scopes_told (tell.scopes y.body) (tell.last y.body) x) == 0) → LawfulTimes (rest (end_process p o (with_body p b s))).facilities.calendar
+pub times-polled_end : {B : Type 0} (g : Plan B) (tell : Telling B) (sound : B → Type 0) (s : State B) (f : CodeFacts)
+    (e : EventId) (left : List Callback) (p : ProcId) (x : Signal) (y : ProcessOf B) (b : B) (o : Outcome)
+    → s.control ≡ Active e left p x → process_at p s ≡ Some y → sound b → LawfulBasis g tell sound s
+    → IsTrue (length (scopes_told (tell.scopes y.body) (tell.last y.body) x) == 0)
+    → LawfulTimes (rest (end_process p o (with_body p b s))).facilities.calendar
 times-polled_end g tell sound s f e left p x y b o at found keeps l closed =
     let own = found_pending g tell sound s p y found l in
     times_triggered (event_of p) o (calendar s) own.0 own.1 own.2 l.times
 
-pub times-made_process : {B : Type 0} (g : Plan B) (tell : Telling B) (sound : B → Type 0) (s : State B) (f : CodeFacts) (k : ℕ) (args : List ℤ) → IsTrue (nat_lt k (length f.params) && may_start (slice_index_or f.params k []) args) →
-    IsLawfulStart f tell k args (record { 0 = (next_event (calendar s)).0 }) (g.start k args (record { 0 = (next_event (calendar s)).0 })) → sound (g.start k args (record { 0 = (next_event (calendar s)).0 })) → LawfulBasis g tell sound s → LawfulTimes (make_process g k args s).facilities.calendar
+pub times-made_process : {B : Type 0} (g : Plan B) (tell : Telling B) (sound : B → Type 0) (s : State B) (f : CodeFacts)
+    (k : ℕ) (args : List ℤ) → IsTrue (nat_lt k (length f.params) && may_start (slice_index_or f.params k []) args)
+    → IsLawfulStart f tell k args (record { 0 = (next_event (calendar s)).0 })
+    (g.start k args (record { 0 = (next_event (calendar s)).0 }))
+    → sound (g.start k args (record { 0 = (next_event (calendar s)).0 })) → LawfulBasis g tell sound s
+    → LawfulTimes (make_process g k args s).facilities.calendar
 times-made_process g tell sound s f k args fits start keeps l = times_of_process (calendar s) l.times
 
 all_pending : (m n : ℕ) → get_or (replicate m (pending_event kind.Plain)) n (pending_event kind.Plain) ≡ pending_event kind.Plain
@@ -172,7 +191,8 @@ blank_untriggered : (m n : ℕ) → 0 ≡ one_if (is_triggered (first_calendar m
 blank_untriggered m zero = refl
 blank_untriggered m (suc n) = rw (all_pending m n) refl
 
-pub times-blank : {B : Type 0} (g : Plan B) (tell : Telling B) (sound : B → Type 0) (f : CodeFacts) → FitsCode f g.setup → LawfulTimes (blank_state g).facilities.calendar
+pub times-blank : {B : Type 0} (g : Plan B) (tell : Telling B) (sound : B → Type 0) (f : CodeFacts) → FitsCode f g.setup
+    → LawfulTimes (blank_state g).facilities.calendar
 times-blank g tell sound f fits =
     record {
       not_negative = omega (arith, ints);
@@ -188,8 +208,11 @@ times-blank g tell sound f fits =
 within : (time : ℤ) → (int_le (pos 1) time && int_le time (pos (2 ^ 62))) ≡ true → (pos 1 ≤ℤ time) × (time ≤ℤ pos (2 ^ 62))
 within time h = (grind (arith, ints), grind (arith, ints))
 
-pub times-set_stop : {B : Type 0} (g : Plan B) (tell : Telling B) (sound : B → Type 0) (s : State B) (until : Until) → IsTrue (until_fits g.setup.events until) →
-    ((h : EventId) → IsTrue (nat_lt 0 h.0 && nat_le h.0 g.setup.events) → IsTrue (is_pending (calendar s) h && not (is_processed (calendar s) h))) → (calendar s).time ≡ pos 0 → s.control ≡ Idle → LawfulBasis g tell sound s → LawfulTimes (on_events (set_stop until) s).facilities.calendar
+pub times-set_stop : {B : Type 0} (g : Plan B) (tell : Telling B) (sound : B → Type 0) (s : State B) (until : Until)
+    → IsTrue (until_fits g.setup.events until)
+    → AreNamedPending g s
+    → (calendar s).time ≡ pos 0 → s.control ≡ Idle → LawfulBasis g tell sound s
+    → LawfulTimes (on_events (set_stop until) s).facilities.calendar
 times-set_stop g tell sound s until.Never fits named zero_time idle l = l.times
 times-set_stop g tell sound s (until.At time) fits named zero_time idle l =
     let c : Calendar = calendar s in

@@ -24,21 +24,27 @@ not_under : (a b : ℤ) → int_lt a b ≡ false → b ≤ℤ a
 not_under a b h = grind (arith, ints)
 
 -- a timeout is made only where its time is from now to the last one
-pub timeout_cases : {B : Type 0} (P : State B → Type 0) (delay value : ℤ) (after : EventId → State B → State B) (s : State B) → P (raise 1 s) → P (raise 9 s) →
-    (pos 0 ≤ℤ delay → ((calendar s).time +ℤ delay) ≤ℤ pos (2 ^ 62) → P (after (next_event (calendar s)) (on_events (make_timeout delay value) s))) → P (with_timeout delay value after s)
+pub timeout_cases : {B : Type 0} (P : State B → Type 0) (delay value : ℤ) (after : EventId → State B → State B) (s : State B)
+    → P (raise 1 s) → P (raise 9 s)
+    → (pos 0 ≤ℤ delay → ((calendar s).time +ℤ delay) ≤ℤ pos (2 ^ 62) → P (after (next_event (calendar s)) (on_events (make_timeout delay value) s)))
+    → P (with_timeout delay value after s)
 timeout_cases P delay value after s low high made =
     let t : State _ = after (next_event (calendar s)) (on_events (make_timeout delay value) s) in
     if_cases P (int_lt delay (pos 0)) (raise 1 s) (if is_too_late delay (calendar s) then raise 9 s else t) (λ h. low)
     (λ h. if_cases P (is_too_late delay (calendar s)) (raise 9 s) t (λ k. high) (λ k. made (not_under delay (pos 0) h) (not_under (pos (2 ^ 62)) ((calendar s).time +ℤ delay) k)))
 
 -- a number is drawn from a range that is not empty
-pub draw_cases : {B : Type 0} (P : State B → Type 0) (g : Plan B) (lo hi : ℤ) (s : State B) → P (raise 8 s) → (int_lt hi lo ≡ false → P (tell (signal.Number (drawn_number (g.word s.drawn) lo hi)) (record s { drawn = s.drawn + 1 }))) → P (draw g lo hi s)
+pub draw_cases : {B : Type 0} (P : State B → Type 0) (g : Plan B) (lo hi : ℤ) (s : State B) → P (raise 8 s)
+    → (int_lt hi lo ≡ false → P (tell (signal.Number (drawn_number (g.word s.drawn) lo hi)) (record s { drawn = s.drawn + 1 })))
+    → P (draw g lo hi s)
 draw_cases P g lo hi s empty drawn =
     if_cases P (int_lt hi lo) (raise 8 s) (tell (signal.Number (drawn_number (g.word s.drawn) lo hi)) (record s { drawn = s.drawn + 1 })) (λ h. empty) drawn
 
 -- a process goes on at once at a processed event, and else waits
-pub wait_cases : {B : Type 0} (P : State B → Type 0) (e : EventId) (p : ProcId) (s : State B) → (is_processed (calendar s) e ≡ true → P (tell (signal_of (event_at (calendar s) e).outcome) (on_events (defuse_failed e) s))) →
-    (is_processed (calendar s) e ≡ false → P (rest (change_process p (λ x. record x { target = e }) (on_events (register e (callback.Resume p)) s)))) → P (wait e p s)
+pub wait_cases : {B : Type 0} (P : State B → Type 0) (e : EventId) (p : ProcId) (s : State B)
+    → (is_processed (calendar s) e ≡ true → P (tell (signal_of (event_at (calendar s) e).outcome) (on_events (defuse_failed e) s)))
+    → (is_processed (calendar s) e ≡ false → P (rest (change_process p (λ x. record x { target = e }) (on_events (register e (callback.Resume p)) s))))
+    → P (wait e p s)
 wait_cases P e p s processed unprocessed =
     if_cases P (is_processed (calendar s) e) (tell (signal_of (event_at (calendar s) e).outcome) (on_events (defuse_failed e) s)) (rest (change_process p (λ x. record x { target = e }) (on_events (register e (callback.Resume p)) s))) processed unprocessed
 

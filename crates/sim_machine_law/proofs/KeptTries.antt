@@ -15,7 +15,7 @@ use Rattle.sim_types.specs.declared.event.Outcome.TheVariants as outcome
 use Rattle.sim_types.specs.declared.event.Callback.TheVariants as callback
 use Rattle.sim_types.specs.declared.setup.Until.{Until}
 use Rattle.sim_types.specs.declared.setup.Until.TheVariants as until
-use Rattle.sim_machine.specs.State.{Sort, ConditionOf, EventOf, Registration, Calendar}
+use Rattle.sim_machine.specs.State.{AllOrAny, ConditionOf, EventOf, Registration, Calendar}
 use Rattle.sim_machine.specs.Events.{is_same, event_at, is_fail, is_pending, is_processed, is_check_of, next_event, change_event, defuse, register, unregister}
 use Rattle.sim_machine.specs.Agenda.{popped}
 use Rattle.sim_machine.specs.Triggering.{urgent, normal, make, schedule, trigger, make_timeout, make_interruption}
@@ -154,7 +154,7 @@ module _ (n : ℕ) where
       let d : Calendar = fold (join_member cond) c (e ∷ es) in
       tries_then c d (join_members cond (e ∷ es) c) (tries_joined cond (e ∷ es) c) (tries_registered cond (callback.Build cond) d refl)
 
-  pub tries_condition : (sort : Sort) (ms : List EventId) (c : Calendar) → KeepsTries n c (make_condition sort ms c)
+  pub tries_condition : (sort : AllOrAny) (ms : List EventId) (c : Calendar) → KeepsTries n c (make_condition sort ms c)
   tries_condition sort ms c =
       let cond : EventId = next_event c in
       let d : Calendar = make kind.Cond c in

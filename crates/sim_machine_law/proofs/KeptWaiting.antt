@@ -31,7 +31,10 @@ waits_grown c d w g pending h =
 pub waits_pending : (c : Calendar) (w : Waiter) → waits_well c w ≡ true → is_pending c w.event ≡ true
 waits_pending c w h = (four_parts (was_made c w.event) (is_pending c w.event) (not (event_at c w.event).cancelled) (may_wait_kind (kind_at c w.event)) h).1
 
-scope_parts : {B : Type 0} (rs : List Resource) (s : State B) (x : OpenScope) → is_scope_well rs s x ≡ true → (is_alive x.process s ≡ true) × (was_made s.facilities.calendar x.request ≡ true) × (is_request_kind (kind_at s.facilities.calendar x.request) ≡ true) × (nat_lt x.res (length rs) ≡ true) × (takes_requests (resource_at rs x.res).kind ≡ true)
+scope_parts : {B : Type 0} (rs : List Resource) (s : State B) (x : OpenScope) → is_scope_well rs s x ≡ true
+    → (is_alive x.process s ≡ true) × (was_made s.facilities.calendar x.request ≡ true)
+    × (is_request_kind (kind_at s.facilities.calendar x.request) ≡ true) × (nat_lt x.res (length rs) ≡ true)
+    × (takes_requests (resource_at rs x.res).kind ≡ true)
 scope_parts rs s x h =
     let c : Calendar = s.facilities.calendar in
     let r : EventId = x.request in
@@ -43,7 +46,9 @@ scope_parts rs s x h =
 pub scope_alive : {B : Type 0} (rs : List Resource) (s : State B) (x : OpenScope) → is_scope_well rs s x ≡ true → is_alive x.process s ≡ true
 scope_alive rs s x h = (scope_parts rs s x h).0
 
-scope_grown : {B : Type 0} (rs : List Resource) (s t : State B) (x : OpenScope) → Grown s.facilities.calendar t.facilities.calendar → (is_alive x.process s ≡ true → is_alive x.process t ≡ true) → is_scope_well rs s x ≡ true → is_scope_well rs t x ≡ true
+scope_grown : {B : Type 0} (rs : List Resource) (s t : State B) (x : OpenScope)
+    → Grown s.facilities.calendar t.facilities.calendar → (is_alive x.process s ≡ true → is_alive x.process t ≡ true)
+    → is_scope_well rs s x ≡ true → is_scope_well rs t x ≡ true
 scope_grown rs s t x g alive h =
     let c : Calendar = s.facilities.calendar in
     let d : Calendar = t.facilities.calendar in
@@ -61,7 +66,12 @@ abbrev pub moved : {B : Type 0} → State B → Calendar → List (ProcessOf B) 
 moved s d ps k processed drawn lines =
     record s { facilities = record s.facilities { calendar = d }; processes = ps; control = k; processed = processed; drawn = drawn; lines = lines }
 
-pub waiting_moved : {B : Type 0} (g : Plan B) (tell : Telling B) (s : State B) (d : Calendar) (ps : List (ProcessOf B)) (k : Control) (processed drawn : ℕ) (lines : List Line) → Grown s.facilities.calendar d → ((w : Waiter) → waits_well s.facilities.calendar w ≡ true → is_pending d w.event ≡ true) → All (λ x. is_alive x.process s ≡ true → is_alive x.process (moved s d ps k processed drawn lines) ≡ true) s.scopes → All (KnowsItsScopes tell (moved s d ps k processed drawn lines)) ps → WaitingBasis g tell s → WaitingBasis g tell (moved s d ps k processed drawn lines)
+pub waiting_moved : {B : Type 0} (g : Plan B) (tell : Telling B) (s : State B) (d : Calendar) (ps : List (ProcessOf B))
+    (k : Control) (processed drawn : ℕ) (lines : List Line) → Grown s.facilities.calendar d
+    → ((w : Waiter) → waits_well s.facilities.calendar w ≡ true → is_pending d w.event ≡ true)
+    → All (λ x. is_alive x.process s ≡ true → is_alive x.process (moved s d ps k processed drawn lines) ≡ true) s.scopes
+    → All (KnowsItsScopes tell (moved s d ps k processed drawn lines)) ps → WaitingBasis g tell s
+    → WaitingBasis g tell (moved s d ps k processed drawn lines)
 waiting_moved g tell s d ps k processed drawn lines grown pending alive knows h =
     let c : Calendar = s.facilities.calendar in
     let t = moved s d ps k processed drawn lines in

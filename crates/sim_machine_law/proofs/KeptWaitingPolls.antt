@@ -31,7 +31,8 @@ use Rattle.sim_machine_law.proofs.KeptProcessesParts.{is_process-swap}
 
 -- ---- the request that a process is just told of
 
-pub entered_resumed : (e : EventId) (left : List Callback) (p : ProcId) (x : Signal) (q : ProcId) (v : Bool) → is_resumption x ≡ true → entered_by (Active e left p x) q v ≡ []
+pub entered_resumed : (e : EventId) (left : List Callback) (p : ProcId) (x : Signal) (q : ProcId) (v : Bool)
+    → is_resumption x ≡ true → entered_by (Active e left p x) q v ≡ []
 entered_resumed e left p (signal.Made r) q v h = absurd (false≢true h)
 entered_resumed e left p _ q v h = refl
 
@@ -39,17 +40,22 @@ made_other : (v : Bool) (r : EventId) → v ≡ false → (if v then r ∷ [] el
 made_other v r h = rw h refl
 
 -- another process is told of none
-pub entered_other : (e : EventId) (left : List Callback) (p : ProcId) (x : Signal) (q : ProcId) (v : Bool) → is_process p q ≡ false → entered_by (Active e left p x) q v ≡ []
+pub entered_other : (e : EventId) (left : List Callback) (p : ProcId) (x : Signal) (q : ProcId) (v : Bool)
+    → is_process p q ≡ false → entered_by (Active e left p x) q v ≡ []
 entered_other e left p (signal.Made r) q true h = made_other (is_process p q) r h
 entered_other e left p (signal.Made r) q false h = refl
 entered_other e left p _ q v h = refl
 
-made_entered : (scopes : List EventId) (e : EventId) (left : List Callback) (p : ProcId) (r : EventId) (q : ProcId) (v : Bool) → is_process p q ≡ true → scopes ++ entered_by (Active e left p (signal.Made r)) q v ≡ (if v then scopes ++ r ∷ [] else scopes)
+made_entered : (scopes : List EventId) (e : EventId) (left : List Callback) (p : ProcId) (r : EventId) (q : ProcId)
+    (v : Bool) → is_process p q ≡ true
+    → scopes ++ entered_by (Active e left p (signal.Made r)) q v ≡ (if v then scopes ++ r ∷ [] else scopes)
 made_entered scopes e left p r q true h = ap (λ (b : Bool). scopes ++ (if b then r ∷ [] else [])) h
 made_entered scopes e left p r q false h = append-nil scopes
 
 -- the active one is told of the scope that its body then holds open
-told_entered : (scopes : List EventId) (last : Option Op) (e : EventId) (left : List Callback) (p : ProcId) (x : Signal) (q : ProcId) → is_process p q ≡ true → scopes ++ entered_by (Active e left p x) q (is_enter last) ≡ scopes_told scopes last x
+told_entered : (scopes : List EventId) (last : Option Op) (e : EventId) (left : List Callback) (p : ProcId) (x : Signal)
+    (q : ProcId) → is_process p q ≡ true
+    → scopes ++ entered_by (Active e left p x) q (is_enter last) ≡ scopes_told scopes last x
 told_entered scopes last e left p (signal.Made r) q h = made_entered scopes e left p r q (is_enter last) h
 told_entered scopes last e left p _ q h = append-nil scopes
 
@@ -58,13 +64,19 @@ told_entered scopes last e left p _ q h = append-nil scopes
 abbrev requests_in : List OpenScope → ProcId → List EventId
 requests_in xs p = map (λ x. x.request) (filter (λ x. is_process x.process p) xs)
 
-pub knows_moved : {B : Type 0} (tell : Telling B) (s t : State B) (z : ProcessOf B) → t.scopes ≡ s.scopes → ((q : ProcId) (v : Bool) → entered_by t.control q v ≡ entered_by s.control q v) → KnowsItsScopes tell s z → KnowsItsScopes tell t z
+pub knows_moved : {B : Type 0} (tell : Telling B) (s t : State B) (z : ProcessOf B) → t.scopes ≡ s.scopes
+    → ((q : ProcId) (v : Bool) → entered_by t.control q v ≡ entered_by s.control q v) → KnowsItsScopes tell s z
+    → KnowsItsScopes tell t z
 knows_moved tell s t z scopes entered h =
     let same : requests_of z.id t ≡ requests_of z.id s = ap (λ (xs : List OpenScope). requests_in xs z.id) scopes in
     (same ∙ (h.0 ∙ ap (λ (es : List EventId). tell.scopes z.body ++ es) (sym (entered z.id (is_enter (tell.last z.body))))), subst (λ (es : List EventId). length es ≤ most_scopes) (sym same) h.1)
 
 -- the processes stay, and none is told of a request that was not told of one before
-pub waiting_unpolled : {B : Type 0} (g : Plan B) (tell : Telling B) (s : State B) (d : Calendar) (k : Control) (processed drawn : ℕ) (lines : List Line) → Grown s.facilities.calendar d → ((w : Waiter) → waits_well s.facilities.calendar w ≡ true → is_pending d w.event ≡ true) → ((q : ProcId) (v : Bool) → entered_by k q v ≡ entered_by s.control q v) → WaitingBasis g tell s → WaitingBasis g tell (moved s d s.processes k processed drawn lines)
+pub waiting_unpolled : {B : Type 0} (g : Plan B) (tell : Telling B) (s : State B) (d : Calendar) (k : Control)
+    (processed drawn : ℕ) (lines : List Line) → Grown s.facilities.calendar d
+    → ((w : Waiter) → waits_well s.facilities.calendar w ≡ true → is_pending d w.event ≡ true)
+    → ((q : ProcId) (v : Bool) → entered_by k q v ≡ entered_by s.control q v) → WaitingBasis g tell s
+    → WaitingBasis g tell (moved s d s.processes k processed drawn lines)
 waiting_unpolled {B} g tell s d k processed drawn lines grown pending entered h =
     let t : State B = moved s d s.processes k processed drawn lines in
     waiting_moved g tell s d s.processes k processed drawn lines grown pending (λ n x below w. w) (All-weaker (KnowsItsScopes tell s) (KnowsItsScopes tell t) (λ z w. knows_moved tell s t z refl entered w) s.processes h.bodies) h
@@ -75,11 +87,13 @@ any_changed : {X : Type 0} (test : X → Bool) (f : X → X) (xs : List X) → (
 any_changed test f [] h = refl
 any_changed test f (x ∷ xs) h = ap (λ (b : Bool). b || list_any test (map f xs)) (h x) ∙ ap (λ (b : Bool). test x || b) (any_changed test f xs h)
 
-if_id : {B : Type 0} (v : Bool) (z w : ProcessOf B) (q : ProcId) → is_process z.id q ≡ is_process w.id q → is_process (if v then z else w).id q ≡ is_process w.id q
+if_id : {B : Type 0} (v : Bool) (z w : ProcessOf B) (q : ProcId) → is_process z.id q ≡ is_process w.id q
+    → is_process (if v then z else w).id q ≡ is_process w.id q
 if_id true z w q h = h
 if_id false z w q h = refl
 
-pub alive_changed : {B : Type 0} (p q : ProcId) (change : ProcessOf B → ProcessOf B) (s : State B) → ((z : ProcessOf B) → (change z).id ≡ z.id) → is_alive q (change_process p change s) ≡ is_alive q s
+pub alive_changed : {B : Type 0} (p q : ProcId) (change : ProcessOf B → ProcessOf B) (s : State B)
+    → ((z : ProcessOf B) → (change z).id ≡ z.id) → is_alive q (change_process p change s) ≡ is_alive q s
 alive_changed p q change s keeps =
     any_changed (λ z. is_process z.id q) (λ z. if is_process z.id p then change z else z) s.processes (λ z. if_id (is_process z.id p) (change z) z q (ap (λ (n : ProcId). is_process n q) (keeps z)))
 
@@ -87,12 +101,14 @@ alive_changed p q change s keeps =
 pub holds_of_all : {X : Type 0} (P : X → Type 0) (xs : List X) → ((x : X) → P x) → All P xs
 holds_of_all P xs h = λ k d below. h (slice_index_or xs k d)
 
-if_knows : {B : Type 0} (tell : Telling B) (s : State B) (n : EventId) (z : ProcessOf B) (v : Bool) → KnowsItsScopes tell s z → KnowsItsScopes tell s (if v then record z { target = n } else z)
+if_knows : {B : Type 0} (tell : Telling B) (s : State B) (n : EventId) (z : ProcessOf B) (v : Bool) → KnowsItsScopes tell s z
+    → KnowsItsScopes tell s (if v then record z { target = n } else z)
 if_knows tell s n z true h = h
 if_knows tell s n z false h = h
 
 -- a process may wait for another event
-pub waiting_retargeted : {B : Type 0} (g : Plan B) (tell : Telling B) (p : ProcId) (n : EventId) (s : State B) → WaitingBasis g tell s → WaitingBasis g tell (change_process p (λ z. record z { target = n }) s)
+pub waiting_retargeted : {B : Type 0} (g : Plan B) (tell : Telling B) (p : ProcId) (n : EventId) (s : State B)
+    → WaitingBasis g tell s → WaitingBasis g tell (change_process p (λ z. record z { target = n }) s)
 waiting_retargeted {B} g tell p n s h =
     let c : Calendar = s.facilities.calendar in
     let f : ProcessOf B → ProcessOf B = λ z. if is_process z.id p then record z { target = n } else z in
@@ -115,7 +131,10 @@ same_process p q h =
     ap P (eqb-true q.0 p.0 h)
 
 -- what is known of the scopes of the active process once it is told
-pub own_scopes : {B : Type 0} (g : Plan B) (tell : Telling B) (s : State B) (e : EventId) (left : List Callback) (p : ProcId) (x : Signal) (y : ProcessOf B) → s.control ≡ Active e left p x → process_at p s ≡ Some y → WaitingBasis g tell s → (q : ProcId) → is_process q p ≡ true → (requests_of q s ≡ scopes_told (tell.scopes y.body) (tell.last y.body) x) × (length (requests_of q s) ≤ most_scopes)
+pub own_scopes : {B : Type 0} (g : Plan B) (tell : Telling B) (s : State B) (e : EventId) (left : List Callback) (p : ProcId)
+    (x : Signal) (y : ProcessOf B) → s.control ≡ Active e left p x → process_at p s ≡ Some y → WaitingBasis g tell s
+    → (q : ProcId) → is_process q p ≡ true
+    → (requests_of q s ≡ scopes_told (tell.scopes y.body) (tell.last y.body) x) × (length (requests_of q s) ≤ most_scopes)
 own_scopes g tell s e left p x y active found h q is =
     let known : KnowsItsScopes tell s y = find_has (KnowsItsScopes tell s) (λ z. is_process z.id p) s.processes y found h.bodies in
     let at_p : is_process y.id p ≡ true = find_passes (λ z. is_process z.id p) s.processes y found in
@@ -125,14 +144,19 @@ own_scopes g tell s e left p x y active found h q is =
     ap (λ (k : Control). tell.scopes y.body ++ entered_by k y.id (is_enter (tell.last y.body))) active ∙ told_entered (tell.scopes y.body) (tell.last y.body) e left p x y.id (is_process-swap p y.id ∙ at_p) in
     (reqs ∙ (known.0 ∙ entered), subst (λ (es : List EventId). length es ≤ most_scopes) (sym reqs) known.1)
 
-knows_nothing_new : {B : Type 0} (tell : Telling B) (s t : State B) (z : ProcessOf B) → t.scopes ≡ s.scopes → ((q : ProcId) (v : Bool) → entered_by t.control q v ≡ []) → requests_of z.id s ≡ tell.scopes z.body → length (requests_of z.id s) ≤ most_scopes → KnowsItsScopes tell t z
+knows_nothing_new : {B : Type 0} (tell : Telling B) (s t : State B) (z : ProcessOf B) → t.scopes ≡ s.scopes
+    → ((q : ProcId) (v : Bool) → entered_by t.control q v ≡ []) → requests_of z.id s ≡ tell.scopes z.body
+    → length (requests_of z.id s) ≤ most_scopes → KnowsItsScopes tell t z
 knows_nothing_new tell s t z scopes entered own few =
     let same : requests_of z.id t ≡ requests_of z.id s = ap (λ (xs : List OpenScope). requests_in xs z.id) scopes in
     let none : tell.scopes z.body ++ entered_by t.control z.id (is_enter (tell.last z.body)) ≡ tell.scopes z.body = ap (λ (es : List EventId). tell.scopes z.body ++ es) (entered z.id (is_enter (tell.last z.body))) ∙ append-nil (tell.scopes z.body) in
     (same ∙ (own ∙ sym none), subst (λ (es : List EventId). length es ≤ most_scopes) (sym same) few)
 
 -- a process that is not the active one knows its scopes, and is told of none
-pub knows_other : {B : Type 0} (tell : Telling B) (s t : State B) (e : EventId) (left : List Callback) (p : ProcId) (x : Signal) (z : ProcessOf B) → s.control ≡ Active e left p x → t.scopes ≡ s.scopes → ((q : ProcId) (v : Bool) → entered_by t.control q v ≡ []) → is_process z.id p ≡ false → KnowsItsScopes tell s z → KnowsItsScopes tell t z
+pub knows_other : {B : Type 0} (tell : Telling B) (s t : State B) (e : EventId) (left : List Callback) (p : ProcId)
+    (x : Signal) (z : ProcessOf B) → s.control ≡ Active e left p x → t.scopes ≡ s.scopes
+    → ((q : ProcId) (v : Bool) → entered_by t.control q v ≡ []) → is_process z.id p ≡ false → KnowsItsScopes tell s z
+    → KnowsItsScopes tell t z
 knows_other tell s t e left p x z active scopes entered is h =
     let v : Bool = is_enter (tell.last z.body) in
     let none : entered_by s.control z.id v ≡ [] = ap (λ (k : Control). entered_by k z.id v) active ∙ entered_other e left p x z.id v (is_process-swap p z.id ∙ is) in
@@ -140,14 +164,22 @@ knows_other tell s t e left p x z active scopes entered is h =
     knows_nothing_new tell s t z scopes entered (h.0 ∙ old) h.1
 
 -- once p was polled, and nobody is told of a request, each process knows its scopes, p by its new body
-pub knows_polled : {B : Type 0} (g : Plan B) (tell : Telling B) (s t : State B) (e : EventId) (left : List Callback) (p : ProcId) (x : Signal) (y : ProcessOf B) (b : B) (z : ProcessOf B) → IsWaitingPoll g tell s e left p x y b → t.scopes ≡ s.scopes → ((q : ProcId) (v : Bool) → entered_by t.control q v ≡ []) → KnowsItsScopes tell s z → (v : Bool) → is_process z.id p ≡ v → KnowsItsScopes tell t (if v then record z { body = b } else z)
+pub knows_polled : {B : Type 0} (g : Plan B) (tell : Telling B) (s t : State B) (e : EventId) (left : List Callback)
+    (p : ProcId) (x : Signal) (y : ProcessOf B) (b : B) (z : ProcessOf B) → IsWaitingPoll g tell s e left p x y b
+    → t.scopes ≡ s.scopes → ((q : ProcId) (v : Bool) → entered_by t.control q v ≡ []) → KnowsItsScopes tell s z → (v : Bool)
+    → is_process z.id p ≡ v → KnowsItsScopes tell t (if v then record z { body = b } else z)
 knows_polled g tell s t e left p x y b z h scopes entered w true is =
     let own : (requests_of z.id s ≡ scopes_told (tell.scopes y.body) (tell.last y.body) x) × (length (requests_of z.id s) ≤ most_scopes) = own_scopes g tell s e left p x y h.active h.found h.lawful z.id is in
     knows_nothing_new tell s t (record z { body = b }) scopes entered (own.0 ∙ sym h.scopes) own.1
 knows_polled g tell s t e left p x y b z h scopes entered w false is = knows_other tell s t e left p x z h.active scopes entered is w
 
 -- the body of p is replaced, no scope is opened or closed, and p is told of no request
-pub waiting_polled : {B : Type 0} (g : Plan B) (tell : Telling B) (s : State B) (e : EventId) (left : List Callback) (p : ProcId) (x : Signal) (y : ProcessOf B) (b : B) (d : Calendar) (k : Control) (processed drawn : ℕ) (lines : List Line) → IsWaitingPoll g tell s e left p x y b → Grown s.facilities.calendar d → ((w : Waiter) → waits_well s.facilities.calendar w ≡ true → is_pending d w.event ≡ true) → ((q : ProcId) (v : Bool) → entered_by k q v ≡ []) → WaitingBasis g tell (moved s d (with_body p b s).processes k processed drawn lines)
+pub waiting_polled : {B : Type 0} (g : Plan B) (tell : Telling B) (s : State B) (e : EventId) (left : List Callback)
+    (p : ProcId) (x : Signal) (y : ProcessOf B) (b : B) (d : Calendar) (k : Control) (processed drawn : ℕ)
+    (lines : List Line) → IsWaitingPoll g tell s e left p x y b → Grown s.facilities.calendar d
+    → ((w : Waiter) → waits_well s.facilities.calendar w ≡ true → is_pending d w.event ≡ true)
+    → ((q : ProcId) (v : Bool) → entered_by k q v ≡ [])
+    → WaitingBasis g tell (moved s d (with_body p b s).processes k processed drawn lines)
 waiting_polled {B} g tell s e left p x y b d k processed drawn lines h grown pending entered =
     let f : ProcessOf B → ProcessOf B = λ z. if is_process z.id p then record z { body = b } else z in
     let t : State B = moved s d (with_body p b s).processes k processed drawn lines in
@@ -163,12 +195,17 @@ if_pending false c d f h = refl
 pub pending_failed_defused : (e : EventId) (c : Calendar) (f : EventId) → is_pending (defuse_failed e c) f ≡ is_pending c f
 pending_failed_defused e c f = if_pending (is_fail (event_at c e).outcome) c (defuse e c) f (change_event-keeps (λ x. is_none x.outcome) e f (λ x. record x { defused = true }) c (λ x. refl))
 
-pub if_waiting : {B : Type 0} (g : Plan B) (tell : Telling B) (v : Bool) (s t : State B) → WaitingBasis g tell s → WaitingBasis g tell t → WaitingBasis g tell (if v then s else t)
+pub if_waiting : {B : Type 0} (g : Plan B) (tell : Telling B) (v : Bool) (s t : State B) → WaitingBasis g tell s
+    → WaitingBasis g tell t → WaitingBasis g tell (if v then s else t)
 if_waiting g tell true s t h w = h
 if_waiting g tell false s t h w = w
 
 -- the active process waits for an event, or goes on at once
-pub waiting_wait : {B : Type 0} (g : Plan B) (tell : Telling B) (s : State B) (e : EventId) (left : List Callback) (p : ProcId) (x : Signal) (y : ProcessOf B) (b : B) (d : Calendar) (processed drawn : ℕ) (lines : List Line) (n : EventId) → IsWaitingPoll g tell s e left p x y b → Grown s.facilities.calendar d → ((w : Waiter) → waits_well s.facilities.calendar w ≡ true → is_pending d w.event ≡ true) → WaitingBasis g tell (wait n p (moved s d (with_body p b s).processes s.control processed drawn lines))
+pub waiting_wait : {B : Type 0} (g : Plan B) (tell : Telling B) (s : State B) (e : EventId) (left : List Callback)
+    (p : ProcId) (x : Signal) (y : ProcessOf B) (b : B) (d : Calendar) (processed drawn : ℕ) (lines : List Line)
+    (n : EventId) → IsWaitingPoll g tell s e left p x y b → Grown s.facilities.calendar d
+    → ((w : Waiter) → waits_well s.facilities.calendar w ≡ true → is_pending d w.event ≡ true)
+    → WaitingBasis g tell (wait n p (moved s d (with_body p b s).processes s.control processed drawn lines))
 waiting_wait {B} g tell s e left p x y b d processed drawn lines n h grown pending =
     let t : State B = moved s d (with_body p b s).processes s.control processed drawn lines in
     let n_told : Signal = signal_of (event_at d n).outcome in
@@ -181,7 +218,9 @@ waiting_wait {B} g tell s e left p x y b d processed drawn lines n h grown pendi
     (waiting_retargeted g tell p n off (waiting_polled g tell s e left p x y b (register n (callback.Resume p) d) (not_active s.control) processed drawn lines h (record { longer = grown.longer; kinds = grown.kinds; cancelled = grown.cancelled }) pending
     (λ q v. ap (λ (k : Control). entered_by (not_active k) q v) h.active)))
 
-none_at : {X Y : Type 0} (test : X → Bool) (h : X → Y) (x : X) (xs : List X) (v : Bool) → test x ≡ v → map h (if v then x ∷ filter test xs else filter test xs) ≡ [] → (map h (filter test xs) ≡ [] → All (λ z. test z ≡ false) xs) → All (λ z. test z ≡ false) (x ∷ xs)
+none_at : {X Y : Type 0} (test : X → Bool) (h : X → Y) (x : X) (xs : List X) (v : Bool) → test x ≡ v
+    → map h (if v then x ∷ filter test xs else filter test xs) ≡ []
+    → (map h (filter test xs) ≡ [] → All (λ z. test z ≡ false) xs) → All (λ z. test z ≡ false) (x ∷ xs)
 none_at test h x xs true is none later = cc
 none_at test h x xs false is none later = All-cons (λ z. test z ≡ false) x xs is (later none)
 
@@ -194,16 +233,26 @@ not_of : {B : Type 0} (p q : ProcId) (z : ProcessOf B) → is_process q p ≡ fa
 not_of p q z h is = not_from_false (is_process z.id p) (ap (λ (n : ProcId). is_process n p) (same_process q z.id is) ∙ h)
 
 -- a process that is not p stays alive when p ends
-alive_ended : {B : Type 0} (p q : ProcId) (b : B) (s : State B) → is_process q p ≡ false → is_alive q s ≡ true → list_any (λ z. is_process z.id q) (filter (λ z. not (is_process z.id p)) (with_body p b s).processes) ≡ true
+alive_ended : {B : Type 0} (p q : ProcId) (b : B) (s : State B) → is_process q p ≡ false → is_alive q s ≡ true
+    → list_any (λ z. is_process z.id q) (filter (λ z. not (is_process z.id p)) (with_body p b s).processes) ≡ true
 alive_ended p q b s h alive =
     any-filter_same (λ z. is_process z.id q) (λ z. not (is_process z.id p)) true (λ z is. not_of p q z h is) (with_body p b s).processes ∙ (alive_changed p q (λ n. record n { body = b }) s (λ n. refl) ∙ alive)
 
-knows_ended : {B : Type 0} (tell : Telling B) (s t : State B) (e : EventId) (left : List Callback) (p : ProcId) (x : Signal) (b : B) (z : ProcessOf B) → s.control ≡ Active e left p x → t.scopes ≡ s.scopes → ((q : ProcId) (v : Bool) → entered_by t.control q v ≡ []) → KnowsItsScopes tell s z → (v : Bool) → is_process z.id p ≡ v → is_process (if v then record z { body = b } else z).id p ≡ false → KnowsItsScopes tell t (if v then record z { body = b } else z)
+knows_ended : {B : Type 0} (tell : Telling B) (s t : State B) (e : EventId) (left : List Callback) (p : ProcId) (x : Signal)
+    (b : B) (z : ProcessOf B) → s.control ≡ Active e left p x → t.scopes ≡ s.scopes
+    → ((q : ProcId) (v : Bool) → entered_by t.control q v ≡ []) → KnowsItsScopes tell s z → (v : Bool)
+    → is_process z.id p ≡ v → is_process (if v then record z { body = b } else z).id p ≡ false
+    → KnowsItsScopes tell t (if v then record z { body = b } else z)
 knows_ended tell s t e left p x b z active scopes entered h true is not_p = absurd (true≢false (sym is ∙ not_p))
 knows_ended tell s t e left p x b z active scopes entered h false is not_p = knows_other tell s t e left p x z active scopes entered is h
 
 -- the active process ends with no open scope
-pub waiting_ended : {B : Type 0} (g : Plan B) (tell : Telling B) (s : State B) (e : EventId) (left : List Callback) (p : ProcId) (x : Signal) (y : ProcessOf B) (b : B) (d : Calendar) (processed drawn : ℕ) (lines : List Line) → s.control ≡ Active e left p x → process_at p s ≡ Some y → scopes_told (tell.scopes y.body) (tell.last y.body) x ≡ [] → Grown s.facilities.calendar d → ((w : Waiter) → waits_well s.facilities.calendar w ≡ true → is_pending d w.event ≡ true) → WaitingBasis g tell s → WaitingBasis g tell (moved s d (filter (λ z. not (is_process z.id p)) (with_body p b s).processes) (not_active s.control) processed drawn lines)
+pub waiting_ended : {B : Type 0} (g : Plan B) (tell : Telling B) (s : State B) (e : EventId) (left : List Callback)
+    (p : ProcId) (x : Signal) (y : ProcessOf B) (b : B) (d : Calendar) (processed drawn : ℕ) (lines : List Line)
+    → s.control ≡ Active e left p x → process_at p s ≡ Some y → scopes_told (tell.scopes y.body) (tell.last y.body) x ≡ []
+    → Grown s.facilities.calendar d
+    → ((w : Waiter) → waits_well s.facilities.calendar w ≡ true → is_pending d w.event ≡ true) → WaitingBasis g tell s
+    → WaitingBasis g tell (moved s d (filter (λ z. not (is_process z.id p)) (with_body p b s).processes) (not_active s.control) processed drawn lines)
 waiting_ended {B} g tell s e left p x y b d processed drawn lines active found none grown pending h =
     let f : ProcessOf B → ProcessOf B = λ z. if is_process z.id p then record z { body = b } else z in
     let test : ProcessOf B → Bool = λ z. not (is_process z.id p) in

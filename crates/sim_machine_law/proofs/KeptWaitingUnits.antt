@@ -39,27 +39,32 @@ use Rattle.sim_machine_law.proofs.KeptBodiesEvents.{OldStay, grown_itself, grown
 use Rattle.sim_machine_law.proofs.KeptBodiesUnits.{alive_made}
 use Rattle.sim_machine_law.proofs.KeptWaiting.{moved, waiting_moved, waits_pending, scope_alive}
 use Rattle.sim_machine_law.proofs.KeptWaitingPolls.{IsWaitingPoll, waiting_unpolled, waiting_polled, waiting_ended, entered_resumed, pending_failed_defused, knows_moved, holds_of_all}
-use Rattle.sim_machine_law.proofs.LawfulBasis.{LawfulBasis, WaitingBasis}
+use Rattle.sim_machine_law.proofs.LawfulBasis.{AreNamedPending, LawfulBasis, WaitingBasis}
 use Rattle.sim_machine_law.proofs.ToldScopes.{entered_not}
 
 -- no request is told of, where none was told of before
 none_entered : (k l : Control) → k ≡ l → ((q : ProcId) (v : Bool) → entered_by l q v ≡ []) → (q : ProcId) (v : Bool) → [] ≡ entered_by k q v
 none_entered k l is none q v = sym (ap (λ (j : Control). entered_by j q v) is ∙ none q v)
 
-pub waiting-popped : {B : Type 0} (g : Plan B) (tell : Telling B) (sound : B → Type 0) (s : State B) (x : Entry) → s.control ≡ Idle → due (calendar s).agenda ≡ Some x → LawfulBasis g tell sound s → WaitingBasis g tell (pop_entry x s)
+pub waiting-popped : {B : Type 0} (g : Plan B) (tell : Telling B) (sound : B → Type 0) (s : State B) (x : Entry)
+    → s.control ≡ Idle → due (calendar s).agenda ≡ Some x → LawfulBasis g tell sound s → WaitingBasis g tell (pop_entry x s)
 waiting-popped g tell sound s x idle is_due h =
     let c : Calendar = s.facilities.calendar in
     waiting_unpolled g tell s (popped x c) (Calling x.event (callbacks_of x.event c)) (s.processed + 1) s.drawn (s.lines ++ line_of x c ∷ []) (grown_popped x c) (λ w waits. popped-keeps (λ y. is_none y.outcome) x c w.event (λ y. refl) ∙ waits_pending c w waits)
     (none_entered s.control Idle idle (λ q v. refl)) h.waiting
 
-pub waiting-resumed : {B : Type 0} (g : Plan B) (tell : Telling B) (sound : B → Type 0) (s : State B) (e : EventId) (left : List Callback) (p : ProcId) → s.control ≡ Calling e (callback.Resume p ∷ left) → LawfulBasis g tell sound s → WaitingBasis g tell (resume e left p s)
+pub waiting-resumed : {B : Type 0} (g : Plan B) (tell : Telling B) (sound : B → Type 0) (s : State B) (e : EventId)
+    (left : List Callback) (p : ProcId) → s.control ≡ Calling e (callback.Resume p ∷ left) → LawfulBasis g tell sound s
+    → WaitingBasis g tell (resume e left p s)
 waiting-resumed g tell sound s e left p calling h =
     let c : Calendar = s.facilities.calendar in
     let x : Signal = signal_by (event_at c e).kind (event_at c e).outcome in
     waiting_unpolled g tell s (defuse_failed e c) (Active e left p x) s.processed s.drawn s.lines (grown_failed_defused e c) (λ w waits. pending_failed_defused e c w.event ∙ waits_pending c w waits)
     (λ q v. entered_resumed e left p x q v (by_is_resumption (event_at c e).kind (event_at c e).outcome) ∙ none_entered s.control (Calling e (callback.Resume p ∷ left)) calling (λ r w. refl) q v) h.waiting
 
-pub waiting-stopped : {B : Type 0} (g : Plan B) (tell : Telling B) (sound : B → Type 0) (s : State B) (e : EventId) (left : List Callback) → s.control ≡ Calling e (callback.Stop ∷ left) → LawfulBasis g tell sound s → WaitingBasis g tell (call g e callback.Stop left s)
+pub waiting-stopped : {B : Type 0} (g : Plan B) (tell : Telling B) (sound : B → Type 0) (s : State B) (e : EventId)
+    (left : List Callback) → s.control ≡ Calling e (callback.Stop ∷ left) → LawfulBasis g tell sound s
+    → WaitingBasis g tell (call g e callback.Stop left s)
 waiting-stopped g tell sound s e left calling h =
     let c : Calendar = s.facilities.calendar in
     waiting_unpolled g tell s c (Over (end_at e s) e left) s.processed s.drawn s.lines (grown_itself c) (waits_pending c) (none_entered s.control (Calling e (callback.Stop ∷ left)) calling (λ q v. refl)) h.waiting
@@ -68,7 +73,8 @@ settled_enters : (e : EventId) (b : Bool) (q : ProcId) (v : Bool) → entered_by
 settled_enters e true q v = refl
 settled_enters e false q v = refl
 
-pub waiting-settled : {B : Type 0} (g : Plan B) (tell : Telling B) (sound : B → Type 0) (s : State B) (e : EventId) → s.control ≡ Calling e [] → LawfulBasis g tell sound s → WaitingBasis g tell (settle e s)
+pub waiting-settled : {B : Type 0} (g : Plan B) (tell : Telling B) (sound : B → Type 0) (s : State B) (e : EventId)
+    → s.control ≡ Calling e [] → LawfulBasis g tell sound s → WaitingBasis g tell (settle e s)
 waiting-settled g tell sound s e calling h =
     let c : Calendar = s.facilities.calendar in
     waiting_unpolled g tell s c (if is_crash e s then Over end.Crash e [] else Idle) s.processed s.drawn s.lines (grown_itself c) (waits_pending c)
@@ -77,7 +83,9 @@ waiting-settled g tell sound s e calling h =
 -- ---- polls
 
 -- an operation is refused
-pub waiting_raise : {B : Type 0} (g : Plan B) (tell : Telling B) (s : State B) (e : EventId) (left : List Callback) (p : ProcId) (x : Signal) (y : ProcessOf B) (b : B) (n : ℕ) → IsWaitingPoll g tell s e left p x y b → WaitingBasis g tell (raise n (with_body p b s))
+pub waiting_raise : {B : Type 0} (g : Plan B) (tell : Telling B) (s : State B) (e : EventId) (left : List Callback)
+    (p : ProcId) (x : Signal) (y : ProcessOf B) (b : B) (n : ℕ) → IsWaitingPoll g tell s e left p x y b
+    → WaitingBasis g tell (raise n (with_body p b s))
 waiting_raise g tell s e left p x y b n h =
     let c : Calendar = s.facilities.calendar in
     waiting_polled g tell s e left p x y b c (told_more (signal.Raised n) s.control) s.processed s.drawn s.lines h (grown_itself c) (waits_pending c) (λ q v. ap (λ (k : Control). entered_by (told_more (signal.Raised n) k) q v) h.active)
@@ -103,7 +111,11 @@ no_length : (es : List EventId) → (length es == 0) ≡ true → es ≡ []
 no_length [] h = refl
 no_length (e ∷ es) h = absurd (omega (arith, eqb-true (length (e ∷ es)) 0 h))
 
-pub waiting-polled_end : {B : Type 0} (g : Plan B) (tell : Telling B) (sound : B → Type 0) (s : State B) (f : CodeFacts) (e : EventId) (left : List Callback) (p : ProcId) (x : Signal) (y : ProcessOf B) (b : B) (o : Outcome) → s.control ≡ Active e left p x → process_at p s ≡ Some y → sound b → LawfulBasis g tell sound s → IsTrue (length (scopes_told (tell.scopes y.body) (tell.last y.body) x) == 0) → WaitingBasis g tell (rest (end_process p o (with_body p b s)))
+pub waiting-polled_end : {B : Type 0} (g : Plan B) (tell : Telling B) (sound : B → Type 0) (s : State B) (f : CodeFacts)
+    (e : EventId) (left : List Callback) (p : ProcId) (x : Signal) (y : ProcessOf B) (b : B) (o : Outcome)
+    → s.control ≡ Active e left p x → process_at p s ≡ Some y → sound b → LawfulBasis g tell sound s
+    → IsTrue (length (scopes_told (tell.scopes y.body) (tell.last y.body) x) == 0)
+    → WaitingBasis g tell (rest (end_process p o (with_body p b s)))
 waiting-polled_end {B} g tell sound s f e left p x y b o active found sb h no_scopes =
     let c : Calendar = s.facilities.calendar in
     let d : Calendar = trigger (event_of p) o c in
@@ -129,7 +141,11 @@ waiting-blank g tell sound f fits =
       bodies = All-nil (KnowsItsScopes tell s);
     }
 
-pub waiting-set_stop : {B : Type 0} (g : Plan B) (tell : Telling B) (sound : B → Type 0) (s : State B) (until : Until) → IsTrue (until_fits g.setup.events until) → ((h : EventId) → IsTrue (nat_lt 0 h.0 && nat_le h.0 g.setup.events) → IsTrue (is_pending (calendar s) h && not (is_processed (calendar s) h))) → (calendar s).time ≡ pos 0 → s.control ≡ Idle → LawfulBasis g tell sound s → WaitingBasis g tell (on_events (set_stop until) s)
+pub waiting-set_stop : {B : Type 0} (g : Plan B) (tell : Telling B) (sound : B → Type 0) (s : State B) (until : Until)
+    → IsTrue (until_fits g.setup.events until)
+    → AreNamedPending g s
+    → (calendar s).time ≡ pos 0 → s.control ≡ Idle → LawfulBasis g tell sound s
+    → WaitingBasis g tell (on_events (set_stop until) s)
 waiting-set_stop g tell sound s until fits named start idle h =
     let c : Calendar = s.facilities.calendar in
     waiting_unpolled g tell s (set_stop until c) s.control s.processed s.drawn s.lines (grown_old c (set_stop until c) (old_stop until c)) (old_pending c (set_stop until c) (old_stop until c)) (λ q v. refl) h.waiting
@@ -139,7 +155,8 @@ none_found test [] h = refl
 none_found test (x ∷ xs) h = rw (All-head (λ z. test z ≡ false) x xs h) (none_found test xs (All-tail (λ z. test z ≡ false) x xs h))
 
 -- no scope is open of a process that is to be made
-no_scopes_of_new : {B : Type 0} (named : ℕ) (g : Plan B) (tell : Telling B) (s : State B) (p : ProcId) → p.0 ≡ length s.facilities.calendar.events → LawfulProcesses named s → WaitingBasis g tell s → requests_of p s ≡ []
+no_scopes_of_new : {B : Type 0} (named : ℕ) (g : Plan B) (tell : Telling B) (s : State B) (p : ProcId)
+    → p.0 ≡ length s.facilities.calendar.events → LawfulProcesses named s → WaitingBasis g tell s → requests_of p s ≡ []
 no_scopes_of_new named g tell s p new ps h =
     let apart : (x : OpenScope) → is_scope_well g.setup.resources s x ≡ true → is_process x.process p ≡ false = λ x w.
     let alive : is_alive x.process s ≡ true = scope_alive g.setup.resources s x w in
@@ -147,7 +164,12 @@ no_scopes_of_new named g tell s p new ps h =
     in
     ap (map (λ (x : OpenScope). x.request)) (none_found (λ x. is_process x.process p) s.scopes (All-weaker (λ x. is_scope_well g.setup.resources s x ≡ true) (λ x. is_process x.process p ≡ false) apart s.scopes h.scopes))
 
-pub waiting-made_process : {B : Type 0} (g : Plan B) (tell : Telling B) (sound : B → Type 0) (s : State B) (f : CodeFacts) (k : ℕ) (args : List ℤ) → IsTrue (nat_lt k (length f.params) && may_start (slice_index_or f.params k []) args) → IsLawfulStart f tell k args (record { 0 = (next_event (calendar s)).0 }) (g.start k args (record { 0 = (next_event (calendar s)).0 })) → sound (g.start k args (record { 0 = (next_event (calendar s)).0 })) → LawfulBasis g tell sound s → WaitingBasis g tell (make_process g k args s)
+pub waiting-made_process : {B : Type 0} (g : Plan B) (tell : Telling B) (sound : B → Type 0) (s : State B) (f : CodeFacts)
+    (k : ℕ) (args : List ℤ) → IsTrue (nat_lt k (length f.params) && may_start (slice_index_or f.params k []) args)
+    → IsLawfulStart f tell k args (record { 0 = (next_event (calendar s)).0 })
+    (g.start k args (record { 0 = (next_event (calendar s)).0 }))
+    → sound (g.start k args (record { 0 = (next_event (calendar s)).0 })) → LawfulBasis g tell sound s
+    → WaitingBasis g tell (make_process g k args s)
 waiting-made_process {B} g tell sound s f k args may start sb h =
     let c : Calendar = s.facilities.calendar in
     let d : Calendar = make_events_of_process c in

@@ -39,7 +39,9 @@ pub record IsMadeOf (test : EventKind → Bool) (c : Calendar) (e : EventId) : T
 -- ---- the places of the body that asked
 
 -- they fit, as they did before the poll
-pub places_fit : {B : Type 0} (g : Plan B) (tell : Telling B) (sound : B → Type 0) (s : State B) (f : CodeFacts) (e : EventId) (left : List Callback) (p : ProcId) (x : Signal) (y : ProcessOf B) (b : B) (o : Op) → HasAsked g tell sound s f e left p x y b o → list_all (place_fits (calendar s)) (tell.places b) ≡ true
+pub places_fit : {B : Type 0} (g : Plan B) (tell : Telling B) (sound : B → Type 0) (s : State B) (f : CodeFacts)
+    (e : EventId) (left : List Callback) (p : ProcId) (x : Signal) (y : ProcessOf B) (b : B) (o : Op)
+    → HasAsked g tell sound s f e left p x y b o → list_all (place_fits (calendar s)) (tell.places b) ≡ true
 places_fit {B} g tell sound s f e left p x y b o h =
     let c : Calendar = calendar s in
     let test : ProcessOf B → Bool = λ z. is_process z.id p in
@@ -50,7 +52,10 @@ places_fit {B} g tell sound s f e left p x y b o h =
     places_polled tell c y.body x (tell.places y.body) (tell.places b) told own.places h.poll.places
 
 -- what stands in a place that passes is event 0, or was made and is of a kind of such places
-in_places : (test : Place → Bool) (fits : EventKind → Bool) (c : Calendar) (e : EventId) → ((x : Place) → test x ≡ true → (k : EventKind) → kind_fits x.class k ≡ true → fits k ≡ true) → (xs : List Place) → list_all (place_fits c) xs ≡ true → list_any (λ x. test x && is_same x.event e) xs ≡ true → (e.0 ≡ 0) ⊎ IsMadeOf fits c e
+in_places : (test : Place → Bool) (fits : EventKind → Bool) (c : Calendar) (e : EventId)
+    → ((x : Place) → test x ≡ true → (k : EventKind) → kind_fits x.class k ≡ true → fits k ≡ true) → (xs : List Place)
+    → list_all (place_fits c) xs ≡ true → list_any (λ x. test x && is_same x.event e) xs ≡ true
+    → (e.0 ≡ 0) ⊎ IsMadeOf fits c e
 in_places test fits c e kinds [] h any = absurd (false≢true any)
 in_places test fits c e kinds (x ∷ xs) h any =
     let all : (place_fits c x ≡ true) × (list_all (place_fits c) xs ≡ true) = and_parts (place_fits c x) (list_all (place_fits c) xs) h in
@@ -59,7 +64,9 @@ in_places test fits c e kinds (x ∷ xs) h any =
     (λ later. in_places test fits c e kinds xs all.1 later)
     (or_cases (test x && is_same x.event e) (list_any (λ x. test x && is_same x.event e) xs) any)
   where
-    at : test x ≡ true → x.event ≡ e → ((x.event.0 == 0) ≡ true) ⊎ ((was_made c x.event && kind_fits x.class (kind_at c x.event)) ≡ true) → (e.0 ≡ 0) ⊎ IsMadeOf fits c e
+    at : test x ≡ true → x.event ≡ e
+        → ((x.event.0 == 0) ≡ true) ⊎ ((was_made c x.event && kind_fits x.class (kind_at c x.event)) ≡ true)
+        → (e.0 ≡ 0) ⊎ IsMadeOf fits c e
     at passes same (inl zero) = inl (ap (λ (n : EventId). n.0) (sym same) ∙ eqb-true x.event.0 0 zero)
     at passes same (inr made) =
         let parts : (was_made c x.event ≡ true) × (kind_fits x.class (kind_at c x.event) ≡ true) = and_parts (was_made c x.event) (kind_fits x.class (kind_at c x.event)) made in
@@ -73,7 +80,8 @@ plain_has fits kind.Plain h plain = h
 plain_has fits _ h plain = absurd (false≢true plain)
 
 -- event 0 and the named events were made, and are plain
-first_made : {B : Type 0} (named : ℕ) (s : State B) (fits : EventKind → Bool) (e : EventId) → fits kind.Plain ≡ true → e.0 ≤ named → LawfulProcesses named s → IsMadeOf fits (calendar s) e
+first_made : {B : Type 0} (named : ℕ) (s : State B) (fits : EventKind → Bool) (e : EventId) → fits kind.Plain ≡ true
+    → e.0 ≤ named → LawfulProcesses named s → IsMadeOf fits (calendar s) e
 first_made named s fits e plain low h =
     record { made = omega (arith, low, h.named_made); kind = plain_has fits (kind_at (calendar s) e) plain (h.named_plain e.0 low) }
 
@@ -86,11 +94,17 @@ named_low f e h = grind (arith, nat_tests)
 -- ---- all that may be named
 
 -- by what a test takes of the events that stand in places of some classes, and of plain events
-scenario_made : {B : Type 0} (g : Plan B) (s : State B) (f : CodeFacts) (fits : EventKind → Bool) (e : EventId) → FitsCode f g.setup → fits kind.Plain ≡ true → LawfulProcesses g.setup.events s → (is_zero e || is_named f e) ≡ true → IsMadeOf fits (calendar s) e
+scenario_made : {B : Type 0} (g : Plan B) (s : State B) (f : CodeFacts) (fits : EventKind → Bool) (e : EventId)
+    → FitsCode f g.setup → fits kind.Plain ≡ true → LawfulProcesses g.setup.events s → (is_zero e || is_named f e) ≡ true
+    → IsMadeOf fits (calendar s) e
 scenario_made g s f fits e setup plain h named =
     first_made g.setup.events s fits e plain (⊎_elim (λ zero. zero_low e g.setup.events zero) (λ low. rw setup.events (named_low f e low)) (or_cases (is_zero e) (is_named f e) named)) h
 
-placed_made : {B : Type 0} (g : Plan B) (tell : Telling B) (sound : B → Type 0) (s : State B) (f : CodeFacts) (e : EventId) (left : List Callback) (p : ProcId) (x : Signal) (y : ProcessOf B) (b : B) (o : Op) (test : Place → Bool) (fits : EventKind → Bool) (n : EventId) → HasAsked g tell sound s f e left p x y b o → fits kind.Plain ≡ true → ((z : Place) → test z ≡ true → (k : EventKind) → kind_fits z.class k ≡ true → fits k ≡ true) → list_any (λ z. test z && is_same z.event n) (tell.places b) ≡ true → IsMadeOf fits (calendar s) n
+placed_made : {B : Type 0} (g : Plan B) (tell : Telling B) (sound : B → Type 0) (s : State B) (f : CodeFacts) (e : EventId)
+    (left : List Callback) (p : ProcId) (x : Signal) (y : ProcessOf B) (b : B) (o : Op) (test : Place → Bool)
+    (fits : EventKind → Bool) (n : EventId) → HasAsked g tell sound s f e left p x y b o → fits kind.Plain ≡ true
+    → ((z : Place) → test z ≡ true → (k : EventKind) → kind_fits z.class k ≡ true → fits k ≡ true)
+    → list_any (λ z. test z && is_same z.event n) (tell.places b) ≡ true → IsMadeOf fits (calendar s) n
 placed_made g tell sound s f e left p x y b o test fits n h plain kinds placed =
     ⊎_elim (λ zero. first_made g.setup.events s fits n plain (omega (arith, zero)) h.lawful.processes) (λ made. made)
     (in_places test fits (calendar s) n kinds (tell.places b) (places_fit g tell sound s f e left p x y b o h) placed)
@@ -102,7 +116,10 @@ triggered_fits class.Event h _ w = absurd (false≢true w)
 triggered_fits _ h k w = absurd (false≢true h)
 
 -- an event that a body may trigger is plain or a timeout
-pub known_event_made : {B : Type 0} (g : Plan B) (tell : Telling B) (sound : B → Type 0) (s : State B) (f : CodeFacts) (e : EventId) (left : List Callback) (p : ProcId) (x : Signal) (y : ProcessOf B) (b : B) (o : Op) (n : EventId) → FitsCode f g.setup → HasAsked g tell sound s f e left p x y b o → is_known_event f (tell.places b) n ≡ true → IsMadeOf is_triggered_kind (calendar s) n
+pub known_event_made : {B : Type 0} (g : Plan B) (tell : Telling B) (sound : B → Type 0) (s : State B) (f : CodeFacts)
+    (e : EventId) (left : List Callback) (p : ProcId) (x : Signal) (y : ProcessOf B) (b : B) (o : Op) (n : EventId)
+    → FitsCode f g.setup → HasAsked g tell sound s f e left p x y b o → is_known_event f (tell.places b) n ≡ true
+    → IsMadeOf is_triggered_kind (calendar s) n
 known_event_made g tell sound s f e left p x y b o n setup h known =
     ⊎_elim (λ named. scenario_made g s f is_triggered_kind n setup refl h.lawful.processes named)
     (λ placed. placed_made g tell sound s f e left p x y b o (λ z. is_class z.class class.Event) is_triggered_kind n h refl (λ z. triggered_fits z.class) placed)
@@ -125,7 +142,10 @@ process_has fits kind.Process h process = h
 process_has fits _ h process = absurd (false≢true process)
 
 -- the event of the process that asked, where its body has its number
-own_made : {B : Type 0} (g : Plan B) (tell : Telling B) (sound : B → Type 0) (s : State B) (f : CodeFacts) (e : EventId) (left : List Callback) (p : ProcId) (x : Signal) (y : ProcessOf B) (b : B) (o : Op) (fits : EventKind → Bool) (n : EventId) → HasAsked g tell sound s f e left p x y b o → fits kind.Process ≡ true → (n.0 == (tell.own b).0) ≡ true → IsMadeOf fits (calendar s) n
+own_made : {B : Type 0} (g : Plan B) (tell : Telling B) (sound : B → Type 0) (s : State B) (f : CodeFacts) (e : EventId)
+    (left : List Callback) (p : ProcId) (x : Signal) (y : ProcessOf B) (b : B) (o : Op) (fits : EventKind → Bool)
+    (n : EventId) → HasAsked g tell sound s f e left p x y b o → fits kind.Process ≡ true → (n.0 == (tell.own b).0) ≡ true
+    → IsMadeOf fits (calendar s) n
 own_made g tell sound s f e left p x y b o fits n h process same =
     let found = found_pending g tell sound s p y h.found h.lawful in
     let number : n.0 ≡ p.0 = eqb-true n.0 (tell.own b).0 same ∙ ap (λ (q : ProcId). q.0) (h.poll.own ∙ own_number tell sound s p y h.lawful.bodies h.found) in
@@ -133,7 +153,10 @@ own_made g tell sound s f e left p x y b o fits n h process same =
     subst (IsMadeOf fits (calendar s)) (same_event (event_of p) n (sym number)) its
 
 -- it is no interruption and no stop
-pub known_made : {B : Type 0} (g : Plan B) (tell : Telling B) (sound : B → Type 0) (s : State B) (f : CodeFacts) (e : EventId) (left : List Callback) (p : ProcId) (x : Signal) (y : ProcessOf B) (b : B) (o : Op) (n : EventId) → FitsCode f g.setup → HasAsked g tell sound s f e left p x y b o → is_known f (tell.own b) (tell.places b) n ≡ true → IsMadeOf (λ k. not (is_unheard_kind k)) (calendar s) n
+pub known_made : {B : Type 0} (g : Plan B) (tell : Telling B) (sound : B → Type 0) (s : State B) (f : CodeFacts)
+    (e : EventId) (left : List Callback) (p : ProcId) (x : Signal) (y : ProcessOf B) (b : B) (o : Op) (n : EventId)
+    → FitsCode f g.setup → HasAsked g tell sound s f e left p x y b o → is_known f (tell.own b) (tell.places b) n ≡ true
+    → IsMadeOf (λ k. not (is_unheard_kind k)) (calendar s) n
 known_made g tell sound s f e left p x y b o n setup h known =
     let fits : EventKind → Bool = λ k. not (is_unheard_kind k) in
     let test : Place → Bool = λ z. not (is_class z.class class.Number) in
@@ -161,7 +184,11 @@ triggered_triggers kind.Timeout h = refl
 triggered_triggers _ h = absurd (false≢true h)
 
 -- it is of the kinds of chains
-pub known_source_made : {B : Type 0} (g : Plan B) (tell : Telling B) (sound : B → Type 0) (s : State B) (f : CodeFacts) (e : EventId) (left : List Callback) (p : ProcId) (x : Signal) (y : ProcessOf B) (b : B) (o : Op) (n : EventId) → FitsCode f g.setup → HasAsked g tell sound s f e left p x y b o → (is_known_event f (tell.places b) n || (n.0 == (tell.own b).0) || is_in_place (tell.places b) class.Cond n || is_in_place (tell.places b) class.Proc n) ≡ true → IsMadeOf is_trigger_kind (calendar s) n
+pub known_source_made : {B : Type 0} (g : Plan B) (tell : Telling B) (sound : B → Type 0) (s : State B) (f : CodeFacts)
+    (e : EventId) (left : List Callback) (p : ProcId) (x : Signal) (y : ProcessOf B) (b : B) (o : Op) (n : EventId)
+    → FitsCode f g.setup → HasAsked g tell sound s f e left p x y b o
+    → (is_known_event f (tell.places b) n || (n.0 == (tell.own b).0) || is_in_place (tell.places b) class.Cond n || is_in_place (tell.places b) class.Proc n)
+    ≡ true → IsMadeOf is_trigger_kind (calendar s) n
 known_source_made g tell sound s f e left p x y b o n setup h known =
     let event : Bool = is_known_event f (tell.places b) n in
     let mine : Bool = n.0 == (tell.own b).0 in

@@ -1,11 +1,12 @@
 -- What most changes of a state are shown to keep at once. The facts of a lawful state that are not among these are kept
 -- beside them, in `FactsBeside`.
-use Rattle.std.specs.Prelude.{ℕ, ◌≡◌, ◌≢◌, ◌≤◌, IsTrue, not, nat_lt, count_by, All, AllPairs, length}
+use Rattle.std.specs.Prelude.{ℕ, ◌≡◌, ◌≢◌, ◌≤◌, ◌&&◌, IsTrue, not, nat_lt, nat_le, count_by, All, AllPairs, length}
 use Rattle.std.specs.List.{AllPass}
 use Rattle.sim_types.specs.declared.event.EventId.{EventId}
 use Rattle.sim_machine.specs.State.{Calendar, Control, State, Plan}
 use Rattle.sim_types.specs.declared.setup.Until.{Until}
-use Rattle.sim_machine.specs.Events.{event_at}
+use Rattle.sim_machine.specs.Effect.{calendar}
+use Rattle.sim_machine.specs.Events.{event_at, is_pending, is_processed}
 use Rattle.sim_machine.specs.Users.{users}
 use Rattle.sim_machine.specs.Requests.{waits}
 use Rattle.sim_machine.specs.Tellings.{Telling}
@@ -23,6 +24,11 @@ use Rattle.sim_machine.specs.LawfulStops.{LawfulStops}
 use Rattle.sim_machine.specs.LawfulTries.{LawfulTries}
 use Rattle.sim_machine.specs.LawfulLedger.{LawfulLedger}
 use Rattle.sim_machine.specs.Lawful.{Lawful}
+
+-- each named event is there, pending and not processed, as before the first unit
+abbrev pub AreNamedPending : {B : Type 0} → Plan B → State B → Type 0
+AreNamedPending g s =
+    (h : EventId) → IsTrue (nat_lt 0 h.0 && nat_le h.0 g.setup.events) → IsTrue (is_pending (calendar s) h && not (is_processed (calendar s) h))
 
 -- no request has two open scopes
 abbrev pub AreScopesApart : {B : Type 0} → State B → Type 0
@@ -116,7 +122,9 @@ module _ {B : Type 0} (g : Plan B) (tell : Telling B) (sound : B → Type 0) (s 
         stops = h.stops;
       }
 
-  pub lawful_from : LawfulBasis g tell sound s → FactsBeside g.setup.until s → LawfulTries (length g.setup.resources) s.facilities.calendar s.control → LawfulLedger s.facilities → Lawful g tell sound s
+  pub lawful_from : LawfulBasis g tell sound s → FactsBeside g.setup.until s
+      → LawfulTries (length g.setup.resources) s.facilities.calendar s.control → LawfulLedger s.facilities
+      → Lawful g tell sound s
   lawful_from l h tries ledger =
       record {
         times = l.times;

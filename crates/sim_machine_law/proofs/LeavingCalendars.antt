@@ -106,7 +106,9 @@ pub record IsPlainCallback (y : Callback) : Type 0 where
   pub chains : (d : Calendar) (e : EventId) → chains_well d e y ≡ true
 
 -- an event is made that is to call it, and it succeeds now
-pub proceeds-new : (k : Control) (x : EventKind) (y : Callback) (value : ℤ) (c : Calendar) → is_interrupt_kind x ≡ false → is_process_kind x ≡ false → IsPlainCallback y → Proceeds k c (succeed (next_event c) value (register (next_event c) y (make x c)))
+pub proceeds-new : (k : Control) (x : EventKind) (y : Callback) (value : ℤ) (c : Calendar) → is_interrupt_kind x ≡ false
+    → is_process_kind x ≡ false → IsPlainCallback y
+    → Proceeds k c (succeed (next_event c) value (register (next_event c) y (make x c)))
 proceeds-new k x y value c no_interrupt no_process plain =
     let e : EventId = next_event c in
     let o : Outcome = outcome.Ok value in

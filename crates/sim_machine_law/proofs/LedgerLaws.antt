@@ -24,7 +24,9 @@ pub record FitsLedger (rs : List Resource) (ledger : List Deed) (d : Deed) : Typ
 less_fits : (m n : ℕ) (c : ℤ) → m ≤ n → pos n ≤ℤ c → pos m ≤ℤ c
 less_fits m n c less h = omega (arith, ints, less, h)
 
-pub capacities_deed : (rs : List Resource) (f : Facilities) (d : Deed) → FitsLedger rs f.ledger d → ((res : ℕ) → AllPass (is_in_use f.calendar) (user_by res d [])) → LawfulCapacities rs f → LawfulCapacities rs (write_deed d f)
+pub capacities_deed : (rs : List Resource) (f : Facilities) (d : Deed) → FitsLedger rs f.ledger d
+    → ((res : ℕ) → AllPass (is_in_use f.calendar) (user_by res d [])) → LawfulCapacities rs f
+    → LawfulCapacities rs (write_deed d f)
 capacities_deed rs f d fits in_use h =
     let opening : ℕ → ℤ = λ res. (resource_at rs res).opening in
     record {
@@ -46,7 +48,9 @@ no_change_high : (n m c : ℤ) → m ≡ pos 0 → n ≤ℤ c → (n +ℤ m) ≤
 no_change_high n m c none h = omega (arith, ints, none, h)
 
 -- a deed that makes no user and no item and changes no level
-pub plain_fits : (rs : List Resource) (f : Facilities) (d : Deed) → ((res : ℕ) → user_by res d [] ≡ []) → ((res : ℕ) → item_by res d [] ≡ []) → ((res : ℕ) → change_of_level res d ≡ pos 0) → LawfulCapacities rs f → FitsLedger rs f.ledger d
+pub plain_fits : (rs : List Resource) (f : Facilities) (d : Deed) → ((res : ℕ) → user_by res d [] ≡ [])
+    → ((res : ℕ) → item_by res d [] ≡ []) → ((res : ℕ) → change_of_level res d ≡ pos 0) → LawfulCapacities rs f
+    → FitsLedger rs f.ledger d
 plain_fits rs f d no_user no_item no_change h =
     record {
       slots = λ res below. no_more (length (users res f.ledger)) (length (user_by res d [])) (resource_at rs res).capacity (ap (λ (us : List User). length us) (no_user res)) (h.slots res below);
@@ -66,7 +70,9 @@ same_place : (P : ℕ → Type 0) (at res : ℕ) → P at → ((at == res) && tr
 same_place P at res h e = subst P (eqb-true at res (and_parts (at == res) true e).0) h
 
 -- a grant where a slot is free
-pub granted_fits : (rs : List Resource) (f : Facilities) (at : ℕ) (u : User) → int_lt (pos (length (users at f.ledger))) (resource_at rs at).capacity ≡ true → LawfulCapacities rs f → FitsLedger rs f.ledger (Granted at u)
+pub granted_fits : (rs : List Resource) (f : Facilities) (at : ℕ) (u : User)
+    → int_lt (pos (length (users at f.ledger))) (resource_at rs at).capacity ≡ true → LawfulCapacities rs f
+    → FitsLedger rs f.ledger (Granted at u)
 granted_fits rs f at u free h =
     record {
       slots = λ res below. if_room (length (users res f.ledger)) u (resource_at rs res).capacity ((at == res) && true) (h.slots res below) (same_place (λ n. int_lt (pos (length (users n f.ledger))) (resource_at rs n).capacity ≡ true) at res free);
@@ -76,7 +82,9 @@ granted_fits rs f at u free h =
     }
 
 -- a deposit where there is room
-pub deposited_fits : (rs : List Resource) (f : Facilities) (at : ℕ) (x : Item) → int_lt (pos (length (items at f.ledger))) (resource_at rs at).capacity ≡ true → LawfulCapacities rs f → FitsLedger rs f.ledger (Deposited at x)
+pub deposited_fits : (rs : List Resource) (f : Facilities) (at : ℕ) (x : Item)
+    → int_lt (pos (length (items at f.ledger))) (resource_at rs at).capacity ≡ true → LawfulCapacities rs f
+    → FitsLedger rs f.ledger (Deposited at x)
 deposited_fits rs f at x free h =
     record {
       slots = λ res below. no_more (length (users res f.ledger)) 0 (resource_at rs res).capacity refl (h.slots res below);
@@ -97,7 +105,10 @@ at_place : (P : ℕ → Type 0) (at res : ℕ) → P at → (at == res) ≡ true
 at_place P at res h e = subst P (eqb-true at res e) h
 
 -- a level that changes within the capacity
-moved_fits : (rs : List Resource) (f : Facilities) (d : Deed) (at : ℕ) (m : ℤ) → ((res : ℕ) → user_by res d [] ≡ []) → ((res : ℕ) → item_by res d [] ≡ []) → ((res : ℕ) → change_of_level res d ≡ (if at == res then m else pos 0)) → pos 0 ≤ℤ (level rs at f +ℤ m) → (level rs at f +ℤ m) ≤ℤ (resource_at rs at).capacity → LawfulCapacities rs f → FitsLedger rs f.ledger d
+moved_fits : (rs : List Resource) (f : Facilities) (d : Deed) (at : ℕ) (m : ℤ) → ((res : ℕ) → user_by res d [] ≡ [])
+    → ((res : ℕ) → item_by res d [] ≡ []) → ((res : ℕ) → change_of_level res d ≡ (if at == res then m else pos 0))
+    → pos 0 ≤ℤ (level rs at f +ℤ m) → (level rs at f +ℤ m) ≤ℤ (resource_at rs at).capacity → LawfulCapacities rs f
+    → FitsLedger rs f.ledger d
 moved_fits rs f d at m no_user no_item change low high h =
     record {
       slots = λ res below. no_more (length (users res f.ledger)) (length (user_by res d [])) (resource_at rs res).capacity (ap (λ (us : List User). length us) (no_user res)) (h.slots res below);
@@ -113,7 +124,9 @@ within_of : (n c : ℤ) → int_le n c ≡ true → n ≤ℤ c
 within_of n c h = grind (arith, ints, nat_tests)
 
 -- an amount that fits into what is free
-pub filled_fits : (rs : List Resource) (f : Facilities) (at : ℕ) (amount : ℤ) → at < length rs → int_lt (pos 0) amount ≡ true → int_le (level rs at f +ℤ amount) (resource_at rs at).capacity ≡ true → LawfulCapacities rs f → FitsLedger rs f.ledger (Filled at amount)
+pub filled_fits : (rs : List Resource) (f : Facilities) (at : ℕ) (amount : ℤ) → at < length rs → int_lt (pos 0) amount ≡ true
+    → int_le (level rs at f +ℤ amount) (resource_at rs at).capacity ≡ true → LawfulCapacities rs f
+    → FitsLedger rs f.ledger (Filled at amount)
 filled_fits rs f at amount below more fits h =
     moved_fits rs f (Filled at amount) at amount (λ res. refl) (λ res. refl) (λ res. refl) (more_low (level rs at f) amount (h.level_low at below) more) (within_of (level rs at f +ℤ amount) (resource_at rs at).capacity fits) h
 
@@ -124,6 +137,8 @@ less_high : (n m c : ℤ) → n ≤ℤ c → int_lt (pos 0) m ≡ true → (n +�
 less_high n m c h more = grind (arith, ints, nat_tests)
 
 -- an amount that is there
-pub drained_fits : (rs : List Resource) (f : Facilities) (at : ℕ) (amount : ℤ) → at < length rs → int_lt (pos 0) amount ≡ true → int_le amount (level rs at f) ≡ true → LawfulCapacities rs f → FitsLedger rs f.ledger (Drained at amount)
+pub drained_fits : (rs : List Resource) (f : Facilities) (at : ℕ) (amount : ℤ) → at < length rs
+    → int_lt (pos 0) amount ≡ true → int_le amount (level rs at f) ≡ true → LawfulCapacities rs f
+    → FitsLedger rs f.ledger (Drained at amount)
 drained_fits rs f at amount below more there h =
     moved_fits rs f (Drained at amount) at (pos 0 -ℤ amount) (λ res. refl) (λ res. refl) (λ res. refl) (less_low (level rs at f) amount there) (less_high (level rs at f) amount (resource_at rs at).capacity (h.level_high at below) more) h

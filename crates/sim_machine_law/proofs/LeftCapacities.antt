@@ -56,7 +56,8 @@ ledger_left res request f =
 
 -- ---- capacities
 
-pub capacities_left : (rs : List Resource) (res : ℕ) (request : EventId) (f : Facilities) → Later f.calendar (leave res request f).calendar → LawfulCapacities rs f → LawfulCapacities rs (leave res request f)
+pub capacities_left : (rs : List Resource) (res : ℕ) (request : EventId) (f : Facilities)
+    → Later f.calendar (leave res request f).calendar → LawfulCapacities rs f → LawfulCapacities rs (leave res request f)
 capacities_left rs res request f k h =
     let g : Facilities = leave res request f in
     let keep : Waiter → Bool = λ w. not (is_same w.event request) in
@@ -72,12 +73,14 @@ capacities_left rs res request f k h =
       waiting = All-same (λ w. fits w ≡ true) g.waiters (filter keep f.waiters) (waiters_left res request f) (All-filter keep (λ w. fits w ≡ true) f.waiters l.waiting);
     }
 
-capacities_closed : {B : Type 0} (rs : List Resource) (xs : List OpenScope) (s : State B) → LawfulCapacities rs s.facilities → LawfulCapacities rs (fold close_scope s xs).facilities
+capacities_closed : {B : Type 0} (rs : List Resource) (xs : List OpenScope) (s : State B) → LawfulCapacities rs s.facilities
+    → LawfulCapacities rs (fold close_scope s xs).facilities
 capacities_closed rs [] s h = h
 capacities_closed rs (x ∷ xs) s h = capacities_closed rs xs (close_scope s x) (capacities_left rs x.res x.request s.facilities (proceeds-left s.control x.res x.request s.facilities).calm.later h)
 
 -- a process that is dropped leaves all its scopes
-pub capacities_dropped : {B : Type 0} (rs : List Resource) (s : State B) (q : ProcId) (value : ℤ) → LawfulCapacities rs s.facilities → LawfulCapacities rs (drop_process q value s).facilities
+pub capacities_dropped : {B : Type 0} (rs : List Resource) (s : State B) (q : ProcId) (value : ℤ)
+    → LawfulCapacities rs s.facilities → LawfulCapacities rs (drop_process q value s).facilities
 capacities_dropped {B} rs s q value h =
     let c : Calendar = calendar s in
     let d : Calendar = unregister (target_of q (process_at q s)) (is_resume_of q) c in

@@ -29,7 +29,8 @@ fails_by : (a b : Bool) → (a ≡ true → b ≡ true) → b ≡ false → a �
 fails_by true b h out = absurd (both_ways b out (h refl))
 fails_by false b h out = refl
 
-pub any_filtered : {X : Type 0} (test stays : X → Bool) (xs : List X) → ((x : X) → test x ≡ true → stays x ≡ true) → list_any test (filter stays xs) ≡ list_any test xs
+pub any_filtered : {X : Type 0} (test stays : X → Bool) (xs : List X) → ((x : X) → test x ≡ true → stays x ≡ true)
+    → list_any test (filter stays xs) ≡ list_any test xs
 any_filtered test stays [] h = refl
 any_filtered test stays (x ∷ xs) h =
     let rest : list_any test (filter stays xs) ≡ list_any test xs = any_filtered test stays xs h in
@@ -38,14 +39,16 @@ any_filtered test stays (x ∷ xs) h =
     (λ out. rest ∙ sym (ap (λ (b : Bool). b || list_any test xs) (fails_by (test x) (stays x) (h x) out)))
 
 -- their scopes stay
-pub scope_less : (xs : List OpenScope) (closed r : EventId) (q : ProcId) (res : ℕ) → closed.0 ≢ r.0 → has_scope xs r q res ≡ true → has_scope (filter (keeps closed) xs) r q res ≡ true
+pub scope_less : (xs : List OpenScope) (closed r : EventId) (q : ProcId) (res : ℕ) → closed.0 ≢ r.0
+    → has_scope xs r q res ≡ true → has_scope (filter (keeps closed) xs) r q res ≡ true
 scope_less xs closed r q res differ h =
     any_filtered (is_that_scope r q res) (keeps closed) xs (λ y h. other y (and_parts (is_same y.request r) (is_process y.process q) (and_parts (is_same y.request r && is_process y.process q) (y.res == res) h).0).0) ∙ h
   where
     other : (y : OpenScope) → of_request r y ≡ true → keeps closed y ≡ true
     other y h = not_from_false (is_same y.request closed) (ne_eqb y.request.0 closed.0 (λ same. differ (sym same ∙ eqb-true y.request.0 r.0 h)))
 
-pub request_scope_less : (xs : List OpenScope) (closed : EventId) (w : Waiter) (want : Want) → closed.0 ≢ w.event.0 → request_has_scope xs w want ≡ true → request_has_scope (filter (keeps closed) xs) w want ≡ true
+pub request_scope_less : (xs : List OpenScope) (closed : EventId) (w : Waiter) (want : Want) → closed.0 ≢ w.event.0
+    → request_has_scope xs w want ≡ true → request_has_scope (filter (keeps closed) xs) w want ≡ true
 request_scope_less xs closed w (Slot p key) differ h = scope_less xs closed w.event p w.res differ h
 request_scope_less xs closed w (Give amount priority) differ h = refl
 request_scope_less xs closed w (Take least greatest) differ h = refl
@@ -91,7 +94,8 @@ innermost_one (y ∷ []) z h = inl (one_is_some y z h)
 innermost_one (y ∷ v ∷ ys) z h = inr (innermost_one (v ∷ ys) z (sym (innermost_later y v ys) ∙ h))
 
 -- of its process all other requests are left
-pub innermost_left : (ys : List OpenScope) (z : OpenScope) → AllPairs AreOfTwo ys → first_of_list (reverse ys) ≡ Some z → map (λ (x : OpenScope). x.request) (filter (keeps z.request) ys) ≡ without_last (map (λ (x : OpenScope). x.request) ys)
+pub innermost_left : (ys : List OpenScope) (z : OpenScope) → AllPairs AreOfTwo ys → first_of_list (reverse ys) ≡ Some z
+    → map (λ (x : OpenScope). x.request) (filter (keeps z.request) ys) ≡ without_last (map (λ (x : OpenScope). x.request) ys)
 innermost_left [] z k h = absurd (none_is_some z h)
 innermost_left (y ∷ []) z k h =
     let out : keeps z.request y ≡ false = ap (λ (v : OpenScope). keeps z.request v) (one_is_some y z h) ∙ ap not (is_same-self z.request) in
@@ -105,7 +109,9 @@ innermost_left (y ∷ v ∷ ys) z k h =
 
 -- ---- one test after the other
 
-swap_at : {X : Type 0} (p q : X → Bool) (x : X) (xs : List X) → filter p (filter q xs) ≡ filter q (filter p xs) → (a b : Bool) → p x ≡ a → q x ≡ b → filter p (if b then x ∷ filter q xs else filter q xs) ≡ filter q (if a then x ∷ filter p xs else filter p xs)
+swap_at : {X : Type 0} (p q : X → Bool) (x : X) (xs : List X) → filter p (filter q xs) ≡ filter q (filter p xs)
+    → (a b : Bool) → p x ≡ a → q x ≡ b
+    → filter p (if b then x ∷ filter q xs else filter q xs) ≡ filter q (if a then x ∷ filter p xs else filter p xs)
 swap_at p q x xs h true true pa qb = rw (pa, qb) (ap (λ zs. x ∷ zs) h)
 swap_at p q x xs h true false pa qb = rw qb h
 swap_at p q x xs h false true pa qb = rw pa h
@@ -120,7 +126,8 @@ filter_all p [] h = refl
 filter_all p (x ∷ xs) h = rw (All-head (λ y. p y ≡ true) x xs h) (ap (λ zs. x ∷ zs) (filter_all p xs (All-tail (λ y. p y ≡ true) x xs h)))
 
 -- the requests of another process stay
-pub requests_elsewhere : (xs : List OpenScope) (z : OpenScope) (q : ProcId) → AllPairs AreOfTwo xs → IsOneOf xs z → is_process z.process q ≡ false → requests_in q (filter (keeps z.request) xs) ≡ requests_in q xs
+pub requests_elsewhere : (xs : List OpenScope) (z : OpenScope) (q : ProcId) → AllPairs AreOfTwo xs → IsOneOf xs z
+    → is_process z.process q ≡ false → requests_in q (filter (keeps z.request) xs) ≡ requests_in q xs
 requests_elsewhere xs z q k one apart =
     let test : OpenScope → Bool = λ x. is_process x.process q in
     let all : All (λ y. test y ≡ true → keeps z.request y ≡ true) xs = All-weaker (IsOneOf xs) (λ y. test y ≡ true → keeps z.request y ≡ true) (λ y at is. stays y at is) xs (all_one_of xs) in
@@ -132,7 +139,10 @@ requests_elsewhere xs z q k one apart =
         not_from_false (is_same y.request z.request) (fails_by (is_same y.request z.request) false (λ same. absurd (both_ways (is_process z.process q) apart (ap (λ (v : OpenScope). is_process v.process q) (sym (same_scope xs y z k at one (is_same-yes y.request z.request same))) ∙ is))) refl)
 
 -- and those of its own but the innermost
-pub requests_left : (xs : List OpenScope) (z : OpenScope) (p : ProcId) → AllPairs AreOfTwo (filter (λ x. is_process x.process p) xs) → first_of_list (reverse (filter (λ x. is_process x.process p) xs)) ≡ Some z → requests_in p (filter (keeps z.request) xs) ≡ without_last (requests_in p xs)
+pub requests_left : (xs : List OpenScope) (z : OpenScope) (p : ProcId)
+    → AllPairs AreOfTwo (filter (λ x. is_process x.process p) xs)
+    → first_of_list (reverse (filter (λ x. is_process x.process p) xs)) ≡ Some z
+    → requests_in p (filter (keeps z.request) xs) ≡ without_last (requests_in p xs)
 requests_left xs z p k h =
     let test : OpenScope → Bool = λ x. is_process x.process p in
     ap (map (λ (x : OpenScope). x.request)) (filter_swap test (keeps z.request) xs) ∙ innermost_left (filter test xs) z k h

@@ -27,10 +27,13 @@ use Rattle.sim_machine_law.specs.Courses.{AddsAtMostOne}
 wait_lines : {B : Type 0} (e : EventId) (p : ProcId) (s : State B) → (wait e p s).lines ≡ s.lines
 wait_lines e p s = grind arith
 
-timeout_lines : {B : Type 0} (delay value : ℤ) (after : EventId → State B → State B) (s : State B) → ((e : EventId) (t : State B) → (after e t).lines ≡ t.lines) → (with_timeout delay value after s).lines ≡ s.lines
+timeout_lines : {B : Type 0} (delay value : ℤ) (after : EventId → State B → State B) (s : State B)
+    → ((e : EventId) (t : State B) → (after e t).lines ≡ t.lines) → (with_timeout delay value after s).lines ≡ s.lines
 timeout_lines delay value after s h = grind (arith, h)
 
-move_lines : {B : Type 0} (g : Plan B) (res : ℕ) (amount : ℤ) (made : Facilities → Facilities) (after : EventId → State B → State B) (s : State B) → ((e : EventId) (t : State B) → (after e t).lines ≡ t.lines) → (with_move g res amount made after s).lines ≡ s.lines
+move_lines : {B : Type 0} (g : Plan B) (res : ℕ) (amount : ℤ) (made : Facilities → Facilities)
+    (after : EventId → State B → State B) (s : State B) → ((e : EventId) (t : State B) → (after e t).lines ≡ t.lines)
+    → (with_move g res amount made after s).lines ≡ s.lines
 move_lines g res amount made after s h = grind (arith, h)
 
 another_lines : {B : Type 0} (p q : ProcId) (does : State B → State B) (s : State B) → (does s).lines ≡ s.lines → (to_another p q does s).lines ≡ s.lines
@@ -104,7 +107,8 @@ call_or_settle_lines : {B : Type 0} (g : Plan B) (e : EventId) (left : List Call
 call_or_settle_lines g e [] s = refl
 call_or_settle_lines g e (x ∷ left) s = call_lines g e x left s
 
-poll_adds : {B : Type 0} (g : Plan B) (turn : TurnFunction B) (p : ProcId) (x : Signal) (o : Option (ProcessOf B)) (s : State B) → AddsAtMostOne s.lines (poll_if_any g turn p x o s).lines
+poll_adds : {B : Type 0} (g : Plan B) (turn : TurnFunction B) (p : ProcId) (x : Signal) (o : Option (ProcessOf B))
+    (s : State B) → AddsAtMostOne s.lines (poll_if_any g turn p x o s).lines
 poll_adds g turn p x None s = adds_none _ _ refl
 poll_adds g turn p x (Some y) s = effect_adds g p (turn y.body (calendar s).time x).0 (with_body p (turn y.body (calendar s).time x).1 s)
 
@@ -114,7 +118,8 @@ step_adds g turn s (Calling e left) = adds_none _ _ (call_or_settle_lines g e le
 step_adds g turn s (Active e left p x) = poll_adds g turn p x (process_at p s) s
 step_adds g turn s (Over why e left) = adds_none _ _ refl
 
-unit_adds_at : {B : Type 0} (g : Plan B) (turn : TurnFunction B) (m : Course B) (o : Option Arrival) → AddsAtMostOne m.state.lines (unit_at g turn m o).state.lines
+unit_adds_at : {B : Type 0} (g : Plan B) (turn : TurnFunction B) (m : Course B) (o : Option Arrival)
+    → AddsAtMostOne m.state.lines (unit_at g turn m o).state.lines
 unit_adds_at g turn m None = step_adds g turn m.state m.state.control
 unit_adds_at g turn m (Some a) = adds_one _ _
 

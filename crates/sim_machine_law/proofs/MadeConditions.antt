@@ -11,7 +11,7 @@ use Rattle.sim_types.specs.declared.event.Callback.{Callback}
 use Rattle.sim_types.specs.declared.event.EventKind.TheVariants as kind
 use Rattle.sim_types.specs.declared.event.Outcome.TheVariants as outcome
 use Rattle.sim_types.specs.declared.event.Callback.TheVariants as callback
-use Rattle.sim_machine.specs.State.{Sort, EventOf, Registration, Calendar, Control, State, Plan}
+use Rattle.sim_machine.specs.State.{AllOrAny, EventOf, Registration, Calendar, Control, State, Plan}
 use Rattle.sim_machine.specs.Events.{is_same, is_processed, next_event, callbacks_of, register, is_check_of}
 use Rattle.sim_machine.specs.Conditions.{condition_of, members_of, is_too_wide, make_condition, join_member}
 use Rattle.sim_machine.specs.Triggering.{make, succeed}
@@ -44,7 +44,7 @@ unmade_needs : (c : Calendar) (e : EventId) → length c.events ≤ e.0 → need
 unmade_needs c e unmade = ap builds (unmade_event c e unmade)
 
 -- a condition without members is as if it were none
-same_alone : (sort : Sort) (c : Calendar) → SameConditions c (with_fresh sort [] c)
+same_alone : (sort : AllOrAny) (c : Calendar) → SameConditions c (with_fresh sort [] c)
 same_alone sort c =
     let d : Calendar = with_fresh sort [] c in
     let e : EventId = next_event c in
@@ -64,7 +64,7 @@ same_alone sort c =
       registered = refl;
     }
 
-conditions_alone : (sort : Sort) (c : Calendar) (k : Control) → ConditionsBasis c k → ConditionsBasis (succeed (next_event c) (pos 0) (with_fresh sort [] c)) k
+conditions_alone : (sort : AllOrAny) (c : Calendar) (k : Control) → ConditionsBasis c k → ConditionsBasis (succeed (next_event c) (pos 0) (with_fresh sort [] c)) k
 conditions_alone sort c k h =
     let d : Calendar = with_fresh sort [] c in
     let e : EventId = next_event c in
@@ -83,7 +83,9 @@ none_called_of c k h =
     ne_below n = grind (arith, nat_tests)
 
 -- one with members, where its build is registered too
-conditions_with_build : (sort : Sort) (ms : List EventId) (c : Calendar) (k : Control) → list_all (was_made c) ms ≡ true → is_too_wide ms c ≡ false → is_empty ms ≡ false → LawfulRegistrations c k → ConditionsBasis c k → ConditionsBasis (register (next_event c) (callback.Build (next_event c)) (with_fresh sort ms c)) k
+conditions_with_build : (sort : AllOrAny) (ms : List EventId) (c : Calendar) (k : Control) → list_all (was_made c) ms ≡ true
+    → is_too_wide ms c ≡ false → is_empty ms ≡ false → LawfulRegistrations c k → ConditionsBasis c k
+    → ConditionsBasis (register (next_event c) (callback.Build (next_event c)) (with_fresh sort ms c)) k
 conditions_with_build sort ms c k made narrow some r h =
     let e : EventId = next_event c in
     let d : Calendar = with_fresh sort ms c in
@@ -126,7 +128,9 @@ conditions_with_build sort ms c k made narrow some r h =
 joinable_made : (c : Calendar) (ms : List EventId) → list_all (may_join c) ms ≡ true → list_all (was_made c) ms ≡ true
 joinable_made c ms may = list_all-weaker (may_join c) (was_made c) ms (λ m w. (and_parts (was_made c m) (hears c m) w).0) may
 
-take_fresh : {B : Type 0} (g : Plan B) (tell : Telling B) (sound : B → Type 0) (s : State B) (sort : Sort) (ms : List EventId) → list_all (may_join (calendar s)) ms ≡ true → LawfulBasis g tell sound s → MayTake s (with_fresh sort ms (calendar s))
+take_fresh : {B : Type 0} (g : Plan B) (tell : Telling B) (sound : B → Type 0) (s : State B) (sort : AllOrAny)
+    (ms : List EventId) → list_all (may_join (calendar s)) ms ≡ true → LawfulBasis g tell sound s
+    → MayTake s (with_fresh sort ms (calendar s))
 take_fresh g tell sound s sort ms may h =
     let c : Calendar = calendar s in
     let e : EventId = next_event c in
@@ -152,7 +156,9 @@ pub record IsMadeCondition {B : Type 0} (s : State B) (e : EventId) (d : Calenda
   pub unprocessed : is_processed d e ≡ false
 
 -- its members were made and may be waited for, and it does not weigh too much
-pub condition_made : {B : Type 0} (g : Plan B) (tell : Telling B) (sound : B → Type 0) (s : State B) (sort : Sort) (ms : List EventId) → list_all (may_join (calendar s)) ms ≡ true → is_too_wide ms (calendar s) ≡ false → LawfulBasis g tell sound s → IsMadeCondition s (next_event (calendar s)) (make_condition sort ms (calendar s))
+pub condition_made : {B : Type 0} (g : Plan B) (tell : Telling B) (sound : B → Type 0) (s : State B) (sort : AllOrAny)
+    (ms : List EventId) → list_all (may_join (calendar s)) ms ≡ true → is_too_wide ms (calendar s) ≡ false
+    → LawfulBasis g tell sound s → IsMadeCondition s (next_event (calendar s)) (make_condition sort ms (calendar s))
 condition_made g tell sound s sort [] may narrow h =
     let c : Calendar = calendar s in
     let e : EventId = next_event c in

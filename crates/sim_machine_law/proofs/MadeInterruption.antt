@@ -63,7 +63,8 @@ new_defused p c =
     change_event-same (next_event c) (λ x. record x { defused = true }) (with_strike p c) (omega (arith, make-length kind.Interrupt c)) ∙ ap (λ (x : EventOf). record x { defused = true }) (make-new kind.Interrupt c)
 
 -- the event of the interruption
-pub new-interrupted : (p : ProcId) (t : Throw) (c : Calendar) → event_at (make_interruption p t c) (next_event c) ≡ record defused_event { outcome = Some (outcome.Fail t) }
+pub new-interrupted : (p : ProcId) (t : Throw) (c : Calendar)
+    → event_at (make_interruption p t c) (next_event c) ≡ record defused_event { outcome = Some (outcome.Fail t) }
 new-interrupted p t c =
     change_event-same (next_event c) (λ x. record x { outcome = Some (outcome.Fail t) }) (with_defused p c) (omega (arith, length_defused p c)) ∙ ap (λ (x : EventOf). record x { outcome = Some (outcome.Fail t) }) (new_defused p c)
 
@@ -105,10 +106,12 @@ registrations_struck p c k h =
 registrations_defused : (p : ProcId) (c : Calendar) (k : Control) → LawfulRegistrations c k → LawfulRegistrations (with_defused p c) k
 registrations_defused p c k h = registrations_calm (with_strike p c) (with_defused p c) k (calm_defused (next_event c) (with_strike p c)) refl (registrations_struck p c k h)
 
-pub registrations_interrupted : (p : ProcId) (t : Throw) (c : Calendar) (k : Control) → LawfulRegistrations c k → LawfulRegistrations (make_interruption p t c) k
+pub registrations_interrupted : (p : ProcId) (t : Throw) (c : Calendar) (k : Control) → LawfulRegistrations c k
+    → LawfulRegistrations (make_interruption p t c) k
 registrations_interrupted p t c k h = registrations_scheduled (next_event c) (outcome.Fail t) urgent (pos 0) (with_defused p c) k (registrations_defused p c k h)
 
-pub chains_interrupted : (p : ProcId) (t : Throw) (c : Calendar) (k : Control) → LawfulRegistrations c k → LawfulChains c k → LawfulChains (make_interruption p t c) k
+pub chains_interrupted : (p : ProcId) (t : Throw) (c : Calendar) (k : Control) → LawfulRegistrations c k → LawfulChains c k
+    → LawfulChains (make_interruption p t c) k
 chains_interrupted p t c k at h =
     let e : EventId = next_event c in
     let struck : LawfulChains (with_strike p c) k = chains_register e (callback.Strike p) (make kind.Interrupt c) k refl (chains_made kind.Interrupt c k at h) in
@@ -178,7 +181,8 @@ unmade_calls c k e unmade h =
         let made : r.event.0 < length c.events = made_below c r.event (and_parts (was_made c r.event) (not (is_processed c r.event)) w).0 in
         omega (arith, same, made, unmade)
 
-pub strikes_interrupted : (p : ProcId) (t : Throw) (c : Calendar) (k : Control) → LawfulRegistrations c k → StrikesAlone c k → StrikesAlone (make_interruption p t c) k
+pub strikes_interrupted : (p : ProcId) (t : Throw) (c : Calendar) (k : Control) → LawfulRegistrations c k → StrikesAlone c k
+    → StrikesAlone (make_interruption p t c) k
 strikes_interrupted p t c k at h =
     let d : Calendar = make_interruption p t c in
     let e : EventId = next_event c in
@@ -194,7 +198,8 @@ strikes_interrupted p t c k at h =
           (cases_Bool (is_same e f));
     }
   where
-    one_call : (p : ProcId) (c : Calendar) (k : Control) → all_callbacks_of c k (next_event c) ≡ [] → length (all_callbacks_of (with_strike p c) k (next_event c)) ≡ 1
+    one_call : (p : ProcId) (c : Calendar) (k : Control) → all_callbacks_of c k (next_event c) ≡ []
+        → length (all_callbacks_of (with_strike p c) k (next_event c)) ≡ 1
     one_call p c k none =
         let e : EventId = next_event c in
         let called : List Callback = if is_event_of k e then left_of k else [] in
@@ -205,7 +210,8 @@ strikes_interrupted p t c k at h =
 -- ---- all parts
 
 -- an interruption of a process may be made, be the process alive or not
-pub replace_interrupted : {B : Type 0} (g : Plan B) (tell : Telling B) (sound : B → Type 0) (s : State B) (p : ProcId) (t : Throw) → LawfulBasis g tell sound s → MayReplace s (make_interruption p t (calendar s))
+pub replace_interrupted : {B : Type 0} (g : Plan B) (tell : Telling B) (sound : B → Type 0) (s : State B) (p : ProcId)
+    (t : Throw) → LawfulBasis g tell sound s → MayReplace s (make_interruption p t (calendar s))
 replace_interrupted g tell sound s p t l =
     let c : Calendar = calendar s in
     let d : Calendar = make_interruption p t c in

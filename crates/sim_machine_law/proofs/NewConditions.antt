@@ -9,7 +9,7 @@ use Rattle.std.proofs.lemmas.List.Sums.{sum_by-cons}
 use Rattle.std.proofs.lemmas.List.Elements.{All-head, All-tail}
 use Rattle.sim_types.specs.declared.event.EventId.{EventId}
 use Rattle.sim_types.specs.declared.event.EventKind.TheVariants as kind
-use Rattle.sim_machine.specs.State.{Sort, ConditionOf, EventOf, Registration, Calendar, Control}
+use Rattle.sim_machine.specs.State.{AllOrAny, ConditionOf, EventOf, Registration, Calendar, Control}
 use Rattle.sim_machine.specs.Events.{is_same, event_at, is_processed, pending_event, next_event, change_event}
 use Rattle.sim_machine.specs.Conditions.{condition_of, members_of, most_weight, weight_within, weight_of, is_too_wide}
 use Rattle.sim_machine.specs.Triggering.{make}
@@ -22,42 +22,47 @@ use Rattle.sim_machine_law.proofs.KeptConditions.{older_everywhere, unmade_event
 use Rattle.sim_machine_law.proofs.LawfulBasis.{ConditionsBasis}
 
 -- what a condition of these members is as it is made
-abbrev pub fresh : Sort → List EventId → ConditionOf
+abbrev pub fresh : AllOrAny → List EventId → ConditionOf
 fresh sort members = record { sort = sort; members = members; count = 0; value = [] }
 
 -- the calendar in which it was made, and no member has joined it
-abbrev pub with_fresh : Sort → List EventId → Calendar → Calendar
+abbrev pub with_fresh : AllOrAny → List EventId → Calendar → Calendar
 with_fresh sort members c = change_event (next_event c) (λ x. record x { condition = Some (fresh sort members) }) (make kind.Cond c)
 
 -- ---- the new event, and all others
 
-pub fresh_event : (sort : Sort) (ms : List EventId) (c : Calendar) → event_at (with_fresh sort ms c) (next_event c) ≡ record (pending_event kind.Cond) { condition = Some (fresh sort ms) }
+pub fresh_event : (sort : AllOrAny) (ms : List EventId) (c : Calendar)
+    → event_at (with_fresh sort ms c) (next_event c) ≡ record (pending_event kind.Cond) { condition = Some (fresh sort ms) }
 fresh_event sort ms c =
     let change : EventOf → EventOf = λ x. record x { condition = Some (fresh sort ms) } in
     change_event-same (next_event c) change (make kind.Cond c) (omega (arith, make-length kind.Cond c)) ∙ ap change (make-new kind.Cond c)
 
-pub fresh_length : (sort : Sort) (ms : List EventId) (c : Calendar) → length (with_fresh sort ms c).events ≡ length c.events + 1
+pub fresh_length : (sort : AllOrAny) (ms : List EventId) (c : Calendar) → length (with_fresh sort ms c).events ≡ length c.events + 1
 fresh_length sort ms c = change_event-length (next_event c) (λ x. record x { condition = Some (fresh sort ms) }) (make kind.Cond c) ∙ make-length kind.Cond c
 
 -- what does not hang on the kind alone stays at all other events
-pub others_stay : {X : Type 0} (part : EventOf → X) (sort : Sort) (ms : List EventId) (c : Calendar) (f : EventId) → part (pending_event kind.Cond) ≡ part (pending_event kind.Plain) → f.0 ≢ length c.events → part (event_at (with_fresh sort ms c) f) ≡ part (event_at c f)
+pub others_stay : {X : Type 0} (part : EventOf → X) (sort : AllOrAny) (ms : List EventId) (c : Calendar) (f : EventId)
+    → part (pending_event kind.Cond) ≡ part (pending_event kind.Plain) → f.0 ≢ length c.events
+    → part (event_at (with_fresh sort ms c) f) ≡ part (event_at c f)
 others_stay part sort ms c f same differ =
     ap part (change_event-other (next_event c) f (λ x. record x { condition = Some (fresh sort ms) }) (make kind.Cond c) differ) ∙ make-keeps part kind.Cond c f same
 
-pub all_processed : (sort : Sort) (ms : List EventId) (c : Calendar) (f : EventId) → is_processed (with_fresh sort ms c) f ≡ is_processed c f
+pub all_processed : (sort : AllOrAny) (ms : List EventId) (c : Calendar) (f : EventId) → is_processed (with_fresh sort ms c) f ≡ is_processed c f
 all_processed sort ms c f =
     change_event-keeps (λ x. x.processed) (next_event c) f (λ x. record x { condition = Some (fresh sort ms) }) (make kind.Cond c) (λ x. refl) ∙ make-keeps (λ x. x.processed) kind.Cond c f refl
 
 -- ---- weights
 
-sum_same : {X : Type 0} (f g : X → ℕ) (test : X → Bool) (xs : List X) → ((x : X) → test x ≡ true → f x ≡ g x) → list_all test xs ≡ true → sum_by f xs ≡ sum_by g xs
+sum_same : {X : Type 0} (f g : X → ℕ) (test : X → Bool) (xs : List X) → ((x : X) → test x ≡ true → f x ≡ g x)
+    → list_all test xs ≡ true → sum_by f xs ≡ sum_by g xs
 sum_same f g test [] same h = refl
 sum_same f g test (x ∷ xs) same h =
     let both = and_parts (test x) (list_all test xs) h in
     omega (arith, sum_by-cons f x xs, sum_by-cons g x xs, same x both.0, sum_same f g test xs same both.1)
 
 -- older events weigh what they weighed
-weight_stays : (sort : Sort) (ms : List EventId) (c : Calendar) (k : Control) → ConditionsBasis c k → (n : ℕ) (f : EventId) → f.0 < length c.events → weight_within n (with_fresh sort ms c) f ≡ weight_within n c f
+weight_stays : (sort : AllOrAny) (ms : List EventId) (c : Calendar) (k : Control) → ConditionsBasis c k → (n : ℕ) (f : EventId)
+    → f.0 < length c.events → weight_within n (with_fresh sort ms c) f ≡ weight_within n c f
 weight_stays sort ms c k h zero f made = refl
 weight_stays sort ms c k h (suc n) f made =
     let d : Calendar = with_fresh sort ms c in
@@ -70,7 +75,8 @@ weight_stays sort ms c k h (suc n) f made =
 below_most : (n m : ℕ) → nat_lt m n ≡ false → nat_le n m ≡ true
 below_most n m h = grind (arith, nat_tests)
 
-older_fresh : (sort : Sort) (ms : List EventId) (c : Calendar) (k : Control) → list_all (was_made c) ms ≡ true → is_too_wide ms c ≡ false → ConditionsBasis c k → members_are_older (with_fresh sort ms c) (next_event c) ≡ true
+older_fresh : (sort : AllOrAny) (ms : List EventId) (c : Calendar) (k : Control) → list_all (was_made c) ms ≡ true
+    → is_too_wide ms c ≡ false → ConditionsBasis c k → members_are_older (with_fresh sort ms c) (next_event c) ≡ true
 older_fresh sort ms c k made narrow h =
     let d : Calendar = with_fresh sort ms c in
     let e : EventId = next_event c in
@@ -82,14 +88,17 @@ older_fresh sort ms c k made narrow h =
     (ap (list_all (λ (m : EventId). nat_lt m.0 e.0)) own ∙ made)
     (ap (λ (w : ℕ). nat_le w most_weight) weight ∙ below_most (weight_of ms c) most_weight narrow)
 
-older_still : (sort : Sort) (ms : List EventId) (c : Calendar) (k : Control) (f : EventId) → ConditionsBasis c k → f.0 < length c.events → members_are_older (with_fresh sort ms c) f ≡ true
+older_still : (sort : AllOrAny) (ms : List EventId) (c : Calendar) (k : Control) (f : EventId) → ConditionsBasis c k
+    → f.0 < length c.events → members_are_older (with_fresh sort ms c) f ≡ true
 older_still sort ms c k f h made =
     let d : Calendar = with_fresh sort ms c in
     let same : members_of d f ≡ members_of c f = others_stay (λ x. (condition_of x.condition).members) sort ms c f refl (λ e. omega (arith, e, made)) in
     ap (λ (xs : List EventId). list_all (λ (m : EventId). nat_lt m.0 f.0) xs && nat_le (weight_within (most_weight + 1) d f) most_weight) same
     ∙ (ap (λ (w : ℕ). list_all (λ (m : EventId). nat_lt m.0 f.0) (members_of c f) && nat_le w most_weight) (weight_stays sort ms c k h (most_weight + 1) f made) ∙ older_everywhere c k f h)
 
-pub all_older : (sort : Sort) (ms : List EventId) (c : Calendar) (k : Control) → list_all (was_made c) ms ≡ true → is_too_wide ms c ≡ false → ConditionsBasis c k → (f : EventId) → was_made (with_fresh sort ms c) f ≡ true → members_are_older (with_fresh sort ms c) f ≡ true
+pub all_older : (sort : AllOrAny) (ms : List EventId) (c : Calendar) (k : Control) → list_all (was_made c) ms ≡ true
+    → is_too_wide ms c ≡ false → ConditionsBasis c k → (f : EventId) → was_made (with_fresh sort ms c) f ≡ true
+    → members_are_older (with_fresh sort ms c) f ≡ true
 all_older sort ms c k made narrow h f was =
     let d : Calendar = with_fresh sort ms c in
     elim (cases_eq f.0 (length c.events)) [
@@ -103,7 +112,8 @@ all_older sort ms c k made narrow h f was =
 pub no_member : (c : Calendar) (e : EventId) → length c.events ≤ e.0 → members_of c e ≡ []
 no_member c e unmade = ap (λ (x : EventOf). (condition_of x.condition).members) (unmade_event c e unmade)
 
-pub none_registered : (c : Calendar) (e : EventId) (rs : List Registration) → was_made c e ≡ false → AllPass (awaits_processing c) rs → filter (λ r. is_same r.event e) rs ≡ []
+pub none_registered : (c : Calendar) (e : EventId) (rs : List Registration) → was_made c e ≡ false
+    → AllPass (awaits_processing c) rs → filter (λ r. is_same r.event e) rs ≡ []
 none_registered c e [] unmade h = refl
 none_registered c e (r ∷ rs) unmade h =
     let first : was_made c r.event ≡ true = (and_parts (was_made c r.event) (not (is_processed c r.event)) (All-head (λ q. awaits_processing c q ≡ true) r rs h)).0 in
@@ -114,7 +124,8 @@ none_registered c e (r ∷ rs) unmade h =
 
 -- ---- the checks, as they were
 
-pub checks_stay : (sort : Sort) (ms : List EventId) (c : Calendar) (k : Control) (other f : EventId) → ConditionsBasis c k → checks_at c k other f ≤ times_member (with_fresh sort ms c) other f
+pub checks_stay : (sort : AllOrAny) (ms : List EventId) (c : Calendar) (k : Control) (other f : EventId) → ConditionsBasis c k
+    → checks_at c k other f ≤ times_member (with_fresh sort ms c) other f
 checks_stay sort ms c k other f h =
     elim (cases_eq other.0 (length c.events)) [
       | inl same ↦ omega (arith, h.checks other f, ap (λ (xs : List EventId). count_by (is_same f) xs) (no_member c other (omega (arith, same))))

@@ -22,18 +22,21 @@ abbrev pub is_that_scope : EventId → ProcId → ℕ → OpenScope → Bool
 is_that_scope r q res x = is_same x.request r && is_process x.process q && (x.res == res)
 
 -- the scopes that were open are open
-pub scope_more : (xs : List OpenScope) (z : OpenScope) (r : EventId) (q : ProcId) (res : ℕ) → has_scope xs r q res ≡ true → has_scope (xs ++ z ∷ []) r q res ≡ true
+pub scope_more : (xs : List OpenScope) (z : OpenScope) (r : EventId) (q : ProcId) (res : ℕ) → has_scope xs r q res ≡ true
+    → has_scope (xs ++ z ∷ []) r q res ≡ true
 scope_more xs z r q res h = list_any-append (is_that_scope r q res) xs (z ∷ []) ∙ or_left (list_any (is_that_scope r q res) xs) (list_any (is_that_scope r q res) (z ∷ [])) h
 
 -- a new request has the scope that is opened for it
-pub scope_opened : (xs : List OpenScope) (r : EventId) (q : ProcId) (res : ℕ) → has_scope (xs ++ record { process = q; request = r; res = res } ∷ []) r q res ≡ true
+pub scope_opened : (xs : List OpenScope) (r : EventId) (q : ProcId) (res : ℕ)
+    → has_scope (xs ++ record { process = q; request = r; res = res } ∷ []) r q res ≡ true
 scope_opened xs r q res =
     let z : OpenScope = record { process = q; request = r; res = res } in
     let that : is_that_scope r q res z ≡ true = and_from (is_same r r && is_process q q) (res == res) (and_from (is_same r r) (is_process q q) (is_same-self r) (is_process-self q)) (eq-eqb res res refl) in
     list_any-append (is_that_scope r q res) xs (z ∷ []) ∙ or_right (list_any (is_that_scope r q res) xs) (list_any (is_that_scope r q res) (z ∷ [])) (or_left (is_that_scope r q res z) false that)
 
 -- and so has what waits
-pub request_scope_more : (xs : List OpenScope) (z : OpenScope) (w : Waiter) (want : Want) → request_has_scope xs w want ≡ true → request_has_scope (xs ++ z ∷ []) w want ≡ true
+pub request_scope_more : (xs : List OpenScope) (z : OpenScope) (w : Waiter) (want : Want)
+    → request_has_scope xs w want ≡ true → request_has_scope (xs ++ z ∷ []) w want ≡ true
 request_scope_more xs z w (Slot p key) h = scope_more xs z w.event p w.res h
 request_scope_more xs z w (Give amount priority) h = refl
 request_scope_more xs z w (Take least greatest) h = refl
@@ -46,7 +49,8 @@ abbrev pub requests_in : ProcId → List OpenScope → List EventId
 requests_in q xs = map (λ x. x.request) (filter (λ x. is_process x.process q) xs)
 
 -- the requests of a process
-pub requests_more : (xs : List OpenScope) (z : OpenScope) (q : ProcId) → requests_in q (xs ++ z ∷ []) ≡ requests_in q xs ++ (if is_process z.process q then z.request ∷ [] else [])
+pub requests_more : (xs : List OpenScope) (z : OpenScope) (q : ProcId)
+    → requests_in q (xs ++ z ∷ []) ≡ requests_in q xs ++ (if is_process z.process q then z.request ∷ [] else [])
 requests_more xs z q =
     let test : OpenScope → Bool = λ x. is_process x.process q in
     ap (map (λ (x : OpenScope). x.request)) (filter-append test xs (z ∷ []))

@@ -32,11 +32,15 @@ pub record Opens {B : Type 0} (g : Plan B) (s : State B) : Type 0 where
 
 -- ---- no process was made
 
-named_pending : (m n : ℕ) → (nat_lt 0 n && nat_le n m) ≡ true → (is_pending (first_calendar m) (record { 0 = n }) && not (is_processed (first_calendar m) (record { 0 = n }))) ≡ true
+named_pending : (m n : ℕ) → (nat_lt 0 n && nat_le n m) ≡ true
+    → (is_pending (first_calendar m) (record { 0 = n }) && not (is_processed (first_calendar m) (record { 0 = n }))) ≡ true
 named_pending m zero h = absurd (false≢true h)
 named_pending m (suc n) h = at m n
   where
-    at : (m n : ℕ) → (is_none (get_or (replicate m (pending_event kind.Plain)) n (pending_event kind.Plain)).outcome && not (get_or (replicate m (pending_event kind.Plain)) n (pending_event kind.Plain)).processed) ≡ true
+    at : (m n : ℕ)
+        → (is_none (get_or (replicate m (pending_event kind.Plain)) n (pending_event kind.Plain)).outcome
+        && not (get_or (replicate m (pending_event kind.Plain)) n (pending_event kind.Plain)).processed)
+        ≡ true
     at zero n = refl
     at (suc m) zero = refl
     at (suc m) (suc n) = at m n
@@ -98,7 +102,8 @@ arguments_may_start named (c ∷ cs) (pos n ∷ vs) h = arguments_may_start name
 arguments_may_start named (c ∷ cs) (negsuc n ∷ vs) h = and_from _ _ (negative_fits named c n (and_parts _ _ h).0) (arguments_may_start named cs vs (and_parts _ _ h).1)
 
 -- a process that runs from the start may be made
-pub start_fits_starts : (f : CodeFacts) (x : Start) → IsTrue (start_fits f x) → IsTrue (nat_lt x.kind (length f.params) && may_start (slice_index_or f.params x.kind []) x.args)
+pub start_fits_starts : (f : CodeFacts) (x : Start) → IsTrue (start_fits f x)
+    → IsTrue (nat_lt x.kind (length f.params) && may_start (slice_index_or f.params x.kind []) x.args)
 start_fits_starts f x h = and_from _ _ (and_parts _ _ h).0 (arguments_may_start f.named (slice_index_or f.params x.kind []) x.args (and_parts _ _ h).1)
 
 one_number_starts : (cs : List Class) (v : ℤ) → takes_one_number cs ≡ true → may_start cs (v ∷ []) ≡ true
@@ -108,5 +113,6 @@ one_number_starts (c ∷ []) (negsuc n) h = and_from _ _ h refl
 one_number_starts (c ∷ d ∷ cs) v h = absurd (false≢true h)
 
 -- and so may one that a port starts with a value
-pub port_fits_starts : (f : CodeFacts) (k : ℕ) (value : ℤ) → IsTrue (port_fits f k) → IsTrue (nat_lt k (length f.params) && may_start (slice_index_or f.params k []) (value ∷ []))
+pub port_fits_starts : (f : CodeFacts) (k : ℕ) (value : ℤ) → IsTrue (port_fits f k)
+    → IsTrue (nat_lt k (length f.params) && may_start (slice_index_or f.params k []) (value ∷ []))
 port_fits_starts f k value h = and_from _ _ (and_parts _ _ h).0 (one_number_starts (slice_index_or f.params k []) value (and_parts _ _ h).1)

@@ -64,13 +64,18 @@ plain_free f own (op.Finish value) h = record { may = refl; closes = refl; opens
 plain_free f own (op.Die t) h = record { may = refl; closes = refl; opens = refl }
 plain_free f own _ h = cc
 
-poll_lawful : {B : Type 0} (f : CodeFacts) (own : B → ProcId) (last : B → Option Op) (b d : B) (x : Signal) (asked : Op) → IsPlainBody last b → PollsPlain own last b asked d → IsLawfulPoll f (plain_tells own last) b x asked d
+poll_lawful : {B : Type 0} (f : CodeFacts) (own : B → ProcId) (last : B → Option Op) (b d : B) (x : Signal) (asked : Op)
+    → IsPlainBody last b → PollsPlain own last b asked d → IsLawfulPoll f (plain_tells own last) b x asked d
 poll_lawful f own last b d x asked sound polled =
     let none : scopes_told [] (last b) x ≡ [] = none_opened (last b) x sound in
     let free = plain_free f (own d) asked polled.plain in
     record { asks = rw none free.may; own = polled.same; places = refl; one_place = lit≤ tt; scopes = rw none (rw free.closes refl); last = polled.asks_last }
 
-pub plain_lawful : {B : Type 0} (f : CodeFacts) (own : B → ProcId) (last : B → Option Op) (start : ℕ → List ℤ → ProcId → B) (turn : B → ℤ → Signal → Op → B → Type 0) → ((k : ℕ) (args : List ℤ) (p : ProcId) → BeginsPlain own last p (start k args p)) → ((b : B) (time : ℤ) (x : Signal) (asked : Op) (d : B) → turn b time x asked d → PollsPlain own last b asked d) → IsLawfulBody f (plain_tells own last) (IsPlainBody last) start turn
+pub plain_lawful : {B : Type 0} (f : CodeFacts) (own : B → ProcId) (last : B → Option Op) (start : ℕ → List ℤ → ProcId → B)
+    (turn : B → ℤ → Signal → Op → B → Type 0)
+    → ((k : ℕ) (args : List ℤ) (p : ProcId) → BeginsPlain own last p (start k args p))
+    → ((b : B) (time : ℤ) (x : Signal) (asked : Op) (d : B) → turn b time x asked d → PollsPlain own last b asked d)
+    → IsLawfulBody f (plain_tells own last) (IsPlainBody last) start turn
 plain_lawful f own last start turn begins polls =
     record {
       starts = λ k args p may. record { own = (begins k args p).numbered; places = refl; scopes = refl; last = (begins k args p).unpolled };

@@ -28,7 +28,8 @@ use Rattle.sim_machine_law.proofs.ServedWaiters.{unqueued_apart}
 use Rattle.sim_machine_law.proofs.LawfulBasis.{LawfulBasis}
 
 -- what follows from one that passes follows where any passes
-pub any_gives : {X : Type 0} (P : X → Type 0) (Q : Type 0) (test : X → Bool) (xs : List X) → ((x : X) → P x → test x ≡ true → Q) → All P xs → list_any test xs ≡ true → Q
+pub any_gives : {X : Type 0} (P : X → Type 0) (Q : Type 0) (test : X → Bool) (xs : List X)
+    → ((x : X) → P x → test x ≡ true → Q) → All P xs → list_any test xs ≡ true → Q
 any_gives P Q test [] at h some = absurd (false≢true some)
 any_gives P Q test (x ∷ xs) at h some =
     ⊎_elim (λ here. at x (All-head P x xs h) here) (λ later. any_gives P Q test xs at (All-tail P x xs h) later) (or_cases (test x) (list_any test xs) some)
@@ -54,7 +55,8 @@ pub record IsLeftAlone {B : Type 0} (g : Plan B) (tell : Telling B) (sound : B �
   pub lawful : LawfulBasis g tell sound (record s { facilities = f })
   pub alone : All (λ w. w.event.0 ≢ e.0) f.waiters
 
-pub lawful_cancelled : {B : Type 0} (g : Plan B) (tell : Telling B) (sound : B → Type 0) (s : State B) (e : EventId) → LawfulBasis g tell sound s → IsLeftAlone g tell sound s e (cancel e s.facilities)
+pub lawful_cancelled : {B : Type 0} (g : Plan B) (tell : Telling B) (sound : B → Type 0) (s : State B) (e : EventId)
+    → LawfulBasis g tell sound s → IsLeftAlone g tell sound s e (cancel e s.facilities)
 lawful_cancelled {B} g tell sound s e l =
     let c : Calendar = calendar s in
     let f : Facilities = s.facilities in

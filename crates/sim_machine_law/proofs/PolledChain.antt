@@ -40,7 +40,8 @@ source_no_interrupt kind.Interrupt h = absurd (false≢true h)
 source_no_interrupt _ h = refl
 
 module _ {B : Type 0} (g : Plan B) (tell : Telling B) (sound : B → Type 0) (s : State B) (f : CodeFacts) (e : EventId) (left : List Callback) (p : ProcId) (x : Signal) (y : ProcessOf B) (b : B) where
-  pub lawful-polled_chain : (n m : EventId) → FitsCode f g.setup → AsksFor g tell sound s f e left p x y b (op.Chain n m) → LawfulBasis g tell sound (polled g p (op.Chain n m) b s)
+  pub lawful-polled_chain : (n m : EventId) → FitsCode f g.setup → AsksFor g tell sound s f e left p x y b (op.Chain n m)
+      → LawfulBasis g tell sound (polled g p (op.Chain n m) b s)
   lawful-polled_chain n m fits asks =
       let c : Calendar = calendar s in
       let o : Op = op.Chain n m in

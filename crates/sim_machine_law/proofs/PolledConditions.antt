@@ -13,7 +13,7 @@ use Rattle.sim_types.specs.declared.event.EventKind.TheVariants as kind
 use Rattle.sim_types.specs.declared.event.Signal.TheVariants as signal
 use Rattle.sim_types.specs.declared.op.Op.{Op}
 use Rattle.sim_types.specs.declared.op.Op.TheVariants as op
-use Rattle.sim_machine.specs.State.{Sort, Every, Either, Calendar, ProcessOf, State, Plan}
+use Rattle.sim_machine.specs.State.{AllOrAny, Every, Either, Calendar, ProcessOf, State, Plan}
 use Rattle.sim_machine.specs.Events.{next_event}
 use Rattle.sim_machine.specs.Conditions.{is_too_wide, make_condition}
 use Rattle.sim_machine.specs.Scopes.{on_events}
@@ -45,7 +45,11 @@ record MakesConditions (o : Op) : Type 0 where
   made : (r : EventId) → may_follow o (signal.Made r) ≡ true
   kind : (k : EventKind) → is_condition_kind k ≡ true → makes_kind (Some o) k ≡ true
 
-lawful_condition : {B : Type 0} (g : Plan B) (tell : Telling B) (sound : B → Type 0) (s : State B) (f : CodeFacts) (e : EventId) (left : List Callback) (p : ProcId) (x : Signal) (y : ProcessOf B) (b : B) (o : Op) (sort : Sort) (members : List EventId) → FitsCode f g.setup → HasAsked g tell sound s f e left p x y b o → MakesConditions o → list_all (is_known f (tell.own b) (tell.places b)) members ≡ true → LawfulBasis g tell sound (with_condition sort members (with_body p b s))
+lawful_condition : {B : Type 0} (g : Plan B) (tell : Telling B) (sound : B → Type 0) (s : State B) (f : CodeFacts)
+    (e : EventId) (left : List Callback) (p : ProcId) (x : Signal) (y : ProcessOf B) (b : B) (o : Op) (sort : AllOrAny)
+    (members : List EventId) → FitsCode f g.setup → HasAsked g tell sound s f e left p x y b o → MakesConditions o
+    → list_all (is_known f (tell.own b) (tell.places b)) members ≡ true
+    → LawfulBasis g tell sound (with_condition sort members (with_body p b s))
 lawful_condition {B} g tell sound s f e left p x y b o sort members fits h makes known =
     let c : Calendar = calendar s in
     let r : State B = with_body p b s in
@@ -79,13 +83,17 @@ makes_any_of members = record { not_enters = refl; too_wide = refl; made = λ r.
     kinds _ h = absurd (false≢true h)
 
 module _ {B : Type 0} (g : Plan B) (tell : Telling B) (sound : B → Type 0) (s : State B) (f : CodeFacts) (e : EventId) (left : List Callback) (p : ProcId) (x : Signal) (y : ProcessOf B) (b : B) where
-  pub lawful-polled_all_of : (members : List EventId) → FitsCode f g.setup → AsksFor g tell sound s f e left p x y b (op.AllOf members) → LawfulBasis g tell sound (polled g p (op.AllOf members) b s)
+  pub lawful-polled_all_of : (members : List EventId) → FitsCode f g.setup
+      → AsksFor g tell sound s f e left p x y b (op.AllOf members)
+      → LawfulBasis g tell sound (polled g p (op.AllOf members) b s)
   lawful-polled_all_of members fits asks =
       let o : Op = op.AllOf members in
       let asked : HasAsked g tell sound s f e left p x y b o = record { active = asks.active; found = asks.found; is_sound = asks.is_sound; lawful = asks.lawful; poll = asks.poll; scopes = asks.poll.scopes } in
       lawful_condition g tell sound s f e left p x y b o Every members fits asked (makes_all_of members) (and_parts (nat_le (length members) 16) (list_all (is_known f (tell.own b) (tell.places b)) members) asks.poll.asks).1
 
-  pub lawful-polled_any_of : (members : List EventId) → FitsCode f g.setup → AsksFor g tell sound s f e left p x y b (op.AnyOf members) → LawfulBasis g tell sound (polled g p (op.AnyOf members) b s)
+  pub lawful-polled_any_of : (members : List EventId) → FitsCode f g.setup
+      → AsksFor g tell sound s f e left p x y b (op.AnyOf members)
+      → LawfulBasis g tell sound (polled g p (op.AnyOf members) b s)
   lawful-polled_any_of members fits asks =
       let o : Op = op.AnyOf members in
       let asked : HasAsked g tell sound s f e left p x y b o = record { active = asks.active; found = asks.found; is_sound = asks.is_sound; lawful = asks.lawful; poll = asks.poll; scopes = asks.poll.scopes } in

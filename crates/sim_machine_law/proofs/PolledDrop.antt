@@ -32,7 +32,9 @@ use Rattle.sim_machine_law.proofs.ToldAnswers.{lawful_done, lawful_raised}
 use Rattle.sim_machine_law.proofs.LawfulBasis.{AreScopesApart, LawfulBasis}
 
 -- p runs and drops q, where no two open scopes are of one request
-pub lawful-dropped : {B : Type 0} (g : Plan B) (tell : Telling B) (sound : B → Type 0) (s : State B) (e : EventId) (left : List Callback) (p : ProcId) (x : Signal) (q : ProcId) (value : ℤ) → AreScopesApart s → MayDrop s e left p x q → LawfulBasis g tell sound s → LawfulBasis g tell sound (drop_process q value s)
+pub lawful-dropped : {B : Type 0} (g : Plan B) (tell : Telling B) (sound : B → Type 0) (s : State B) (e : EventId)
+    (left : List Callback) (p : ProcId) (x : Signal) (q : ProcId) (value : ℤ) → AreScopesApart s → MayDrop s e left p x q
+    → LawfulBasis g tell sound s → LawfulBasis g tell sound (drop_process q value s)
 lawful-dropped g tell sound s e left p x q value distinct may h =
     record {
       times = times_dropped g tell sound s e left p x q value may h;
@@ -51,10 +53,13 @@ lawful-dropped g tell sound s e left p x q value distinct may h =
 abbrev with_new : {B : Type 0} → ProcId → B → ProcessOf B → ProcessOf B
 with_new p b x = if is_process x.id p then record x { body = b } else x
 
-if_kept : {B : Type 0} {Y : Type 0} (part : ProcessOf B → Y) (p : ProcId) (b : B) (x : ProcessOf B) → part (record x { body = b }) ≡ part x → part (with_new p b x) ≡ part x
+if_kept : {B : Type 0} {Y : Type 0} (part : ProcessOf B → Y) (p : ProcId) (b : B) (x : ProcessOf B)
+    → part (record x { body = b }) ≡ part x → part (with_new p b x) ≡ part x
 if_kept part p b x same = cond_both (is_process x.id p) (record x { body = b }) x (λ y. part y ≡ part x) (λ a. same) (λ a. refl)
 
-target_kept : {B : Type 0} (p q : ProcId) (b : B) (xs : List (ProcessOf B)) → target_of q (find (λ (x : ProcessOf B). is_process x.id q) (map (with_new p b) xs)) ≡ target_of q (find (λ (x : ProcessOf B). is_process x.id q) xs)
+target_kept : {B : Type 0} (p q : ProcId) (b : B) (xs : List (ProcessOf B))
+    → target_of q (find (λ (x : ProcessOf B). is_process x.id q) (map (with_new p b) xs))
+    ≡ target_of q (find (λ (x : ProcessOf B). is_process x.id q) xs)
 target_kept p q b [] = refl
 target_kept {B} p q b (x ∷ xs) =
     let t : ProcessOf B → Bool = λ y. is_process y.id q in
@@ -62,11 +67,16 @@ target_kept {B} p q b (x ∷ xs) =
     let P : Bool → Type 0 = λ v. target_of q (if v then Some (with_new p b x) else find t (map (with_new p b) xs)) ≡ target_of q (if t x then Some x else find t xs) in
     subst P (sym (ap (λ (n : ProcId). is_process n q) id)) (at (t x) (target_kept p q b xs))
   where
-    at : (v : Bool) → target_of q (find (λ (y : ProcessOf B). is_process y.id q) (map (with_new p b) xs)) ≡ target_of q (find (λ (y : ProcessOf B). is_process y.id q) xs) → target_of q (if v then Some (with_new p b x) else find (λ (y : ProcessOf B). is_process y.id q) (map (with_new p b) xs)) ≡ target_of q (if v then Some x else find (λ (y : ProcessOf B). is_process y.id q) xs)
+    at : (v : Bool)
+        → target_of q (find (λ (y : ProcessOf B). is_process y.id q) (map (with_new p b) xs))
+        ≡ target_of q (find (λ (y : ProcessOf B). is_process y.id q) xs)
+        → target_of q (if v then Some (with_new p b x) else find (λ (y : ProcessOf B). is_process y.id q) (map (with_new p b) xs))
+        ≡ target_of q (if v then Some x else find (λ (y : ProcessOf B). is_process y.id q) xs)
     at true later = if_kept (λ y. y.target) p b x refl
     at false later = later
 
-others_kept : {B : Type 0} (p q : ProcId) (b : B) (xs : List (ProcessOf B)) → filter (is_other q) (map (with_new p b) xs) ≡ map (with_new p b) (filter (is_other q) xs)
+others_kept : {B : Type 0} (p q : ProcId) (b : B) (xs : List (ProcessOf B))
+    → filter (is_other q) (map (with_new p b) xs) ≡ map (with_new p b) (filter (is_other q) xs)
 others_kept p q b [] = refl
 others_kept {B} p q b (x ∷ xs) =
     let y : ProcessOf B = with_new p b x in
@@ -76,11 +86,14 @@ others_kept {B} p q b (x ∷ xs) =
     (λ a. rw (same ∙ a) (ap (λ zs. y ∷ zs) later)) (λ a. rw (same ∙ a) later)
 
 -- scopes are left whatever processes there are
-closed_with : {B : Type 0} (ps : List (ProcessOf B)) (xs : List OpenScope) (s : State B) → fold close_scope (record s { processes = ps }) xs ≡ record (fold close_scope s xs) { processes = ps }
+closed_with : {B : Type 0} (ps : List (ProcessOf B)) (xs : List OpenScope) (s : State B)
+    → fold close_scope (record s { processes = ps }) xs ≡ record (fold close_scope s xs) { processes = ps }
 closed_with ps [] s = refl
 closed_with ps (x ∷ xs) s = closed_with ps xs (close_scope s x)
 
-drop_then_body : {B : Type 0} (s : State B) (p q : ProcId) (b : B) (value : ℤ) → (scopeless_state q s).processes ≡ s.processes → drop_process q value (with_body p b s) ≡ with_body p b (drop_process q value s)
+drop_then_body : {B : Type 0} (s : State B) (p q : ProcId) (b : B) (value : ℤ)
+    → (scopeless_state q s).processes ≡ s.processes
+    → drop_process q value (with_body p b s) ≡ with_body p b (drop_process q value s)
 drop_then_body {B} s p q b value same =
     let f : ProcessOf B → ProcessOf B = with_new p b in
     let ps : List (ProcessOf B) = map f s.processes in
@@ -95,7 +108,9 @@ drop_then_body {B} s p q b value same =
 
 -- ---- the one that runs goes on
 
-found_other : {B : Type 0} (p q : ProcId) (xs : List (ProcessOf B)) → is_process q p ≡ false → find (λ (x : ProcessOf B). is_process x.id p) (filter (is_other q) xs) ≡ find (λ (x : ProcessOf B). is_process x.id p) xs
+found_other : {B : Type 0} (p q : ProcId) (xs : List (ProcessOf B)) → is_process q p ≡ false
+    → find (λ (x : ProcessOf B). is_process x.id p) (filter (is_other q) xs)
+    ≡ find (λ (x : ProcessOf B). is_process x.id p) xs
 found_other p q [] apart = refl
 found_other {B} p q (x ∷ xs) apart =
     let rest : List (ProcessOf B) = filter (is_other q) xs in
@@ -107,7 +122,9 @@ found_other {B} p q (x ∷ xs) apart =
     rw fails later)
 
 module _ {B : Type 0} (g : Plan B) (tell : Telling B) (sound : B → Type 0) (s : State B) (f : CodeFacts) (e : EventId) (left : List Callback) (p : ProcId) (x : Signal) (y : ProcessOf B) (b : B) where
-  pub lawful-polled_drop : (q : ProcId) (value : ℤ) → AreScopesApart s → AsksFor g tell sound s f e left p x y b (op.Drop q value) → LawfulBasis g tell sound (polled g p (op.Drop q value) b s)
+  pub lawful-polled_drop : (q : ProcId) (value : ℤ) → AreScopesApart s
+      → AsksFor g tell sound s f e left p x y b (op.Drop q value)
+      → LawfulBasis g tell sound (polled g p (op.Drop q value) b s)
   lawful-polled_drop q value distinct asks =
       let o : Op = op.Drop q value in
       let r : State B = with_body p b s in

@@ -59,7 +59,10 @@ use Rattle.sim_machine_law.proofs.LawfulBasis.{AreScopesApart, LawfulBasis}
 
 -- ---- it is refused
 
-lawful_refused : {B : Type 0} (g : Plan B) (tell : Telling B) (sound : B → Type 0) (s : State B) (f : CodeFacts) (e : EventId) (left : List Callback) (p : ProcId) (x : Signal) (y : ProcessOf B) (b : B) (o : Op) (n : ℕ) → HasAsked g tell sound s f e left p x y b o → may_be_told (tell.last b) (signal.Raised n) ≡ true → LawfulBasis g tell sound (raise n (with_body p b s))
+lawful_refused : {B : Type 0} (g : Plan B) (tell : Telling B) (sound : B → Type 0) (s : State B) (f : CodeFacts)
+    (e : EventId) (left : List Callback) (p : ProcId) (x : Signal) (y : ProcessOf B) (b : B) (o : Op) (n : ℕ)
+    → HasAsked g tell sound s f e left p x y b o → may_be_told (tell.last b) (signal.Raised n) ≡ true
+    → LawfulBasis g tell sound (raise n (with_body p b s))
 lawful_refused g tell sound s f e left p x y b o n asked fits =
     let c : Calendar = calendar s in
     let h : LawfulBasis g tell sound s = asked.lawful in
@@ -78,7 +81,8 @@ lawful_refused g tell sound s f e left p x y b o n asked fits =
 -- ---- scopes
 
 -- no scope is open for an event that is yet to be made
-scopes_older : {B : Type 0} (rs : List Resource) (s : State B) → All (λ z. is_scope_well rs s z ≡ true) s.scopes → All (λ z. of_request (next_event (calendar s)) z ≡ false) s.scopes
+scopes_older : {B : Type 0} (rs : List Resource) (s : State B) → All (λ z. is_scope_well rs s z ≡ true) s.scopes
+    → All (λ z. of_request (next_event (calendar s)) z ≡ false) s.scopes
 scopes_older rs s h =
     let c : Calendar = calendar s in
     All-weaker (λ z. is_scope_well rs s z ≡ true) (λ z. of_request (next_event c) z ≡ false) (λ z w. ne_eqb z.request.0 (length c.events) (λ same. older z w same)) s.scopes h
@@ -92,7 +96,13 @@ scopes_older rs s h =
         omega (arith, made, same)
 
 -- the body that asked to enter is told of its request, and knows of its scopes
-knows_entered : {B : Type 0} (g : Plan B) (tell : Telling B) (s t : State B) (e : EventId) (left : List Callback) (p : ProcId) (x : Signal) (y : ProcessOf B) (b : B) (r : EventId) (res : ℕ) (z : ProcessOf B) → IsWaitingPoll g tell s e left p x y b → is_enter (tell.last b) ≡ true → length (scopes_told (tell.scopes y.body) (tell.last y.body) x) < most_scopes → t.scopes ≡ s.scopes ++ record { process = p; request = r; res = res } ∷ [] → t.control ≡ Active e left p (signal.Made r) → KnowsItsScopes tell s z → (v : Bool) → is_process z.id p ≡ v → KnowsItsScopes tell t (if v then record z { body = b } else z)
+knows_entered : {B : Type 0} (g : Plan B) (tell : Telling B) (s t : State B) (e : EventId) (left : List Callback)
+    (p : ProcId) (x : Signal) (y : ProcessOf B) (b : B) (r : EventId) (res : ℕ) (z : ProcessOf B)
+    → IsWaitingPoll g tell s e left p x y b → is_enter (tell.last b) ≡ true
+    → length (scopes_told (tell.scopes y.body) (tell.last y.body) x) < most_scopes
+    → t.scopes ≡ s.scopes ++ record { process = p; request = r; res = res } ∷ []
+    → t.control ≡ Active e left p (signal.Made r) → KnowsItsScopes tell s z → (v : Bool) → is_process z.id p ≡ v
+    → KnowsItsScopes tell t (if v then record z { body = b } else z)
 knows_entered g tell s t e left p x y b r res z h enters few opened on w true is =
     let new : OpenScope = record { process = p; request = r; res = res } in
     let more : List EventId = if is_process p z.id then r ∷ [] else [] in
@@ -130,7 +140,11 @@ entered p b res key s =
       };
     })))
 
-lawful_entered : {B : Type 0} (g : Plan B) (tell : Telling B) (sound : B → Type 0) (s : State B) (f : CodeFacts) (e : EventId) (left : List Callback) (p : ProcId) (x : Signal) (y : ProcessOf B) (b : B) (res : ℕ) (priority : ℤ) (preempts : Bool) (key : RequestKey) → FitsCode f g.setup → HasAsked g tell sound s f e left p x y b (op.Enter res priority preempts) → LawfulBasis g tell sound (entered p b res key s)
+lawful_entered : {B : Type 0} (g : Plan B) (tell : Telling B) (sound : B → Type 0) (s : State B) (f : CodeFacts)
+    (e : EventId) (left : List Callback) (p : ProcId) (x : Signal) (y : ProcessOf B) (b : B) (res : ℕ) (priority : ℤ)
+    (preempts : Bool) (key : RequestKey) → FitsCode f g.setup
+    → HasAsked g tell sound s f e left p x y b (op.Enter res priority preempts)
+    → LawfulBasis g tell sound (entered p b res key s)
 lawful_entered {B} g tell sound s f e left p x y b res priority preempts key fits asked =
     let o : Op = op.Enter res priority preempts in
     let rs : List Resource = g.setup.resources in
@@ -182,14 +196,18 @@ lawful_entered {B} g tell sound s f e left p x y b res priority preempts key fit
       chains = chains_told (signal.Made r) d s.control m.chains;
     }
   where
-    using_more : (n : ℕ) → All (λ (v : User). has_scope (s.scopes ++ record { process = p; request = next_event (calendar s); res = res } ∷ []) v.request v.process n ≡ true) (users n s.facilities.ledger)
+    using_more : (n : ℕ)
+        → All (λ (v : User). has_scope (s.scopes ++ record { process = p; request = next_event (calendar s); res = res } ∷ []) v.request v.process n ≡ true)
+        (users n s.facilities.ledger)
     using_more n =
         let z : OpenScope = record { process = p; request = next_event (calendar s); res = res } in
         let us : List User = users n s.facilities.ledger in
         λ i v at. scope_more s.scopes z (slice_index_or us i v).request (slice_index_or us i v).process n (asked.lawful.waiting.using n i v at)
 
 module _ {B : Type 0} (g : Plan B) (tell : Telling B) (sound : B → Type 0) (s : State B) (f : CodeFacts) (e : EventId) (left : List Callback) (p : ProcId) (x : Signal) (y : ProcessOf B) (b : B) where
-  pub lawful-polled_enter : (res : ℕ) (priority : ℤ) (preempts : Bool) → FitsCode f g.setup → AsksFor g tell sound s f e left p x y b (op.Enter res priority preempts) → LawfulBasis g tell sound (polled g p (op.Enter res priority preempts) b s)
+  pub lawful-polled_enter : (res : ℕ) (priority : ℤ) (preempts : Bool) → FitsCode f g.setup
+      → AsksFor g tell sound s f e left p x y b (op.Enter res priority preempts)
+      → LawfulBasis g tell sound (polled g p (op.Enter res priority preempts) b s)
   lawful-polled_enter res priority preempts fits asks =
       let o : Op = op.Enter res priority preempts in
       let rs : List Resource = g.setup.resources in
@@ -202,7 +220,9 @@ module _ {B : Type 0} (g : Plan B) (tell : Telling B) (sound : B → Type 0) (s 
       (λ other. (lawful_tried_put g tell sound (entered p b res key s) res (lawful_entered g tell sound s f e left p x y b res priority preempts key fits asked)).lawful)
 
 -- and no request has two scopes, where none had before
-pub scopes_apart-polled_enter : {B : Type 0} (g : Plan B) (tell : Telling B) (sound : B → Type 0) (s : State B) (p : ProcId) (b : B) (res : ℕ) (priority : ℤ) (preempts : Bool) → LawfulBasis g tell sound s → AreScopesApart s → AreScopesApart (polled g p (op.Enter res priority preempts) b s)
+pub scopes_apart-polled_enter : {B : Type 0} (g : Plan B) (tell : Telling B) (sound : B → Type 0) (s : State B) (p : ProcId)
+    (b : B) (res : ℕ) (priority : ℤ) (preempts : Bool) → LawfulBasis g tell sound s → AreScopesApart s
+    → AreScopesApart (polled g p (op.Enter res priority preempts) b s)
 scopes_apart-polled_enter {B} g tell sound s p b res priority preempts l apart =
     let rs : List Resource = g.setup.resources in
     let r : State B = with_body p b s in

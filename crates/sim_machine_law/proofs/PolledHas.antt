@@ -19,7 +19,8 @@ use Rattle.sim_machine_law.proofs.ReplacedCalendars.{replace_same}
 use Rattle.sim_machine_law.proofs.LawfulBasis.{LawfulBasis}
 
 module _ {B : Type 0} (g : Plan B) (tell : Telling B) (sound : B → Type 0) (s : State B) (f : CodeFacts) (e : EventId) (left : List Callback) (p : ProcId) (x : Signal) (y : ProcessOf B) (b : B) where
-  pub lawful-polled_has : (cond n : EventId) → AsksFor g tell sound s f e left p x y b (op.Has cond n) → LawfulBasis g tell sound (polled g p (op.Has cond n) b s)
+  pub lawful-polled_has : (cond n : EventId) → AsksFor g tell sound s f e left p x y b (op.Has cond n)
+      → LawfulBasis g tell sound (polled g p (op.Has cond n) b s)
   lawful-polled_has cond n asks =
       let o : Op = op.Has cond n in
       let answer : Signal = signal.Number (number_of (has cond n (calendar s))) in

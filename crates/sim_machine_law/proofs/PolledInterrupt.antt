@@ -23,7 +23,8 @@ use Rattle.sim_machine_law.proofs.ToldAnswers.{lawful_done, lawful_raised}
 use Rattle.sim_machine_law.proofs.LawfulBasis.{LawfulBasis}
 
 module _ {B : Type 0} (g : Plan B) (tell : Telling B) (sound : B → Type 0) (s : State B) (f : CodeFacts) (e : EventId) (left : List Callback) (p : ProcId) (x : Signal) (y : ProcessOf B) (b : B) where
-  pub lawful-polled_interrupt : (q : ProcId) (cause : ℤ) → AsksFor g tell sound s f e left p x y b (op.Interrupt q cause) → LawfulBasis g tell sound (polled g p (op.Interrupt q cause) b s)
+  pub lawful-polled_interrupt : (q : ProcId) (cause : ℤ) → AsksFor g tell sound s f e left p x y b (op.Interrupt q cause)
+      → LawfulBasis g tell sound (polled g p (op.Interrupt q cause) b s)
   lawful-polled_interrupt q cause asks =
       let o : Op = op.Interrupt q cause in
       let r : State B = with_body p b s in

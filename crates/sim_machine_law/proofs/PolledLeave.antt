@@ -59,7 +59,9 @@ first_there (x ∷ xs) y h = false≢true (ap (λ o. is_none o) h)
 -- ---- the request is left
 
 -- its scope is the one that its user stands in, so it uses no other resource
-uses_there : {B : Type 0} (g : Plan B) (tell : Telling B) (sound : B → Type 0) (s : State B) (z : OpenScope) (n : ℕ) → LawfulBasis g tell sound s → AreScopesApart s → IsOneOf s.scopes z → All (λ (u : User). u.request ≡ z.request → n ≡ z.res) (users n s.facilities.ledger)
+uses_there : {B : Type 0} (g : Plan B) (tell : Telling B) (sound : B → Type 0) (s : State B) (z : OpenScope) (n : ℕ)
+    → LawfulBasis g tell sound s → AreScopesApart s → IsOneOf s.scopes z
+    → All (λ (u : User). u.request ≡ z.request → n ≡ z.res) (users n s.facilities.ledger)
 uses_there g tell sound s z n l apart one =
     All-weaker (λ (u : User). has_scope s.scopes u.request u.process n ≡ true) (λ (u : User). u.request ≡ z.request → n ≡ z.res) (λ u h same. at u same h) (users n s.facilities.ledger) (l.waiting.using n)
   where
@@ -78,7 +80,9 @@ pub record IsLeftWell {B : Type 0} (g : Plan B) (tell : Telling B) (sound : B �
   pub waits_not : All (λ w. w.event.0 ≢ r.0) f.waiters
   pub uses_not : (n : ℕ) → All (λ (u : User). u.request ≢ r) (users n f.ledger)
 
-pub left_well : {B : Type 0} (g : Plan B) (tell : Telling B) (sound : B → Type 0) (s : State B) (z : OpenScope) → LawfulBasis g tell sound s → AreScopesApart s → IsOneOf s.scopes z → IsLeftWell g tell sound s z.request (leave z.res z.request s.facilities)
+pub left_well : {B : Type 0} (g : Plan B) (tell : Telling B) (sound : B → Type 0) (s : State B) (z : OpenScope)
+    → LawfulBasis g tell sound s → AreScopesApart s → IsOneOf s.scopes z
+    → IsLeftWell g tell sound s z.request (leave z.res z.request s.facilities)
 left_well {B} g tell sound s z l apart one =
     let r : EventId = z.request in
     let c = lawful_cancelled g tell sound s r l in
@@ -93,7 +97,12 @@ left_well {B} g tell sound s z l apart one =
 -- ---- the scope is closed
 
 -- what the processes know of their scopes
-knows_left : {B : Type 0} (g : Plan B) (tell : Telling B) (s t : State B) (e : EventId) (left : List Callback) (p : ProcId) (x : Signal) (y : ProcessOf B) (b : B) (z : OpenScope) (a : ProcessOf B) → s.control ≡ Active e left p x → process_at p s ≡ Some y → WaitingBasis g tell s → AreScopesApart s → first_of_list (scopes_inwards p s) ≡ Some z → z.process ≡ p → tell.scopes b ≡ without_last (scopes_told (tell.scopes y.body) (tell.last y.body) x) → t.scopes ≡ filter (keeps z.request) s.scopes → t.control ≡ Active e left p signal.Done → KnowsItsScopes tell s a → (v : Bool) → is_process a.id p ≡ v → KnowsItsScopes tell t (if v then record a { body = b } else a)
+knows_left : {B : Type 0} (g : Plan B) (tell : Telling B) (s t : State B) (e : EventId) (left : List Callback) (p : ProcId)
+    (x : Signal) (y : ProcessOf B) (b : B) (z : OpenScope) (a : ProcessOf B) → s.control ≡ Active e left p x
+    → process_at p s ≡ Some y → WaitingBasis g tell s → AreScopesApart s → first_of_list (scopes_inwards p s) ≡ Some z
+    → z.process ≡ p → tell.scopes b ≡ without_last (scopes_told (tell.scopes y.body) (tell.last y.body) x)
+    → t.scopes ≡ filter (keeps z.request) s.scopes → t.control ≡ Active e left p signal.Done → KnowsItsScopes tell s a
+    → (v : Bool) → is_process a.id p ≡ v → KnowsItsScopes tell t (if v then record a { body = b } else a)
 knows_left g tell s t e left p x y b z a active found h apart first of asked closed on w true is =
     let same : a.id ≡ p = is_process-yes a.id p is in
     let own : (requests_of a.id s ≡ scopes_told (tell.scopes y.body) (tell.last y.body) x) × (length (requests_of a.id s) ≤ most_scopes) = own_scopes g tell s e left p x y active found h a.id is in
@@ -116,7 +125,11 @@ knows_left g tell s t e left p x y b z a active found h apart first of asked clo
     let own : requests_of a.id s ≡ tell.scopes a.body = w.0 ∙ (ap (λ (es : List EventId). tell.scopes a.body ++ es) before ∙ append-nil (tell.scopes a.body)) in
     knows_alone tell t a after (all ∙ own) (subst (λ (es : List EventId). length es ≤ most_scopes) (sym all) w.1)
 
-lawful_closed : {B : Type 0} (g : Plan B) (tell : Telling B) (sound : B → Type 0) (s : State B) (f : CodeFacts) (e : EventId) (left : List Callback) (p : ProcId) (x : Signal) (y : ProcessOf B) (b : B) (z : OpenScope) → AreScopesApart s → s.control ≡ Active e left p x → process_at p s ≡ Some y → sound b → LawfulBasis g tell sound s → IsLawfulPoll f tell y.body x op.Leave b → first_of_list (scopes_inwards p s) ≡ Some z → LawfulBasis g tell sound (told signal.Done (close_scope (with_body p b s) z))
+lawful_closed : {B : Type 0} (g : Plan B) (tell : Telling B) (sound : B → Type 0) (s : State B) (f : CodeFacts) (e : EventId)
+    (left : List Callback) (p : ProcId) (x : Signal) (y : ProcessOf B) (b : B) (z : OpenScope) → AreScopesApart s
+    → s.control ≡ Active e left p x → process_at p s ≡ Some y → sound b → LawfulBasis g tell sound s
+    → IsLawfulPoll f tell y.body x op.Leave b → first_of_list (scopes_inwards p s) ≡ Some z
+    → LawfulBasis g tell sound (told signal.Done (close_scope (with_body p b s) z))
 lawful_closed {B} g tell sound s f e left p x y b z apart active found sb l poll first =
     let rs : List Resource = g.setup.resources in
     let r : EventId = z.request in
@@ -161,10 +174,15 @@ last_there [] h some none = omega (arith, some)
 last_there (y ∷ ys) h some none = first_there (reverse ys) y (sym (ap first_of_list (reverse-append (y ∷ []) ys)) ∙ none)
 
 -- the active process has a scope
-innermost_there : {X : Type 0} (test : X → Bool) (h : X → EventId) (xs : List X) → 0 < length (map h (filter test xs)) → first_of_list (reverse (filter test xs)) ≡ None → ⊥
+innermost_there : {X : Type 0} (test : X → Bool) (h : X → EventId) (xs : List X) → 0 < length (map h (filter test xs))
+    → first_of_list (reverse (filter test xs)) ≡ None → ⊥
 innermost_there test h xs some none = last_there (filter test xs) h some none
 
-lawful_closes : {B : Type 0} (g : Plan B) (tell : Telling B) (sound : B → Type 0) (s : State B) (f : CodeFacts) (e : EventId) (left : List Callback) (p : ProcId) (x : Signal) (y : ProcessOf B) (b : B) (o : Option OpenScope) → AreScopesApart s → s.control ≡ Active e left p x → process_at p s ≡ Some y → sound b → LawfulBasis g tell sound s → IsLawfulPoll f tell y.body x op.Leave b → first_of_list (scopes_inwards p s) ≡ o → LawfulBasis g tell sound (told signal.Done (close_if_any o (with_body p b s)))
+lawful_closes : {B : Type 0} (g : Plan B) (tell : Telling B) (sound : B → Type 0) (s : State B) (f : CodeFacts) (e : EventId)
+    (left : List Callback) (p : ProcId) (x : Signal) (y : ProcessOf B) (b : B) (o : Option OpenScope) → AreScopesApart s
+    → s.control ≡ Active e left p x → process_at p s ≡ Some y → sound b → LawfulBasis g tell sound s
+    → IsLawfulPoll f tell y.body x op.Leave b → first_of_list (scopes_inwards p s) ≡ o
+    → LawfulBasis g tell sound (told signal.Done (close_if_any o (with_body p b s)))
 lawful_closes g tell sound s f e left p x y b (Some z) apart active found sb h poll first = lawful_closed g tell sound s f e left p x y b z apart active found sb h poll first
 lawful_closes g tell sound s f e left p x y b None apart active found sb h poll first =
     let own : (requests_of p s ≡ scopes_told (tell.scopes y.body) (tell.last y.body) x) × (length (requests_of p s) ≤ most_scopes) = own_scopes g tell s e left p x y active found h.waiting p (is_process-self p) in

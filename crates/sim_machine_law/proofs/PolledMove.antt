@@ -52,7 +52,12 @@ record IsMove (o : Op) : Type 0 where
   pub refused : may_follow o (signal.Raised 2) ≡ true
   pub not_enters : is_enter (Some o) ≡ false
 
-moved_told : {B : Type 0} (g : Plan B) (tell : Telling B) (sound : B → Type 0) (s : State B) (f : CodeFacts) (e : EventId) (left : List Callback) (p : ProcId) (x : Signal) (y : ProcessOf B) (b : B) (o : Op) (k : EventKind) (res : ℕ) (amount : ℤ) (change : Facilities → Facilities) → HasAsked g tell sound s f e left p x y b o → IsMove o → may_follow o (signal.Made (next_event (calendar s))) ≡ true → makes_kind (Some o) k ≡ true → (is_refused_amount g.setup.resources res amount ≡ false → IsMadeWell g tell sound s k (change s.facilities)) → LawfulBasis g tell sound (with_move g res amount change tell_made (with_body p b s))
+moved_told : {B : Type 0} (g : Plan B) (tell : Telling B) (sound : B → Type 0) (s : State B) (f : CodeFacts) (e : EventId)
+    (left : List Callback) (p : ProcId) (x : Signal) (y : ProcessOf B) (b : B) (o : Op) (k : EventKind) (res : ℕ)
+    (amount : ℤ) (change : Facilities → Facilities) → HasAsked g tell sound s f e left p x y b o → IsMove o
+    → may_follow o (signal.Made (next_event (calendar s))) ≡ true → makes_kind (Some o) k ≡ true
+    → (is_refused_amount g.setup.resources res amount ≡ false → IsMadeWell g tell sound s k (change s.facilities))
+    → LawfulBasis g tell sound (with_move g res amount change tell_made (with_body p b s))
 moved_told {B} g tell sound s f e left p x y b o k res amount change h move follows makes made =
     let n : EventId = next_event (calendar s) in
     let r : State B = with_body p b s in
@@ -64,7 +69,12 @@ moved_told {B} g tell sound s f e left p x y b o k res amount change h move foll
     let asked : HasAsked g tell sound t f e left p x y b o = record { active = h.active; found = h.found; is_sound = h.is_sound; lawful = m.lawful; poll = h.poll; scopes = h.scopes } in
     lawful_made g tell sound t f e left p x y b o n (λ c. c) asked (replace_same g tell sound t m.lawful) move.not_enters follows (ap (λ (z : EventKind). makes_kind (Some o) z) m.kind ∙ makes) m.made m.unprocessed)
 
-moved_waits : {B : Type 0} (g : Plan B) (tell : Telling B) (sound : B → Type 0) (s : State B) (f : CodeFacts) (e : EventId) (left : List Callback) (p : ProcId) (x : Signal) (y : ProcessOf B) (b : B) (o : Op) (k : EventKind) (res : ℕ) (amount : ℤ) (change : Facilities → Facilities) → HasAsked g tell sound s f e left p x y b o → IsMove o → may_wait o ≡ true → is_unheard_kind k ≡ false → (is_refused_amount g.setup.resources res amount ≡ false → IsMadeWell g tell sound s k (change s.facilities)) → LawfulBasis g tell sound (with_move g res amount change (λ n t. wait n p t) (with_body p b s))
+moved_waits : {B : Type 0} (g : Plan B) (tell : Telling B) (sound : B → Type 0) (s : State B) (f : CodeFacts) (e : EventId)
+    (left : List Callback) (p : ProcId) (x : Signal) (y : ProcessOf B) (b : B) (o : Op) (k : EventKind) (res : ℕ)
+    (amount : ℤ) (change : Facilities → Facilities) → HasAsked g tell sound s f e left p x y b o → IsMove o
+    → may_wait o ≡ true → is_unheard_kind k ≡ false
+    → (is_refused_amount g.setup.resources res amount ≡ false → IsMadeWell g tell sound s k (change s.facilities))
+    → LawfulBasis g tell sound (with_move g res amount change (λ n t. wait n p t) (with_body p b s))
 moved_waits {B} g tell sound s f e left p x y b o k res amount change h move waits heard made =
     let n : EventId = next_event (calendar s) in
     let r : State B = with_body p b s in
@@ -78,7 +88,11 @@ moved_waits {B} g tell sound s f e left p x y b o k res amount change h move wai
 
 -- ---- puts
 
-put_well : {B : Type 0} (g : Plan B) (tell : Telling B) (sound : B → Type 0) (s : State B) (f : CodeFacts) (res : ℕ) (amount priority : ℤ) → FitsCode f g.setup → LawfulBasis g tell sound s → has_resource f.resources (λ k. not (takes_requests k)) res ≡ true → is_refused_amount g.setup.resources res amount ≡ false → IsMadeWell g tell sound s kind.Put (make_put g.setup.resources res amount priority s.facilities)
+put_well : {B : Type 0} (g : Plan B) (tell : Telling B) (sound : B → Type 0) (s : State B) (f : CodeFacts) (res : ℕ)
+    (amount priority : ℤ) → FitsCode f g.setup → LawfulBasis g tell sound s
+    → has_resource f.resources (λ k. not (takes_requests k)) res ≡ true
+    → is_refused_amount g.setup.resources res amount ≡ false
+    → IsMadeWell g tell sound s kind.Put (make_put g.setup.resources res amount priority s.facilities)
 put_well g tell sound s f res amount priority fits h has kept =
     let rs : List Resource = g.setup.resources in
     let test : ResourceKind → Bool = λ k. not (takes_requests k) in
@@ -86,13 +100,17 @@ put_well g tell sound s f res amount priority fits h has kept =
     lawful_put_made g tell sound s res amount priority (has_resource_below rs test res here) (move_of (resource_at rs res).kind amount (has_resource_of rs test res here) kept) h
 
 module _ {B : Type 0} (g : Plan B) (tell : Telling B) (sound : B → Type 0) (s : State B) (f : CodeFacts) (e : EventId) (left : List Callback) (p : ProcId) (x : Signal) (y : ProcessOf B) (b : B) where
-  pub lawful-polled_put : (res : ℕ) (amount priority : ℤ) → FitsCode f g.setup → AsksFor g tell sound s f e left p x y b (op.Put res amount priority) → LawfulBasis g tell sound (polled g p (op.Put res amount priority) b s)
+  pub lawful-polled_put : (res : ℕ) (amount priority : ℤ) → FitsCode f g.setup
+      → AsksFor g tell sound s f e left p x y b (op.Put res amount priority)
+      → LawfulBasis g tell sound (polled g p (op.Put res amount priority) b s)
   lawful-polled_put res amount priority fits asks =
       let o : Op = op.Put res amount priority in
       let asked : HasAsked g tell sound s f e left p x y b o = record { active = asks.active; found = asks.found; is_sound = asks.is_sound; lawful = asks.lawful; poll = asks.poll; scopes = asks.poll.scopes } in
       moved_told g tell sound s f e left p x y b o kind.Put res amount (make_put g.setup.resources res amount priority) asked (record { refused = refl; not_enters = refl }) refl refl (put_well g tell sound s f res amount priority fits asks.lawful asks.poll.asks)
 
-  pub lawful-polled_put_wait : (res : ℕ) (amount priority : ℤ) → FitsCode f g.setup → AsksFor g tell sound s f e left p x y b (op.PutWait res amount priority) → LawfulBasis g tell sound (polled g p (op.PutWait res amount priority) b s)
+  pub lawful-polled_put_wait : (res : ℕ) (amount priority : ℤ) → FitsCode f g.setup
+      → AsksFor g tell sound s f e left p x y b (op.PutWait res amount priority)
+      → LawfulBasis g tell sound (polled g p (op.PutWait res amount priority) b s)
   lawful-polled_put_wait res amount priority fits asks =
       let o : Op = op.PutWait res amount priority in
       let asked : HasAsked g tell sound s f e left p x y b o = record { active = asks.active; found = asks.found; is_sound = asks.is_sound; lawful = asks.lawful; poll = asks.poll; scopes = asks.poll.scopes } in
@@ -100,7 +118,11 @@ module _ {B : Type 0} (g : Plan B) (tell : Telling B) (sound : B → Type 0) (s 
 
 -- ---- gets
 
-get_well : {B : Type 0} (g : Plan B) (tell : Telling B) (sound : B → Type 0) (s : State B) (f : CodeFacts) (res : ℕ) (least greatest : ℤ) → FitsCode f g.setup → LawfulBasis g tell sound s → has_resource f.resources (λ k. not (takes_requests k)) res ≡ true → is_refused_amount g.setup.resources res least ≡ false → IsMadeWell g tell sound s kind.Get (make_get g.setup.resources res least greatest s.facilities)
+get_well : {B : Type 0} (g : Plan B) (tell : Telling B) (sound : B → Type 0) (s : State B) (f : CodeFacts) (res : ℕ)
+    (least greatest : ℤ) → FitsCode f g.setup → LawfulBasis g tell sound s
+    → has_resource f.resources (λ k. not (takes_requests k)) res ≡ true
+    → is_refused_amount g.setup.resources res least ≡ false
+    → IsMadeWell g tell sound s kind.Get (make_get g.setup.resources res least greatest s.facilities)
 get_well g tell sound s f res least greatest fits h has kept =
     let rs : List Resource = g.setup.resources in
     let test : ResourceKind → Bool = λ k. not (takes_requests k) in
@@ -108,13 +130,17 @@ get_well g tell sound s f res least greatest fits h has kept =
     lawful_get_made g tell sound s res least greatest (has_resource_below rs test res here) (move_of (resource_at rs res).kind least (has_resource_of rs test res here) kept) h
 
 module _ {B : Type 0} (g : Plan B) (tell : Telling B) (sound : B → Type 0) (s : State B) (f : CodeFacts) (e : EventId) (left : List Callback) (p : ProcId) (x : Signal) (y : ProcessOf B) (b : B) where
-  pub lawful-polled_get : (res : ℕ) (least greatest : ℤ) → FitsCode f g.setup → AsksFor g tell sound s f e left p x y b (op.Get res least greatest) → LawfulBasis g tell sound (polled g p (op.Get res least greatest) b s)
+  pub lawful-polled_get : (res : ℕ) (least greatest : ℤ) → FitsCode f g.setup
+      → AsksFor g tell sound s f e left p x y b (op.Get res least greatest)
+      → LawfulBasis g tell sound (polled g p (op.Get res least greatest) b s)
   lawful-polled_get res least greatest fits asks =
       let o : Op = op.Get res least greatest in
       let asked : HasAsked g tell sound s f e left p x y b o = record { active = asks.active; found = asks.found; is_sound = asks.is_sound; lawful = asks.lawful; poll = asks.poll; scopes = asks.poll.scopes } in
       moved_told g tell sound s f e left p x y b o kind.Get res least (make_get g.setup.resources res least greatest) asked (record { refused = refl; not_enters = refl }) refl refl (get_well g tell sound s f res least greatest fits asks.lawful asks.poll.asks)
 
-  pub lawful-polled_get_wait : (res : ℕ) (least greatest : ℤ) → FitsCode f g.setup → AsksFor g tell sound s f e left p x y b (op.GetWait res least greatest) → LawfulBasis g tell sound (polled g p (op.GetWait res least greatest) b s)
+  pub lawful-polled_get_wait : (res : ℕ) (least greatest : ℤ) → FitsCode f g.setup
+      → AsksFor g tell sound s f e left p x y b (op.GetWait res least greatest)
+      → LawfulBasis g tell sound (polled g p (op.GetWait res least greatest) b s)
   lawful-polled_get_wait res least greatest fits asks =
       let o : Op = op.GetWait res least greatest in
       let asked : HasAsked g tell sound s f e left p x y b o = record { active = asks.active; found = asks.found; is_sound = asks.is_sound; lawful = asks.lawful; poll = asks.poll; scopes = asks.poll.scopes } in

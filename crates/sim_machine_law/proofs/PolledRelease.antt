@@ -45,7 +45,9 @@ use Rattle.sim_machine_law.proofs.JoinedQueues.{with_new, lawful_new, new_made, 
 use Rattle.sim_machine_law.proofs.LawfulBasis.{LawfulBasis}
 
 -- a use that ends leaves a lawful state
-pub lawful_end_written : {B : Type 0} (g : Plan B) (tell : Telling B) (sound : B → Type 0) (s : State B) (res : ℕ) (request : EventId) → LawfulBasis g tell sound s → LawfulBasis g tell sound (on_facilities (write_deed (Released res request)) s)
+pub lawful_end_written : {B : Type 0} (g : Plan B) (tell : Telling B) (sound : B → Type 0) (s : State B) (res : ℕ)
+    (request : EventId) → LawfulBasis g tell sound s
+    → LawfulBasis g tell sound (on_facilities (write_deed (Released res request)) s)
 lawful_end_written g tell sound s res request l =
     let rs : List Resource = g.setup.resources in
     let deed : Deed = Released res request in
@@ -54,7 +56,9 @@ lawful_end_written g tell sound s res request l =
     (capacities_deed rs s.facilities deed (plain_fits rs s.facilities deed (λ n. refl) (λ n. refl) (λ n. refl) l.capacities) (λ n. All-nil (λ (v : User). is_in_use (calendar s) v ≡ true)) l.capacities)
 
 -- the release, once its event was made
-released_after : {B : Type 0} (g : Plan B) (tell : Telling B) (sound : B → Type 0) (s : State B) (e : EventId) → LawfulBasis g tell sound s → e.0 < length (calendar s).events → (event_at (calendar s) e) ≡ pending_event kind.Release → All (λ v. v.event.0 ≢ e.0) s.facilities.waiters → LawfulBasis g tell sound (on_events (succeed e (pos 0)) s)
+released_after : {B : Type 0} (g : Plan B) (tell : Telling B) (sound : B → Type 0) (s : State B) (e : EventId)
+    → LawfulBasis g tell sound s → e.0 < length (calendar s).events → (event_at (calendar s) e) ≡ pending_event kind.Release
+    → All (λ v. v.event.0 ≢ e.0) s.facilities.waiters → LawfulBasis g tell sound (on_events (succeed e (pos 0)) s)
 released_after g tell sound s e l made is apart =
     lawful_triggered g tell sound s e (outcome.Ok (pos 0)) l made (ap (λ (z : EventOf). is_none z.outcome) is) (ap (λ (z : EventOf). is_process_kind z.kind) is) (ap (λ (z : EventOf). is_interrupt_kind z.kind) is) apart
 
@@ -64,7 +68,9 @@ pub record IsReleasedWell {B : Type 0} (g : Plan B) (tell : Telling B) (sound : 
   pub waiters : f.waiters ≡ s.facilities.waiters
   pub uses_not : (n : ℕ) → All (λ (u : User). u.request ≡ request → n ≡ res) (users n s.facilities.ledger) → All (λ (u : User). u.request ≢ request) (users n f.ledger)
 
-pub lawful_released : {B : Type 0} (g : Plan B) (tell : Telling B) (sound : B → Type 0) (s : State B) (res : ℕ) (request : EventId) → LawfulBasis g tell sound s → IsReleasedWell g tell sound s res request (make_release res request s.facilities)
+pub lawful_released : {B : Type 0} (g : Plan B) (tell : Telling B) (sound : B → Type 0) (s : State B) (res : ℕ)
+    (request : EventId) → LawfulBasis g tell sound s
+    → IsReleasedWell g tell sound s res request (make_release res request s.facilities)
 lawful_released {B} g tell sound s res request l =
     let c : Calendar = calendar s in
     let e : EventId = next_event c in
@@ -88,7 +94,10 @@ lawful_released {B} g tell sound s res request l =
     })
 
 -- whichever scope is found
-released_well : {B : Type 0} (g : Plan B) (tell : Telling B) (sound : B → Type 0) (s : State B) (f : CodeFacts) (e : EventId) (left : List Callback) (p : ProcId) (x : Signal) (y : ProcessOf B) (b : B) (o : Op) (scope : Option OpenScope) → HasAsked g tell sound s f e left p x y b o → is_enter (Some o) ≡ false → may_follow o signal.Done ≡ true → LawfulBasis g tell sound (told signal.Done (release_if_any scope (with_body p b s)))
+released_well : {B : Type 0} (g : Plan B) (tell : Telling B) (sound : B → Type 0) (s : State B) (f : CodeFacts) (e : EventId)
+    (left : List Callback) (p : ProcId) (x : Signal) (y : ProcessOf B) (b : B) (o : Op) (scope : Option OpenScope)
+    → HasAsked g tell sound s f e left p x y b o → is_enter (Some o) ≡ false → may_follow o signal.Done ≡ true
+    → LawfulBasis g tell sound (told signal.Done (release_if_any scope (with_body p b s)))
 released_well g tell sound s f e left p x y b o None h not_enters follows =
     lawful_done g tell sound s f e left p x y b o (λ c. c) h (replace_same g tell sound s h.lawful) not_enters follows
 released_well {B} g tell sound s f e left p x y b o (Some z) h not_enters follows =
@@ -97,7 +106,10 @@ released_well {B} g tell sound s f e left p x y b o (Some z) h not_enters follow
     let asked : HasAsked g tell sound t f e left p x y b o = record { active = h.active; found = h.found; is_sound = h.is_sound; lawful = l; poll = h.poll; scopes = h.scopes } in
     lawful_done g tell sound t f e left p x y b o (λ c. c) asked (replace_same g tell sound t l) not_enters follows
 
-pub lawful-polled_release : {B : Type 0} (g : Plan B) (tell : Telling B) (sound : B → Type 0) (s : State B) (f : CodeFacts) (e : EventId) (left : List Callback) (p : ProcId) (x : Signal) (y : ProcessOf B) (b : B) (request : EventId) → s.control ≡ Active e left p x → process_at p s ≡ Some y → sound b → LawfulBasis g tell sound s → IsLawfulPoll f tell y.body x (op.Release request) b → LawfulBasis g tell sound (polled g p (op.Release request) b s)
+pub lawful-polled_release : {B : Type 0} (g : Plan B) (tell : Telling B) (sound : B → Type 0) (s : State B) (f : CodeFacts)
+    (e : EventId) (left : List Callback) (p : ProcId) (x : Signal) (y : ProcessOf B) (b : B) (request : EventId)
+    → s.control ≡ Active e left p x → process_at p s ≡ Some y → sound b → LawfulBasis g tell sound s
+    → IsLawfulPoll f tell y.body x (op.Release request) b → LawfulBasis g tell sound (polled g p (op.Release request) b s)
 lawful-polled_release g tell sound s f e left p x y b request active found sb h poll =
     let o : Op = op.Release request in
     let asked : HasAsked g tell sound s f e left p x y b o = record { active = active; found = found; is_sound = sb; lawful = h; poll = poll; scopes = poll.scopes } in

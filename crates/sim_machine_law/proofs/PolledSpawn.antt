@@ -39,7 +39,9 @@ use Rattle.sim_machine_law.proofs.LawfulBasis.{LawfulBasis}
 
 -- ---- a process more changes nothing of the one that runs
 
-found_at : {X : Type 0} (test : X → Bool) (x : X) (xs ys : List X) (y : X) (v : Bool) → (if v then Some x else find test xs) ≡ Some y → (find test xs ≡ Some y → find test (xs ++ ys) ≡ Some y) → (if v then Some x else find test (xs ++ ys)) ≡ Some y
+found_at : {X : Type 0} (test : X → Bool) (x : X) (xs ys : List X) (y : X) (v : Bool)
+    → (if v then Some x else find test xs) ≡ Some y → (find test xs ≡ Some y → find test (xs ++ ys) ≡ Some y)
+    → (if v then Some x else find test (xs ++ ys)) ≡ Some y
 found_at test x xs ys y true h later = h
 found_at test x xs ys y false h later = later h
 
@@ -51,13 +53,18 @@ found_before test (x ∷ xs) ys y h = found_at test x xs ys y (test x) h (found_
 stays : {X : Type 0} (v : Bool) (x y : X) → v ≡ false → (if v then x else y) ≡ y
 stays v x y h = rw h refl
 
-other_bodies : {B : Type 0} (p : ProcId) (b : B) (xs : List (ProcessOf B)) (z : ProcessOf B) → is_process z.id p ≡ false → map (λ (x : ProcessOf B). if is_process x.id p then record x { body = b } else x) (xs ++ z ∷ []) ≡ map (λ (x : ProcessOf B). if is_process x.id p then record x { body = b } else x) xs ++ z ∷ []
+other_bodies : {B : Type 0} (p : ProcId) (b : B) (xs : List (ProcessOf B)) (z : ProcessOf B) → is_process z.id p ≡ false
+    → map (λ (x : ProcessOf B). if is_process x.id p then record x { body = b } else x) (xs ++ z ∷ [])
+    ≡ map (λ (x : ProcessOf B). if is_process x.id p then record x { body = b } else x) xs ++ z ∷ []
 other_bodies {B} p b xs z apart =
     let f : ProcessOf B → ProcessOf B = λ x. if is_process x.id p then record x { body = b } else x in
     map-append f xs (z ∷ []) ∙ ap (λ (w : ProcessOf B). map f xs ++ w ∷ []) (stays (is_process z.id p) (record z { body = b }) z apart)
 
 -- the new process may be made before the body of the old one is replaced
-spawned_is : {B : Type 0} (g : Plan B) (s : State B) (p : ProcId) (b : B) (k : ℕ) (args : List ℤ) → p.0 < length (calendar s).events → polled g p (op.Spawn k args) b s ≡ told (signal.Made (next_event (calendar s))) (with_body p b (make_process g k args s))
+spawned_is : {B : Type 0} (g : Plan B) (s : State B) (p : ProcId) (b : B) (k : ℕ) (args : List ℤ)
+    → p.0 < length (calendar s).events
+    → polled g p (op.Spawn k args) b s ≡ told (signal.Made (next_event (calendar s)))
+    (with_body p b (make_process g k args s))
 spawned_is {B} g s p b k args made =
     let c : Calendar = calendar s in
     let q : ProcId = record { 0 = (next_event c).0 } in
@@ -67,7 +74,11 @@ spawned_is {B} g s p b k args made =
 
 -- ---- it is told of the new process
 
-pub lawful-polled_spawn : {B : Type 0} (g : Plan B) (tell : Telling B) (sound : B → Type 0) (turn : B → ℤ → Signal → Op → B → Type 0) (s : State B) (f : CodeFacts) (e : EventId) (left : List Callback) (p : ProcId) (x : Signal) (y : ProcessOf B) (b : B) (k : ℕ) (args : List ℤ) → IsLawfulBody f tell sound g.start turn → FitsCode f g.setup → s.control ≡ Active e left p x → process_at p s ≡ Some y → sound b → LawfulBasis g tell sound s → IsLawfulPoll f tell y.body x (op.Spawn k args) b → LawfulBasis g tell sound (polled g p (op.Spawn k args) b s)
+pub lawful-polled_spawn : {B : Type 0} (g : Plan B) (tell : Telling B) (sound : B → Type 0)
+    (turn : B → ℤ → Signal → Op → B → Type 0) (s : State B) (f : CodeFacts) (e : EventId) (left : List Callback) (p : ProcId)
+    (x : Signal) (y : ProcessOf B) (b : B) (k : ℕ) (args : List ℤ) → IsLawfulBody f tell sound g.start turn
+    → FitsCode f g.setup → s.control ≡ Active e left p x → process_at p s ≡ Some y → sound b → LawfulBasis g tell sound s
+    → IsLawfulPoll f tell y.body x (op.Spawn k args) b → LawfulBasis g tell sound (polled g p (op.Spawn k args) b s)
 lawful-polled_spawn {B} g tell sound turn s f e left p x y b k args law setup active found sb h poll =
     let c : Calendar = calendar s in
     let q : ProcId = record { 0 = (next_event c).0 } in

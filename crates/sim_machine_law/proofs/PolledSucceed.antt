@@ -29,7 +29,11 @@ use Rattle.sim_machine_law.proofs.ToldAnswers.{lawful_done, lawful_raised}
 use Rattle.sim_machine_law.proofs.LawfulBasis.{LawfulBasis}
 
 -- an event that the body may trigger gets this outcome, if it is pending
-triggers : {B : Type 0} (g : Plan B) (tell : Telling B) (sound : B → Type 0) (s : State B) (f : CodeFacts) (e : EventId) (left : List Callback) (p : ProcId) (x : Signal) (y : ProcessOf B) (b : B) (o : Op) (n : EventId) (result : Outcome) → FitsCode f g.setup → HasAsked g tell sound s f e left p x y b o → is_enter (Some o) ≡ false → may_follow o signal.Done ≡ true → may_follow o (signal.Raised 3) ≡ true → is_known_event f (tell.places b) n ≡ true → LawfulBasis g tell sound (trigger_pending n result (with_body p b s))
+triggers : {B : Type 0} (g : Plan B) (tell : Telling B) (sound : B → Type 0) (s : State B) (f : CodeFacts) (e : EventId)
+    (left : List Callback) (p : ProcId) (x : Signal) (y : ProcessOf B) (b : B) (o : Op) (n : EventId) (result : Outcome)
+    → FitsCode f g.setup → HasAsked g tell sound s f e left p x y b o → is_enter (Some o) ≡ false
+    → may_follow o signal.Done ≡ true → may_follow o (signal.Raised 3) ≡ true → is_known_event f (tell.places b) n ≡ true
+    → LawfulBasis g tell sound (trigger_pending n result (with_body p b s))
 triggers {B} g tell sound s f e left p x y b o n result fits h not_enters done raises known =
     let r : State B = with_body p b s in
     let is : IsMadeOf is_triggered_kind (calendar s) n = known_event_made g tell sound s f e left p x y b o n fits h known in
@@ -38,13 +42,16 @@ triggers {B} g tell sound s f e left p x y b o n result fits h not_enters done r
     (λ turned. lawful_raised g tell sound s f e left p x y b o 3 h not_enters raises)
 
 module _ {B : Type 0} (g : Plan B) (tell : Telling B) (sound : B → Type 0) (s : State B) (f : CodeFacts) (e : EventId) (left : List Callback) (p : ProcId) (x : Signal) (y : ProcessOf B) (b : B) where
-  pub lawful-polled_succeed : (n : EventId) (value : ℤ) → FitsCode f g.setup → AsksFor g tell sound s f e left p x y b (op.Succeed n value) → LawfulBasis g tell sound (polled g p (op.Succeed n value) b s)
+  pub lawful-polled_succeed : (n : EventId) (value : ℤ) → FitsCode f g.setup
+      → AsksFor g tell sound s f e left p x y b (op.Succeed n value)
+      → LawfulBasis g tell sound (polled g p (op.Succeed n value) b s)
   lawful-polled_succeed n value fits asks =
       let o : Op = op.Succeed n value in
       let asked : HasAsked g tell sound s f e left p x y b o = record { active = asks.active; found = asks.found; is_sound = asks.is_sound; lawful = asks.lawful; poll = asks.poll; scopes = asks.poll.scopes } in
       triggers g tell sound s f e left p x y b o n (outcome.Ok value) fits asked refl refl refl asks.poll.asks
 
-  pub lawful-polled_fail : (n : EventId) (code : ℤ) → FitsCode f g.setup → AsksFor g tell sound s f e left p x y b (op.Fail n code) → LawfulBasis g tell sound (polled g p (op.Fail n code) b s)
+  pub lawful-polled_fail : (n : EventId) (code : ℤ) → FitsCode f g.setup
+      → AsksFor g tell sound s f e left p x y b (op.Fail n code) → LawfulBasis g tell sound (polled g p (op.Fail n code) b s)
   lawful-polled_fail n code fits asks =
       let o : Op = op.Fail n code in
       let asked : HasAsked g tell sound s f e left p x y b o = record { active = asks.active; found = asks.found; is_sound = asks.is_sound; lawful = asks.lawful; poll = asks.poll; scopes = asks.poll.scopes } in

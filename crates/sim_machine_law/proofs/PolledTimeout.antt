@@ -29,12 +29,15 @@ use Rattle.sim_machine_law.proofs.WaitedEvents.{lawful_waits}
 use Rattle.sim_machine_law.proofs.ToldAnswers.{lawful_made, lawful_raised}
 use Rattle.sim_machine_law.proofs.LawfulBasis.{LawfulBasis}
 
-kept_part : {X : Type 0} (part : EventOf → X) (delay value : ℤ) (c : Calendar) → ((z : EventOf) → part (record z { outcome = Some (outcome.Ok value) }) ≡ part z) → part (event_at (make_timeout delay value c) (next_event c)) ≡ part (pending_event kind.Timeout)
+kept_part : {X : Type 0} (part : EventOf → X) (delay value : ℤ) (c : Calendar)
+    → ((z : EventOf) → part (record z { outcome = Some (outcome.Ok value) }) ≡ part z)
+    → part (event_at (make_timeout delay value c) (next_event c)) ≡ part (pending_event kind.Timeout)
 kept_part part delay value c keeps =
     change_event-keeps part (next_event c) (next_event c) (λ z. record z { outcome = Some (outcome.Ok value) }) (make kind.Timeout c) keeps ∙ ap part (make-new kind.Timeout c)
 
 module _ {B : Type 0} (g : Plan B) (tell : Telling B) (sound : B → Type 0) (s : State B) (f : CodeFacts) (e : EventId) (left : List Callback) (p : ProcId) (x : Signal) (y : ProcessOf B) (b : B) where
-  pub lawful-polled_timeout : (delay value : ℤ) → AsksFor g tell sound s f e left p x y b (op.Timeout delay value) → LawfulBasis g tell sound (polled g p (op.Timeout delay value) b s)
+  pub lawful-polled_timeout : (delay value : ℤ) → AsksFor g tell sound s f e left p x y b (op.Timeout delay value)
+      → LawfulBasis g tell sound (polled g p (op.Timeout delay value) b s)
   lawful-polled_timeout delay value asks =
       let c : Calendar = calendar s in
       let o : Op = op.Timeout delay value in
@@ -44,7 +47,8 @@ module _ {B : Type 0} (g : Plan B) (tell : Telling B) (sound : B → Type 0) (s 
       (kept_part (λ z. makes_kind (Some o) z.kind) delay value c (λ z. refl)) (timeout_made delay value c) (kept_part (λ z. z.processed) delay value c (λ z. refl)))
 
   -- it is made, and the process waits for it
-  pub lawful-polled_pause : (delay value : ℤ) → AsksFor g tell sound s f e left p x y b (op.Pause delay value) → LawfulBasis g tell sound (polled g p (op.Pause delay value) b s)
+  pub lawful-polled_pause : (delay value : ℤ) → AsksFor g tell sound s f e left p x y b (op.Pause delay value)
+      → LawfulBasis g tell sound (polled g p (op.Pause delay value) b s)
   lawful-polled_pause delay value asks =
       let c : Calendar = calendar s in
       let n : EventId = next_event c in

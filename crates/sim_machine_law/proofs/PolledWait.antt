@@ -20,7 +20,8 @@ use Rattle.sim_machine_law.proofs.KnownEvents.{IsMadeOf, known_made}
 use Rattle.sim_machine_law.proofs.LawfulBasis.{LawfulBasis}
 
 module _ {B : Type 0} (g : Plan B) (tell : Telling B) (sound : B → Type 0) (s : State B) (f : CodeFacts) (e : EventId) (left : List Callback) (p : ProcId) (x : Signal) (y : ProcessOf B) (b : B) where
-  pub lawful-polled_wait : (n : EventId) → FitsCode f g.setup → AsksFor g tell sound s f e left p x y b (op.Wait n) → LawfulBasis g tell sound (polled g p (op.Wait n) b s)
+  pub lawful-polled_wait : (n : EventId) → FitsCode f g.setup → AsksFor g tell sound s f e left p x y b (op.Wait n)
+      → LawfulBasis g tell sound (polled g p (op.Wait n) b s)
   lawful-polled_wait n fits asks =
       let c : Calendar = calendar s in
       let o : Op = op.Wait n in

@@ -54,7 +54,8 @@ abbrev one_at : EventId → Entry → ℕ
 one_at f y = cond (is_same y.event f) 1 0
 
 -- the entry taken out counts for its own event alone
-pub entries_without : (e : Entry) (f : EventId) (es : List Entry) → AllPairs Differ es → Among es e → entries_at f (without_entry e es) + one_at f e ≡ entries_at f es
+pub entries_without : (e : Entry) (f : EventId) (es : List Entry) → AllPairs Differ es → Among es e
+    → entries_at f (without_entry e es) + one_at f e ≡ entries_at f es
 entries_without e f [] h a = absurd a
 entries_without e f (x ∷ xs) h (inl same) =
     let P : Entry → Type 0 = λ y. entries_at f (without_entry e (y ∷ xs)) + one_at f e ≡ entries_at f (y ∷ xs) in
@@ -81,8 +82,10 @@ done_counts_none : (b : Bool) → one_if (b && not true) ≡ 0
 done_counts_none true = refl
 done_counts_none false = refl
 
-left_at : (e : Entry) (f : EventId) (n old : ℕ) (c : Calendar) → e.event.0 < length c.events → n + one_at f e ≡ old → old ≡ one_if (is_triggered c f) → (f.0 ≡ e.event.0) ⊎ ((f.0 ≡ e.event.0) → ⊥) →
-    n ≡ one_if (is_triggered_event (slice_index_or (slice_set c.events e.event.0 (done_with (event_at c e.event))) f.0 (pending_event kind.Plain)))
+left_at : (e : Entry) (f : EventId) (n old : ℕ) (c : Calendar) → e.event.0 < length c.events → n + one_at f e ≡ old
+    → old ≡ one_if (is_triggered c f) → (f.0 ≡ e.event.0) ⊎ ((f.0 ≡ e.event.0) → ⊥)
+    → n
+    ≡ one_if (is_triggered_event (slice_index_or (slice_set c.events e.event.0 (done_with (event_at c e.event))) f.0 (pending_event kind.Plain)))
 left_at e f n old c made sum h (inl same) =
     let d : EventOf = pending_event kind.Plain in
     let one : cond {A = ℕ} (e.event.0 == f.0) 1 0 ≡ 1 = is_one e.event.0 f.0 same in

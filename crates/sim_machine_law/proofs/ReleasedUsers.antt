@@ -33,7 +33,8 @@ waiters_used res request f = if_cases (λ u. u.waiters ≡ f.waiters) (is_user r
 abbrev pub release_made : ℕ → EventId → Facilities → Facilities
 release_made res request f = let gone = cancel request f in on_calendar (λ c. register (next_event gone.calendar) (callback.TryPut res) (make kind.Release c)) gone
 
-pub waiters_left : (res : ℕ) (request : EventId) (f : Facilities) → (leave res request f).waiters ≡ filter (λ (w : Waiter). not (is_same w.event request)) f.waiters
+pub waiters_left : (res : ℕ) (request : EventId) (f : Facilities)
+    → (leave res request f).waiters ≡ filter (λ (w : Waiter). not (is_same w.event request)) f.waiters
 waiters_left res request f = waiters_used res request (release_made res request f) ∙ waiters_cancelled request f
 
 -- ---- users
@@ -42,7 +43,8 @@ waiters_left res request f = waiters_used res request (release_made res request 
 abbrev pub UsesOther : (User → Type 0) → EventId → User → Type 0
 UsesOther P request u = P u × (is_same u.request request ≡ false)
 
-pub released_users : (P : User → Type 0) (at res : ℕ) (request : EventId) (ledger : List Deed) → All P (users at ledger) → All (UsesOther P request) (users at (ledger ++ Released res request ∷ []))
+pub released_users : (P : User → Type 0) (at res : ℕ) (request : EventId) (ledger : List Deed) → All P (users at ledger)
+    → All (UsesOther P request) (users at (ledger ++ Released res request ∷ []))
 released_users P at res request ledger h =
     let other : User → Bool = λ u. not (is_same u.request request) in
     subst (All (UsesOther P request)) (sym (users_released at res request ledger))
@@ -52,7 +54,9 @@ pub ledger_cancelled : (request : EventId) (f : Facilities) → (cancel request 
 ledger_cancelled request f = if_cases (λ u. u.ledger ≡ f.ledger) (waits request f) (on_calendar (cancel_event request) (unqueue request f)) f (λ a. refl) (λ a. refl)
 
 -- where a request that does not use its resource uses no other
-pub users_left : (P : User → Type 0) (at res : ℕ) (request : EventId) (f : Facilities) → All P (users at f.ledger) → (list_any (λ u. is_same u.request request) (users res f.ledger) ≡ false → All (UsesOther P request) (users at f.ledger)) → All (UsesOther P request) (users at (leave res request f).ledger)
+pub users_left : (P : User → Type 0) (at res : ℕ) (request : EventId) (f : Facilities) → All P (users at f.ledger)
+    → (list_any (λ u. is_same u.request request) (users res f.ledger) ≡ false → All (UsesOther P request) (users at f.ledger))
+    → All (UsesOther P request) (users at (leave res request f).ledger)
 users_left P at res request f h other =
     let g : Facilities = release_made res request f in
     let same : g.ledger ≡ f.ledger = ledger_cancelled request f in

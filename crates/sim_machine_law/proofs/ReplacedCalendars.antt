@@ -63,7 +63,8 @@ pub waiter_made : (c : Calendar) (w : Waiter) → waits_well c w ≡ true → w.
 waiter_made c w h = ltb-true w.event.0 (length c.events) (four_parts (was_made c w.event) (is_pending c w.event) (not (event_at c w.event).cancelled) (may_wait_kind (kind_at c w.event)) h).0
 
 -- it is no interruption
-pub replace_made : {B : Type 0} (g : Plan B) (tell : Telling B) (sound : B → Type 0) (s : State B) (k : EventKind) → is_interrupt_kind k ≡ false → LawfulBasis g tell sound s → MayReplace s (make k (calendar s))
+pub replace_made : {B : Type 0} (g : Plan B) (tell : Telling B) (sound : B → Type 0) (s : State B) (k : EventKind)
+    → is_interrupt_kind k ≡ false → LawfulBasis g tell sound s → MayReplace s (make k (calendar s))
 replace_made g tell sound s k other l =
     let c : Calendar = calendar s in
     let d : Calendar = make k c in
@@ -84,7 +85,9 @@ replace_made g tell sound s k other l =
     }
 
 -- a timeout is made, up to the last time
-pub replace_timeout : {B : Type 0} (g : Plan B) (tell : Telling B) (sound : B → Type 0) (s : State B) (delay value : ℤ) → pos 0 ≤ℤ delay → ((calendar s).time +ℤ delay) ≤ℤ pos (2 ^ 62) → LawfulBasis g tell sound s → MayReplace s (make_timeout delay value (calendar s))
+pub replace_timeout : {B : Type 0} (g : Plan B) (tell : Telling B) (sound : B → Type 0) (s : State B) (delay value : ℤ)
+    → pos 0 ≤ℤ delay → ((calendar s).time +ℤ delay) ≤ℤ pos (2 ^ 62) → LawfulBasis g tell sound s
+    → MayReplace s (make_timeout delay value (calendar s))
 replace_timeout g tell sound s delay value low high l =
     let c : Calendar = calendar s in
     let e : EventId = next_event c in
@@ -125,7 +128,9 @@ triggered_no_waiter kind.Timeout h = refl
 triggered_no_waiter _ h = absurd (false≢true h)
 
 -- it is plain or a timeout
-pub replace_triggered : {B : Type 0} (g : Plan B) (tell : Telling B) (sound : B → Type 0) (s : State B) (e : EventId) (x : Outcome) → e.0 < length (calendar s).events → is_triggered_kind (kind_at (calendar s) e) ≡ true → is_pending (calendar s) e ≡ true → LawfulBasis g tell sound s → MayReplace s (trigger e x (calendar s))
+pub replace_triggered : {B : Type 0} (g : Plan B) (tell : Telling B) (sound : B → Type 0) (s : State B) (e : EventId)
+    (x : Outcome) → e.0 < length (calendar s).events → is_triggered_kind (kind_at (calendar s) e) ≡ true
+    → is_pending (calendar s) e ≡ true → LawfulBasis g tell sound s → MayReplace s (trigger e x (calendar s))
 replace_triggered g tell sound s e x made kinds pending l =
     let c : Calendar = calendar s in
     let d : Calendar = trigger e x c in
@@ -149,7 +154,9 @@ replace_triggered g tell sound s e x made kinds pending l =
     }
 
 -- an outcome is passed on to it, if it is pending
-pub replace_passed_on : {B : Type 0} (g : Plan B) (tell : Telling B) (sound : B → Type 0) (s : State B) (o : Option Outcome) (y : EventId) → y.0 < length (calendar s).events → is_triggered_kind (kind_at (calendar s) y) ≡ true → LawfulBasis g tell sound s → MayReplace s (pass_on o y (calendar s))
+pub replace_passed_on : {B : Type 0} (g : Plan B) (tell : Telling B) (sound : B → Type 0) (s : State B) (o : Option Outcome)
+    (y : EventId) → y.0 < length (calendar s).events → is_triggered_kind (kind_at (calendar s) y) ≡ true
+    → LawfulBasis g tell sound s → MayReplace s (pass_on o y (calendar s))
 replace_passed_on g tell sound s None y made kinds l = replace_same g tell sound s l
 replace_passed_on g tell sound s (Some x) y made kinds l =
     if_cases (MayReplace s) (is_pending (calendar s) y) (trigger y x (calendar s)) (calendar s) (λ pending. replace_triggered g tell sound s y x made kinds pending l) (λ turned. replace_same g tell sound s l)
@@ -157,7 +164,11 @@ replace_passed_on g tell sound s (Some x) y made kinds l =
 -- ---- one callback more is registered
 
 -- it resumes nobody, strikes nobody, is no condition's, passes on well, and stands at an event that is no interruption
-pub replace_registered : {B : Type 0} (g : Plan B) (tell : Telling B) (sound : B → Type 0) (s : State B) (e : EventId) (x : Callback) → e.0 < length (calendar s).events → is_processed (calendar s) e ≡ false → is_interrupt_kind (kind_at (calendar s) e) ≡ false → ((p : ProcId) → is_resume_of p x ≡ false) → is_strike x ≡ false → IsNoConditions x → chains_well (calendar s) e x ≡ true → LawfulBasis g tell sound s → MayReplace s (register e x (calendar s))
+pub replace_registered : {B : Type 0} (g : Plan B) (tell : Telling B) (sound : B → Type 0) (s : State B) (e : EventId)
+    (x : Callback) → e.0 < length (calendar s).events → is_processed (calendar s) e ≡ false
+    → is_interrupt_kind (kind_at (calendar s) e) ≡ false → ((p : ProcId) → is_resume_of p x ≡ false) → is_strike x ≡ false
+    → IsNoConditions x → chains_well (calendar s) e x ≡ true → LawfulBasis g tell sound s
+    → MayReplace s (register e x (calendar s))
 replace_registered g tell sound s e x made unprocessed kinds resumes strikes no_condition well l =
     let c : Calendar = calendar s in
     let d : Calendar = register e x c in

@@ -23,7 +23,7 @@ use Rattle.sim_types.specs.declared.line.End.TheVariants as end
 use Rattle.sim_types.specs.declared.setup.Resource.{Resource}
 use Rattle.sim_types.specs.declared.setup.ResourceKind.{ResourceKind}
 use Rattle.sim_types.specs.declared.setup.Start.{Start}
-use Rattle.sim_machine.specs.State.{Sort, Every, Either, Calendar, Slot, Give, Take, Facilities, OpenScope, ProcessOf, Control, Idle, Calling, Active, Over, State, Plan}
+use Rattle.sim_machine.specs.State.{AllOrAny, Every, Either, Calendar, Slot, Give, Take, Facilities, OpenScope, ProcessOf, Control, Idle, Calling, Active, Over, State, Plan}
 use Rattle.sim_machine.specs.Events.{is_same, is_process, event_at, is_pending, is_processed, is_resume_of, next_event, register, unregister}
 use Rattle.sim_machine.specs.Agenda.{popped}
 use Rattle.sim_machine.specs.Triggering.{normal, make, trigger, make_timeout, make_interruption}
@@ -135,7 +135,7 @@ module _ {B : Type 0} (n : ℕ) where
       if_cases (IsServing n) (not (is_alive q s)) (raise 4 s) _ (λ ended. served_told (signal.Raised 4) s h)
       (λ lives. if_cases (IsServing n) (is_process q p) (raise 5 s) (told signal.Done (does s)) (λ itself. served_told (signal.Raised 5) s h) (λ other. served_told signal.Done (does s) done))
 
-  served_condition : (sort : Sort) (ms : List EventId) (s : State B) → IsServing n s → IsServing n (with_condition sort ms s)
+  served_condition : (sort : AllOrAny) (ms : List EventId) (s : State B) → IsServing n s → IsServing n (with_condition sort ms s)
   served_condition sort ms s h =
       if_cases (IsServing n) (is_too_wide ms (calendar s)) (raise 10 s) _ (λ wide. served_told (signal.Raised 10) s h)
       (λ narrow. served_told (signal.Made (next_event (calendar s))) (on_events (make_condition sort ms) s) (served_events (make_condition sort ms) s (tries_condition n sort ms (calendar s)) h))

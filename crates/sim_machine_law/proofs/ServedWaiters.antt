@@ -63,7 +63,8 @@ pub record IsServedWell {B : Type 0} (g : Plan B) (tell : Telling B) (sound : B 
   pub calm : Calm s.facilities.calendar f.calendar
   pub others : (v : Waiter) → v.event ≢ w.event → IsOneOf s.facilities.waiters v → IsOneOf f.waiters v
 
-pub served_none : {B : Type 0} (g : Plan B) (tell : Telling B) (sound : B → Type 0) (s : State B) (w : Waiter) → LawfulBasis g tell sound s → IsServedWell g tell sound s w s.facilities
+pub served_none : {B : Type 0} (g : Plan B) (tell : Telling B) (sound : B → Type 0) (s : State B) (w : Waiter)
+    → LawfulBasis g tell sound s → IsServedWell g tell sound s w s.facilities
 served_none g tell sound s w l = record { lawful = l; calm = calm_self s.facilities.calendar s.facilities.calendar refl; others = λ v differ one. one }
 
 -- ---- one is served
@@ -72,7 +73,10 @@ served_none g tell sound s w l = record { lawful = l; calm = calm_self s.facilit
 abbrev pub IsUserOf : {B : Type 0} → State B → Waiter → ℕ → User → Type 0
 IsUserOf s w res u = (u.request ≡ w.event) × (has_scope s.scopes u.request u.process res ≡ true)
 
-pub lawful_served : {B : Type 0} (g : Plan B) (tell : Telling B) (sound : B → Type 0) (s : State B) (w : Waiter) (value : ℤ) (deed : Deed) → LawfulBasis g tell sound s → IsOneOf s.facilities.waiters w → FitsLedger g.setup.resources s.facilities.ledger deed → ((res : ℕ) → All (IsUserOf s w res) (user_by res deed [])) → IsServedWell g tell sound s w (serve w value deed s.facilities)
+pub lawful_served : {B : Type 0} (g : Plan B) (tell : Telling B) (sound : B → Type 0) (s : State B) (w : Waiter) (value : ℤ)
+    (deed : Deed) → LawfulBasis g tell sound s → IsOneOf s.facilities.waiters w
+    → FitsLedger g.setup.resources s.facilities.ledger deed → ((res : ℕ) → All (IsUserOf s w res) (user_by res deed []))
+    → IsServedWell g tell sound s w (serve w value deed s.facilities)
 lawful_served {B} g tell sound s w value deed l one fits new =
     let rs : List Resource = g.setup.resources in
     let c : Calendar = calendar s in
@@ -96,7 +100,9 @@ lawful_served {B} g tell sound s w value deed l one fits new =
       others = λ v differ at. one_filtered test s.facilities.waiters v (ap not (ne_eqb v.event.0 e.0 (λ same. differ (same_event v.event e same)))) at;
     }
   where
-    granted : w.event.0 < length (calendar s).events → (was_made (trigger w.event (outcome.Ok value) (calendar s)) w.event && not (is_pending (trigger w.event (outcome.Ok value) (calendar s)) w.event)) ≡ true
+    granted : w.event.0 < length (calendar s).events
+        → (was_made (trigger w.event (outcome.Ok value) (calendar s)) w.event && not (is_pending (trigger w.event (outcome.Ok value) (calendar s)) w.event))
+        ≡ true
     granted made =
         let c : Calendar = calendar s in
         let d : Calendar = trigger w.event (outcome.Ok value) c in
@@ -117,7 +123,8 @@ calm_interrupted p t c =
     calm_then c a (make_interruption p t c) (calm_made kind.Interrupt c) (calm_then a b (make_interruption p t c) (calm_self a b refl) (calm_then b d (make_interruption p t c) (calm_defused e b) (calm_scheduled e (outcome.Fail t) urgent (pos 0) d)))
 
 module _ {B : Type 0} (g : Plan B) (tell : Telling B) (sound : B → Type 0) where
-  pub lawful_preempted : (s : State B) (w : Waiter) (res : ℕ) (u : User) → LawfulBasis g tell sound s → IsServedWell g tell sound s w (preempt res u s.facilities)
+  pub lawful_preempted : (s : State B) (w : Waiter) (res : ℕ) (u : User) → LawfulBasis g tell sound s
+      → IsServedWell g tell sound s w (preempt res u s.facilities)
   lawful_preempted s w res u l =
       let rs : List Resource = g.setup.resources in
       let deed : Deed = Preempted res u.request in

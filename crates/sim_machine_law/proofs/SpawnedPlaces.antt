@@ -26,11 +26,13 @@ use Rattle.sim_machine_law.proofs.StartedPlaces.{plain_fits, NamedPlain}
 
 -- ---- a process may begin with what fits
 
-negative_number : (f : CodeFacts) (own : ProcId) (places : List Place) (c : Class) (n : ℕ) → argument_fits f own places c (negsuc n) ≡ true → is_class c class.Number ≡ true
+negative_number : (f : CodeFacts) (own : ProcId) (places : List Place) (c : Class) (n : ℕ)
+    → argument_fits f own places c (negsuc n) ≡ true → is_class c class.Number ≡ true
 negative_number f own places class.Number n h = refl
 negative_number f own places _ n h = absurd (false≢true h)
 
-pub spawned_starts : (f : CodeFacts) (own : ProcId) (places : List Place) (cs : List Class) (vs : List ℤ) → arguments_fit f own places cs vs ≡ true → may_start cs vs ≡ true
+pub spawned_starts : (f : CodeFacts) (own : ProcId) (places : List Place) (cs : List Class) (vs : List ℤ)
+    → arguments_fit f own places cs vs ≡ true → may_start cs vs ≡ true
 spawned_starts f own places [] [] h = refl
 spawned_starts f own places (c ∷ cs) (pos n ∷ vs) h = spawned_starts f own places cs vs (and_parts (argument_fits f own places c (pos n)) _ h).1
 spawned_starts f own places (c ∷ cs) (negsuc n ∷ vs) h =
@@ -62,7 +64,9 @@ same_place_fits c x y classes events h =
     ap (λ k. place_fits c (P k x.event)) classes ∙ (ap (λ e. place_fits c (P y.class e)) events ∙ h)
 
 -- what stands in a place of a class fits in another of that class
-place_shared : (c : Calendar) (places : List Place) (k : Class) (e : EventId) (x : Place) → list_all (place_fits c) places ≡ true → is_in_place places k e ≡ true → is_class k x.class ≡ true → x.event ≡ e → place_fits c x ≡ true
+place_shared : (c : Calendar) (places : List Place) (k : Class) (e : EventId) (x : Place)
+    → list_all (place_fits c) places ≡ true → is_in_place places k e ≡ true → is_class k x.class ≡ true → x.event ≡ e
+    → place_fits c x ≡ true
 place_shared c [] k e x fits stands same at = absurd (false≢true stands)
 place_shared c (y ∷ ys) k e x fits stands same at =
     let parts = and_parts (place_fits c y) (list_all (place_fits c) ys) fits in
@@ -80,21 +84,26 @@ process_fits _ k h w = absurd (false≢true h)
 zero_fits : (c : Calendar) (x : Place) (n : ℕ) → x.event.0 ≡ n → (n == 0) ≡ true → place_fits c x ≡ true
 zero_fits c x n same zero = or_left (x.event.0 == 0) _ (ap (λ (m : ℕ). m == 0) same ∙ zero)
 
-named_fits : (f : CodeFacts) (c : Calendar) (x : Place) (n : ℕ) → NamedPlain f.named c → is_class class.Event x.class ≡ true → x.event.0 ≡ n → is_named f (record { 0 = n }) ≡ true → place_fits c x ≡ true
+named_fits : (f : CodeFacts) (c : Calendar) (x : Place) (n : ℕ) → NamedPlain f.named c → is_class class.Event x.class ≡ true
+    → x.event.0 ≡ n → is_named f (record { 0 = n }) ≡ true → place_fits c x ≡ true
 named_fits f c x n h same at named =
     let within = named_within n f.named named in
     let made : was_made c x.event ≡ true = lt-ltb x.event.0 (length c.events) (omega (arith, at, within, h.made)) in
     let plain : is_plain_kind (kind_at c x.event) ≡ true = h.plain x.event.0 (omega (arith, at, within)) in
     or_right (x.event.0 == 0) _ (and_from (was_made c x.event) _ made (plain_fits x.class (kind_at c x.event) same plain))
 
-own_fits : (c : Calendar) (own : ProcId) (x : Place) (n : ℕ) → own.0 < length c.events → is_process_kind (kind_at c (event_of own)) ≡ true → is_class class.Proc x.class ≡ true → x.event.0 ≡ n → (n == own.0) ≡ true → place_fits c x ≡ true
+own_fits : (c : Calendar) (own : ProcId) (x : Place) (n : ℕ) → own.0 < length c.events
+    → is_process_kind (kind_at c (event_of own)) ≡ true → is_class class.Proc x.class ≡ true → x.event.0 ≡ n
+    → (n == own.0) ≡ true → place_fits c x ≡ true
 own_fits c own x n made of same at is =
     let number : n ≡ own.0 = eqb-true n own.0 is in
     let event : x.event ≡ event_of own = same_event x.event (event_of own) (at ∙ number) in
     or_right (x.event.0 == 0) _ (and_from (was_made c x.event) _ (lt-ltb x.event.0 (length c.events) (omega (arith, at, number, made)))
     (process_fits x.class (kind_at c x.event) same (ap (λ e. is_process_kind (kind_at c e)) event ∙ of)))
 
-argument_placed : (f : CodeFacts) (c : Calendar) (own : ProcId) (places : List Place) → MaySpawn f c own places → (k : Class) (n : ℕ) (x : Place) → argument_fits f own places k (pos n) ≡ true → (not (is_class k class.Number) && is_class k x.class && (x.event.0 == n)) ≡ true → place_fits c x ≡ true
+argument_placed : (f : CodeFacts) (c : Calendar) (own : ProcId) (places : List Place) → MaySpawn f c own places
+    → (k : Class) (n : ℕ) (x : Place) → argument_fits f own places k (pos n) ≡ true
+    → (not (is_class k class.Number) && is_class k x.class && (x.event.0 == n)) ≡ true → place_fits c x ≡ true
 argument_placed f c own places h class.Number n x fits holds = absurd (false≢true holds)
 argument_placed f c own places h class.Event n x fits holds =
     let e : EventId = record { 0 = n } in
@@ -114,7 +123,9 @@ argument_placed f c own places h class.Proc n x fits holds =
     (or_cases ((n == 0) || (n == own.0)) (is_in_place places class.Proc e) fits)
 argument_placed f c own places h _ n x fits holds = absurd (false≢true fits)
 
-arguments_placed : (f : CodeFacts) (c : Calendar) (own : ProcId) (places : List Place) → MaySpawn f c own places → (ks : List Class) (vs : List ℤ) (x : Place) → arguments_fit f own places ks vs ≡ true → holds_argument ks vs x ≡ true → place_fits c x ≡ true
+arguments_placed : (f : CodeFacts) (c : Calendar) (own : ProcId) (places : List Place) → MaySpawn f c own places
+    → (ks : List Class) (vs : List ℤ) (x : Place) → arguments_fit f own places ks vs ≡ true → holds_argument ks vs x ≡ true
+    → place_fits c x ≡ true
 arguments_placed f c own places h [] vs x fits held = absurd (false≢true held)
 arguments_placed f c own places h (k ∷ ks) [] x fits held = absurd (false≢true held)
 arguments_placed f c own places h (k ∷ ks) (negsuc n ∷ vs) x fits held =
@@ -125,6 +136,9 @@ arguments_placed f c own places h (k ∷ ks) (pos n ∷ vs) x fits held =
     (or_cases (not (is_class k class.Number) && is_class k x.class && (x.event.0 == n)) (holds_argument ks vs x) held)
 
 -- so do all places of the body that begins then
-pub spawned_placed : {B : Type 0} (f : CodeFacts) (tell : Telling B) (c : Calendar) (own : ProcId) (places : List Place) (k : ℕ) (args : List ℤ) (p : ProcId) (b : B) → MaySpawn f c own places → arguments_fit f own places (slice_index_or f.params k []) args ≡ true → IsLawfulStart f tell k args p b → list_all (place_fits c) (tell.places b) ≡ true
+pub spawned_placed : {B : Type 0} (f : CodeFacts) (tell : Telling B) (c : Calendar) (own : ProcId) (places : List Place)
+    (k : ℕ) (args : List ℤ) (p : ProcId) (b : B) → MaySpawn f c own places
+    → arguments_fit f own places (slice_index_or f.params k []) args ≡ true → IsLawfulStart f tell k args p b
+    → list_all (place_fits c) (tell.places b) ≡ true
 spawned_placed f tell c own places k args p b h fits start =
     places_begun c f tell k args p b (λ x held. arguments_placed f c own places h (slice_index_or f.params k []) args x fits held) start

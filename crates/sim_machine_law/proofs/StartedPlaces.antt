@@ -34,7 +34,9 @@ plain_fits class.Event _ h w = absurd (false≢true w)
 plain_fits _ k h w = absurd (false≢true h)
 
 -- an argument that a process may be given at the start is held by places that it fits
-argument_placed : (named : ℕ) (c : Calendar) → NamedPlain named c → (k : Class) (n : ℕ) (x : Place) → start_argument_fits named k (pos n) ≡ true → (not (is_class k class.Number) && is_class k x.class && (x.event.0 == n)) ≡ true → place_fits c x ≡ true
+argument_placed : (named : ℕ) (c : Calendar) → NamedPlain named c → (k : Class) (n : ℕ) (x : Place)
+    → start_argument_fits named k (pos n) ≡ true
+    → (not (is_class k class.Number) && is_class k x.class && (x.event.0 == n)) ≡ true → place_fits c x ≡ true
 argument_placed named c h class.Number n x fits holds = absurd (false≢true holds)
 argument_placed named c h class.Event n x fits holds =
     let parts : (is_class class.Event x.class ≡ true) × ((x.event.0 == n) ≡ true) = and_parts (is_class class.Event x.class) _ holds in
@@ -45,22 +47,29 @@ argument_placed named c h class.Event n x fits holds =
     or_right (x.event.0 == 0) _ (and_from (was_made c x.event) _ made (plain_fits x.class (kind_at c x.event) parts.0 plain))
 argument_placed named c h _ n x fits holds = absurd (false≢true fits)
 
-arguments_placed : (named : ℕ) (c : Calendar) → NamedPlain named c → (ks : List Class) (vs : List ℤ) (x : Place) → start_arguments_fit named ks vs ≡ true → holds_argument ks vs x ≡ true → place_fits c x ≡ true
+arguments_placed : (named : ℕ) (c : Calendar) → NamedPlain named c → (ks : List Class) (vs : List ℤ) (x : Place)
+    → start_arguments_fit named ks vs ≡ true → holds_argument ks vs x ≡ true → place_fits c x ≡ true
 arguments_placed named c h [] vs x fits holds = absurd (false≢true holds)
 arguments_placed named c h (k ∷ ks) [] x fits holds = absurd (false≢true holds)
 arguments_placed named c h (k ∷ ks) (negsuc n ∷ vs) x fits holds = arguments_placed named c h ks vs x (and_parts (start_argument_fits named k (negsuc n)) _ fits).1 holds
 arguments_placed named c h (k ∷ ks) (pos n ∷ vs) x fits holds = at (and_parts (start_argument_fits named k (pos n)) _ fits) (arguments_placed named c h ks vs x (and_parts (start_argument_fits named k (pos n)) _ fits).1) (or_cases (not (is_class k class.Number) && is_class k x.class && (x.event.0 == n)) _ holds)
   where
-    at : (start_argument_fits named k (pos n) ≡ true) × (start_arguments_fit named ks vs ≡ true) → (holds_argument ks vs x ≡ true → place_fits c x ≡ true) → ((not (is_class k class.Number) && is_class k x.class && (x.event.0 == n)) ≡ true) ⊎ (holds_argument ks vs x ≡ true) → place_fits c x ≡ true
+    at : (start_argument_fits named k (pos n) ≡ true) × (start_arguments_fit named ks vs ≡ true)
+        → (holds_argument ks vs x ≡ true → place_fits c x ≡ true)
+        → ((not (is_class k class.Number) && is_class k x.class && (x.event.0 == n)) ≡ true)
+        ⊎ (holds_argument ks vs x ≡ true) → place_fits c x ≡ true
     at parts later (inl here) = argument_placed named c h k n x parts.0 here
     at parts later (inr there) = later there
 
 -- the places that hold what a process is given at the start fit
-pub start_places : (f : CodeFacts) (c : Calendar) → NamedPlain f.named c → (x : Start) → IsTrue (start_fits f x) → (y : Place) → holds_argument (slice_index_or f.params x.kind []) x.args y ≡ true → place_fits c y ≡ true
+pub start_places : (f : CodeFacts) (c : Calendar) → NamedPlain f.named c → (x : Start) → IsTrue (start_fits f x)
+    → (y : Place) → holds_argument (slice_index_or f.params x.kind []) x.args y ≡ true → place_fits c y ≡ true
 start_places f c h x fits y holds = arguments_placed f.named c h (slice_index_or f.params x.kind []) x.args y (and_parts (nat_lt x.kind (length f.params)) _ fits).1 holds
 
 -- and so do all places of the body that begins then
-pub start_placed : {B : Type 0} (f : CodeFacts) (tell : Telling B) (c : Calendar) (x : Start) (p : ProcId) (b : B) → NamedPlain f.named c → IsTrue (start_fits f x) → IsLawfulStart f tell x.kind x.args p b → IsTrue (list_all (place_fits c) (tell.places b))
+pub start_placed : {B : Type 0} (f : CodeFacts) (tell : Telling B) (c : Calendar) (x : Start) (p : ProcId) (b : B)
+    → NamedPlain f.named c → IsTrue (start_fits f x) → IsLawfulStart f tell x.kind x.args p b
+    → IsTrue (list_all (place_fits c) (tell.places b))
 start_placed f tell c x p b h fits start = places_begun c f tell x.kind x.args p b (start_places f c h x fits) start
 
 -- ---- an arrival
@@ -73,9 +82,11 @@ one_number_held (_ ∷ []) value x h = absurd (false≢true h)
 one_number_held (k ∷ l ∷ ks) value x h = absurd (false≢true h)
 
 -- no place holds the value that comes in by a port
-pub port_holds_none : (f : CodeFacts) (k : ℕ) (value : ℤ) (x : Place) → IsTrue (port_fits f k) → holds_argument (slice_index_or f.params k []) (value ∷ []) x ≡ false
+pub port_holds_none : (f : CodeFacts) (k : ℕ) (value : ℤ) (x : Place) → IsTrue (port_fits f k)
+    → holds_argument (slice_index_or f.params k []) (value ∷ []) x ≡ false
 port_holds_none f k value x h = one_number_held (slice_index_or f.params k []) value x (and_parts (nat_lt k (length f.params)) _ h).1
 
 -- so the places of the body that begins with it hold event 0, which fits
-pub port_placed : {B : Type 0} (f : CodeFacts) (tell : Telling B) (c : Calendar) (k : ℕ) (value : ℤ) (p : ProcId) (b : B) → IsTrue (port_fits f k) → IsLawfulStart f tell k (value ∷ []) p b → IsTrue (list_all (place_fits c) (tell.places b))
+pub port_placed : {B : Type 0} (f : CodeFacts) (tell : Telling B) (c : Calendar) (k : ℕ) (value : ℤ) (p : ProcId) (b : B)
+    → IsTrue (port_fits f k) → IsLawfulStart f tell k (value ∷ []) p b → IsTrue (list_all (place_fits c) (tell.places b))
 port_placed f tell c k value p b fits start = places_begun c f tell k (value ∷ []) p b (λ x holds. absurd (false≢true (sym (port_holds_none f k value x fits) ∙ holds))) start

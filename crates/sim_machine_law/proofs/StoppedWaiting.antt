@@ -20,7 +20,9 @@ use Rattle.sim_machine_law.proofs.TakenOut.{bears, callbacks-counted, count-take
 
 -- ---- a live process is found
 
-found_or_later : {X : Type 0} (test : X → Bool) (x : X) (xs : List X) (v : Bool) → (v ≡ true → (y : X) × (find test (x ∷ xs) ≡ Some y)) → (v ≡ false → (y : X) × (find test (x ∷ xs) ≡ Some y)) → (y : X) × (find test (x ∷ xs) ≡ Some y)
+found_or_later : {X : Type 0} (test : X → Bool) (x : X) (xs : List X) (v : Bool)
+    → (v ≡ true → (y : X) × (find test (x ∷ xs) ≡ Some y)) → (v ≡ false → (y : X) × (find test (x ∷ xs) ≡ Some y))
+    → (y : X) × (find test (x ∷ xs) ≡ Some y)
 found_or_later test x xs true here there = here refl
 found_or_later test x xs false here there = there refl
 
@@ -43,7 +45,9 @@ pub record Resumed (c : Calendar) (k : Control) (p : ProcId) (target : EventId) 
   pub in_all : callbacks_in_all (is_resume_of p) c k ≡ 1
   pub at : count_by (is_resume_of p) (all_callbacks_of c k target) ≡ 1
 
-pub resumed_at : {B : Type 0} (named : ℕ) (s : State B) (p : ProcId) (y : ProcessOf B) → process_at p s ≡ Some y → is_active s.control p ≡ false → LawfulProcesses named s → Resumed (calendar s) s.control p (target_of p (process_at p s))
+pub resumed_at : {B : Type 0} (named : ℕ) (s : State B) (p : ProcId) (y : ProcessOf B) → process_at p s ≡ Some y
+    → is_active s.control p ≡ false → LawfulProcesses named s
+    → Resumed (calendar s) s.control p (target_of p (process_at p s))
 resumed_at {B} named s p y found rests h =
     let same : y.id ≡ p = is_process-yes y.id p (find_passes (λ z. is_process z.id p) s.processes y found) in
     let waits : is_waiting_well s y ≡ true = find_has (λ z. is_waiting_well s z ≡ true) (λ z. is_process z.id p) s.processes y found h.waiting in
@@ -53,7 +57,9 @@ resumed_at {B} named s p y found rests h =
     subst (λ (o : Option (ProcessOf B)). P p (target_of p o)) (sym found) (subst (λ (q : ProcId). P q y.target) same here)
 
 -- where the callbacks still to call do not resume it, nothing does
-pub none-unregister : (c : Calendar) (k : Control) (p : ProcId) (target : EventId) → Resumed c k p target → count_by (is_resume_of p) (left_of k) ≡ 0 → callbacks_in_all (is_resume_of p) (unregister target (is_resume_of p) c) k ≡ 0
+pub none-unregister : (c : Calendar) (k : Control) (p : ProcId) (target : EventId) → Resumed c k p target
+    → count_by (is_resume_of p) (left_of k) ≡ 0
+    → callbacks_in_all (is_resume_of p) (unregister target (is_resume_of p) c) k ≡ 0
 none-unregister c k p target h none =
     let called : List Callback = if is_event_of k target then left_of k else [] in
     let u : Registration → Bool = bears target (is_resume_of p) in
@@ -63,8 +69,11 @@ none-unregister c k p target h none =
     omega (arith, h.in_all, none, count-taken (λ r. is_resume_of p r.callback) u passes c.registered some)
 
 -- and all others are resumed as before
-pub others-unregister : (c : Calendar) (k : Control) (p q : ProcId) (target : EventId) → is_process p q ≡ false → callbacks_in_all (is_resume_of q) (unregister target (is_resume_of p) c) k ≡ callbacks_in_all (is_resume_of q) c k
+pub others-unregister : (c : Calendar) (k : Control) (p q : ProcId) (target : EventId) → is_process p q ≡ false
+    → callbacks_in_all (is_resume_of q) (unregister target (is_resume_of p) c) k ≡ callbacks_in_all (is_resume_of q) c k
 others-unregister c k p q target apart = in_all-unregister (is_resume_of q) (is_resume_of p) target c k (λ x w. resumes_other p q x apart w)
 
-pub others_at-unregister : (c : Calendar) (k : Control) (p q : ProcId) (target f : EventId) → is_process p q ≡ false → count_by (is_resume_of q) (all_callbacks_of (unregister target (is_resume_of p) c) k f) ≡ count_by (is_resume_of q) (all_callbacks_of c k f)
+pub others_at-unregister : (c : Calendar) (k : Control) (p q : ProcId) (target f : EventId) → is_process p q ≡ false
+    → count_by (is_resume_of q) (all_callbacks_of (unregister target (is_resume_of p) c) k f) ≡ count_by (is_resume_of q)
+    (all_callbacks_of c k f)
 others_at-unregister c k p q target f apart = at-unregister (is_resume_of q) (is_resume_of p) target f c k (λ x w. resumes_other p q x apart w)

@@ -31,27 +31,34 @@ without_resume e left p x q = Active e (without_first (is_resume_of q) left) p x
 
 -- ---- counts
 
-called_apart : (t u : Callback → Bool) → ((y : Callback) → u y ≡ true → t y ≡ false) → (b : Bool) (left : List Callback) → count_by t (if b then without_first u left else []) ≡ count_by t (if b then left else [])
+called_apart : (t u : Callback → Bool) → ((y : Callback) → u y ≡ true → t y ≡ false) → (b : Bool) (left : List Callback)
+    → count_by t (if b then without_first u left else []) ≡ count_by t (if b then left else [])
 called_apart t u apart true left = count-apart t u apart left
 called_apart t u apart false left = refl
 
-called_less : (t u : Callback → Bool) (b : Bool) (left : List Callback) → count_by t (if b then without_first u left else []) ≤ count_by t (if b then left else [])
+called_less : (t u : Callback → Bool) (b : Bool) (left : List Callback)
+    → count_by t (if b then without_first u left else []) ≤ count_by t (if b then left else [])
 called_less t u true left = count-less t u left
 called_less t u false left = omega arith
 
-at-stripped : (t : Callback → Bool) (c : Calendar) (e f : EventId) (left : List Callback) (p q : ProcId) (x : Signal) → ((y : Callback) → is_resume_of q y ≡ true → t y ≡ false) → count_by t (all_callbacks_of c (without_resume e left p x q) f) ≡ count_by t (all_callbacks_of c (Active e left p x) f)
+at-stripped : (t : Callback → Bool) (c : Calendar) (e f : EventId) (left : List Callback) (p q : ProcId) (x : Signal)
+    → ((y : Callback) → is_resume_of q y ≡ true → t y ≡ false)
+    → count_by t (all_callbacks_of c (without_resume e left p x q) f) ≡ count_by t (all_callbacks_of c (Active e left p x) f)
 at-stripped t c e f left p q x apart =
     let after : List Callback = if is_same e f then without_first (is_resume_of q) left else [] in
     let before : List Callback = if is_same e f then left else [] in
     omega (arith, count_by-append t (callbacks_of f c) after, count_by-append t (callbacks_of f c) before, called_apart t (is_resume_of q) apart (is_same e f) left)
 
-at-stripped_less : (t : Callback → Bool) (c : Calendar) (e f : EventId) (left : List Callback) (p q : ProcId) (x : Signal) → count_by t (all_callbacks_of c (without_resume e left p x q) f) ≤ count_by t (all_callbacks_of c (Active e left p x) f)
+at-stripped_less : (t : Callback → Bool) (c : Calendar) (e f : EventId) (left : List Callback) (p q : ProcId) (x : Signal)
+    → count_by t (all_callbacks_of c (without_resume e left p x q) f) ≤ count_by t (all_callbacks_of c (Active e left p x) f)
 at-stripped_less t c e f left p q x =
     let after : List Callback = if is_same e f then without_first (is_resume_of q) left else [] in
     let before : List Callback = if is_same e f then left else [] in
     omega (arith, count_by-append t (callbacks_of f c) after, count_by-append t (callbacks_of f c) before, called_less t (is_resume_of q) (is_same e f) left)
 
-in_all-stripped : (t : Callback → Bool) (c : Calendar) (e : EventId) (left : List Callback) (p q : ProcId) (x : Signal) → ((y : Callback) → is_resume_of q y ≡ true → t y ≡ false) → callbacks_in_all t c (without_resume e left p x q) ≡ callbacks_in_all t c (Active e left p x)
+in_all-stripped : (t : Callback → Bool) (c : Calendar) (e : EventId) (left : List Callback) (p q : ProcId) (x : Signal)
+    → ((y : Callback) → is_resume_of q y ≡ true → t y ≡ false)
+    → callbacks_in_all t c (without_resume e left p x q) ≡ callbacks_in_all t c (Active e left p x)
 in_all-stripped t c e left p q x apart = omega (arith, count-apart t (is_resume_of q) apart left)
 
 -- ---- who is resumed
@@ -60,7 +67,9 @@ abbrev pub without_waiting : EventId → ProcId → Calendar → Calendar
 without_waiting target q c = unregister target (is_resume_of q) c
 
 -- nothing resumes the one that waits no longer
-pub none-dropped : (c : Calendar) (e : EventId) (left : List Callback) (p q : ProcId) (x : Signal) (target : EventId) → Resumed c (Active e left p x) q target → callbacks_in_all (is_resume_of q) (without_waiting target q c) (without_resume e left p x q) ≡ 0
+pub none-dropped : (c : Calendar) (e : EventId) (left : List Callback) (p q : ProcId) (x : Signal) (target : EventId)
+    → Resumed c (Active e left p x) q target
+    → callbacks_in_all (is_resume_of q) (without_waiting target q c) (without_resume e left p x q) ≡ 0
 none-dropped c e left p q x target h =
     let r : Callback → Bool = is_resume_of q in
     let u : Registration → Bool = bears target r in
@@ -80,26 +89,36 @@ none-dropped c e left p q x target h =
     called_none false none = refl
 
 -- and all others are resumed as before
-pub others-dropped : (c : Calendar) (e : EventId) (left : List Callback) (p q r : ProcId) (x : Signal) (target : EventId) → is_process q r ≡ false → callbacks_in_all (is_resume_of r) (without_waiting target q c) (without_resume e left p x q) ≡ callbacks_in_all (is_resume_of r) c (Active e left p x)
+pub others-dropped : (c : Calendar) (e : EventId) (left : List Callback) (p q r : ProcId) (x : Signal) (target : EventId)
+    → is_process q r ≡ false
+    → callbacks_in_all (is_resume_of r) (without_waiting target q c) (without_resume e left p x q)
+    ≡ callbacks_in_all (is_resume_of r) c (Active e left p x)
 others-dropped c e left p q r x target apart =
     in_all-stripped (is_resume_of r) (without_waiting target q c) e left p q x (λ y w. resumes_other q r y apart w) ∙ others-unregister c (Active e left p x) q r target apart
 
-pub others_at-dropped : (c : Calendar) (e : EventId) (left : List Callback) (p q r : ProcId) (x : Signal) (target f : EventId) → is_process q r ≡ false → count_by (is_resume_of r) (all_callbacks_of (without_waiting target q c) (without_resume e left p x q) f) ≡ count_by (is_resume_of r) (all_callbacks_of c (Active e left p x) f)
+pub others_at-dropped : (c : Calendar) (e : EventId) (left : List Callback) (p q r : ProcId) (x : Signal)
+    (target f : EventId) → is_process q r ≡ false
+    → count_by (is_resume_of r) (all_callbacks_of (without_waiting target q c) (without_resume e left p x q) f)
+    ≡ count_by (is_resume_of r) (all_callbacks_of c (Active e left p x) f)
 others_at-dropped c e left p q r x target f apart =
     at-stripped (is_resume_of r) (without_waiting target q c) e f left p q x (λ y w. resumes_other q r y apart w) ∙ others_at-unregister c (Active e left p x) q r target f apart
 
 -- ---- what is lawful stays so
 
-pub registrations_dropped : (c : Calendar) (e : EventId) (left : List Callback) (p q : ProcId) (x : Signal) (target : EventId) → LawfulRegistrations c (Active e left p x) → LawfulRegistrations (without_waiting target q c) (without_resume e left p x q)
+pub registrations_dropped : (c : Calendar) (e : EventId) (left : List Callback) (p q : ProcId) (x : Signal)
+    (target : EventId) → LawfulRegistrations c (Active e left p x)
+    → LawfulRegistrations (without_waiting target q c) (without_resume e left p x q)
 registrations_dropped c e left p q x target h =
     registrations_control (without_waiting target q c) (Active e left p x) (without_resume e left p x q) (λ f w. w) (registrations_taken target (is_resume_of q) c (Active e left p x) h)
 
-pub chains_dropped : (c : Calendar) (e : EventId) (left : List Callback) (p q : ProcId) (x : Signal) (target : EventId) → LawfulChains c (Active e left p x) → LawfulChains (without_waiting target q c) (without_resume e left p x q)
+pub chains_dropped : (c : Calendar) (e : EventId) (left : List Callback) (p q : ProcId) (x : Signal) (target : EventId)
+    → LawfulChains c (Active e left p x) → LawfulChains (without_waiting target q c) (without_resume e left p x q)
 chains_dropped c e left p q x target h =
     let d : Calendar = without_waiting target q c in
     chains_control d (Active e left p x) (without_resume e left p x q) (λ f w. w) (λ f w. All-without_first (λ y. chains_well d f y ≡ true) (is_resume_of q) left w) (chains_taken target (is_resume_of q) c (Active e left p x) h)
 
-pub strikes_dropped : (c : Calendar) (e : EventId) (left : List Callback) (p q : ProcId) (x : Signal) (target : EventId) → StrikesAlone c (Active e left p x) → StrikesAlone (without_waiting target q c) (without_resume e left p x q)
+pub strikes_dropped : (c : Calendar) (e : EventId) (left : List Callback) (p q : ProcId) (x : Signal) (target : EventId)
+    → StrikesAlone c (Active e left p x) → StrikesAlone (without_waiting target q c) (without_resume e left p x q)
 strikes_dropped c e left p q x target h =
     let d : Calendar = without_waiting target q c in
     let k : Control = Active e left p x in
@@ -114,18 +133,21 @@ strikes_dropped c e left p q x target h =
           alone_from d l f before.0 (omega (arith, counted, before.1, count_by-le-length is_strike calls, length_counts calls, length_counts (all_callbacks_of d k f), at-stripped_less every d e f left p q x));
     }
 
-any_apart : (t u : Callback → Bool) → ((y : Callback) → u y ≡ true → t y ≡ false) → (xs : List Callback) → list_any t xs ≡ true → list_any t (without_first u xs) ≡ true
+any_apart : (t u : Callback → Bool) → ((y : Callback) → u y ≡ true → t y ≡ false) → (xs : List Callback)
+    → list_any t xs ≡ true → list_any t (without_first u xs) ≡ true
 any_apart t u apart [] h = h
 any_apart t u apart (y ∷ ys) h =
     let rest : List Callback = without_first u ys in
     cond_both (u y) ys (y ∷ rest) (λ zs. list_any t zs ≡ true) (λ a. ⊎_elim (λ b. absurd (both_ways (t y) (apart y a) b)) (λ b. b) (or_cases (t y) (list_any t ys) h))
     (λ a. ⊎_elim (λ b. or_left (t y) (list_any t rest) b) (λ b. or_right (t y) (list_any t rest) (any_apart t u apart ys b)) (or_cases (t y) (list_any t ys) h))
 
-first_apart : (t u : Callback → Bool) → ((y : Callback) → u y ≡ true → t y ≡ false) → (xs : List Callback) → first_passes t xs ≡ true → first_passes t (without_first u xs) ≡ true
+first_apart : (t u : Callback → Bool) → ((y : Callback) → u y ≡ true → t y ≡ false) → (xs : List Callback)
+    → first_passes t xs ≡ true → first_passes t (without_first u xs) ≡ true
 first_apart t u apart [] h = h
 first_apart t u apart (y ∷ ys) h = cond_both (u y) ys (y ∷ without_first u ys) (λ zs. first_passes t zs ≡ true) (λ a. absurd (both_ways (t y) (apart y a) h)) (λ a. h)
 
-building_apart : (t u : Callback → Bool) → ((y : Callback) → u y ≡ true → t y ≡ false) → (b : Bool) (xs : List Callback) → (b && list_any t xs) ≡ true → (b && list_any t (without_first u xs)) ≡ true
+building_apart : (t u : Callback → Bool) → ((y : Callback) → u y ≡ true → t y ≡ false) → (b : Bool) (xs : List Callback)
+    → (b && list_any t xs) ≡ true → (b && list_any t (without_first u xs)) ≡ true
 building_apart t u apart true xs h = any_apart t u apart xs h
 building_apart t u apart false xs h = h
 
@@ -138,7 +160,8 @@ weaker_last false false b a d keeps h = absurd (false≢true h)
 first_of_calls : (m n : ℕ) (b a d : Bool) → m ≡ n → (a ≡ true → d ≡ true) → ((n == 0) || (n == 1) && b && a) ≡ true → ((m == 0) || (m == 1) && b && d) ≡ true
 first_of_calls m n b a d same keeps h = rw same (weaker_last (n == 0) (n == 1) b a d keeps h)
 
-pub conditions_dropped : (c : Calendar) (e : EventId) (left : List Callback) (p q : ProcId) (x : Signal) (target : EventId) → ConditionsBasis c (Active e left p x) → ConditionsBasis (without_waiting target q c) (without_resume e left p x q)
+pub conditions_dropped : (c : Calendar) (e : EventId) (left : List Callback) (p q : ProcId) (x : Signal) (target : EventId)
+    → ConditionsBasis c (Active e left p x) → ConditionsBasis (without_waiting target q c) (without_resume e left p x q)
 conditions_dropped c e left p q x target h =
     let d : Calendar = without_waiting target q c in
     let u : Callback → Bool = is_resume_of q in

@@ -63,7 +63,8 @@ pub record MayTake {B : Type 0} (s : State B) (d : Calendar) : Type 0 where
 
 -- ---- the members of events
 
-heard_of : (c : Calendar) (o : Option ConditionOf) (x : EventOf) → has_heard_members c (record x { condition = o }) ≡ list_all (hears c) (condition_of o).members
+heard_of : (c : Calendar) (o : Option ConditionOf) (x : EventOf)
+    → has_heard_members c (record x { condition = o }) ≡ list_all (hears c) (condition_of o).members
 heard_of c None x = refl
 heard_of c (Some y) x = refl
 
@@ -71,7 +72,8 @@ pub heard_members : (c : Calendar) (x : EventOf) → has_heard_members c x ≡ l
 heard_members c x = heard_of c x.condition x
 
 -- a calendar that may replace the state's may take its place
-pub take_replaced : {B : Type 0} (g : Plan B) (tell : Telling B) (sound : B → Type 0) (s : State B) (d : Calendar) → LawfulBasis g tell sound s → MayReplace s d → MayTake s d
+pub take_replaced : {B : Type 0} (g : Plan B) (tell : Telling B) (sound : B → Type 0) (s : State B) (d : Calendar)
+    → LawfulBasis g tell sound s → MayReplace s d → MayTake s d
 take_replaced g tell sound s d l k =
     let c : Calendar = calendar s in
     record {
@@ -90,7 +92,8 @@ take_replaced g tell sound s d l k =
 
 -- ---- the state with that calendar
 
-interruptions_taken : {B : Type 0} (g : Plan B) (tell : Telling B) (sound : B → Type 0) (s : State B) (d : Calendar) → LawfulBasis g tell sound s → MayTake s d → LawfulInterruptions (on_events (λ c. d) s)
+interruptions_taken : {B : Type 0} (g : Plan B) (tell : Telling B) (sound : B → Type 0) (s : State B) (d : Calendar)
+    → LawfulBasis g tell sound s → MayTake s d → LawfulInterruptions (on_events (λ c. d) s)
 interruptions_taken g tell sound s d l k =
     let c : Calendar = calendar s in
     let made : AllMade s = all_made g tell sound s l in
@@ -103,7 +106,12 @@ interruptions_taken g tell sound s d l k =
     }
 
 -- the process goes on and is told n, and the calendar is changed so
-pub lawful_taken_told : {B : Type 0} (g : Plan B) (tell : Telling B) (sound : B → Type 0) (s : State B) (f : CodeFacts) (e : EventId) (left : List Callback) (p : ProcId) (x : Signal) (y : ProcessOf B) (b : B) (o : Op) (n : Signal) (change : Calendar → Calendar) → HasAsked g tell sound s f e left p x y b o → MayTake s (change (calendar s)) → ConditionsBasis (change (calendar s)) s.control → is_enter (tell.last b) ≡ false → told_fits tell (change (calendar s)) b n ≡ true → LawfulBasis g tell sound (told n (on_events change (with_body p b s)))
+pub lawful_taken_told : {B : Type 0} (g : Plan B) (tell : Telling B) (sound : B → Type 0) (s : State B) (f : CodeFacts)
+    (e : EventId) (left : List Callback) (p : ProcId) (x : Signal) (y : ProcessOf B) (b : B) (o : Op) (n : Signal)
+    (change : Calendar → Calendar) → HasAsked g tell sound s f e left p x y b o → MayTake s (change (calendar s))
+    → ConditionsBasis (change (calendar s)) s.control → is_enter (tell.last b) ≡ false
+    → told_fits tell (change (calendar s)) b n ≡ true
+    → LawfulBasis g tell sound (told n (on_events change (with_body p b s)))
 lawful_taken_told {B} g tell sound s f e left p x y b o n change h k conditions not_enters fits =
     let d : Calendar = change (calendar s) in
     let r : State B = with_body p b s in
@@ -122,7 +130,11 @@ lawful_taken_told {B} g tell sound s f e left p x y b o n change h k conditions 
     }
 
 -- a callback of e was called that resumes nobody, and the calendar is changed so
-pub lawful_taken_called : {B : Type 0} (g : Plan B) (tell : Telling B) (sound : B → Type 0) (s : State B) (e : EventId) (x : Callback) (left : List Callback) (change : Calendar → Calendar) → s.control ≡ Calling e (x ∷ left) → ((p : ProcId) → is_resume_of p x ≡ false) → LawfulBasis g tell sound s → MayTake s (change (calendar s)) → ConditionsBasis (change (calendar s)) (Calling e left) → LawfulBasis g tell sound (control_to (Calling e left) (on_events change s))
+pub lawful_taken_called : {B : Type 0} (g : Plan B) (tell : Telling B) (sound : B → Type 0) (s : State B) (e : EventId)
+    (x : Callback) (left : List Callback) (change : Calendar → Calendar) → s.control ≡ Calling e (x ∷ left)
+    → ((p : ProcId) → is_resume_of p x ≡ false) → LawfulBasis g tell sound s → MayTake s (change (calendar s))
+    → ConditionsBasis (change (calendar s)) (Calling e left)
+    → LawfulBasis g tell sound (control_to (Calling e left) (on_events change s))
 lawful_taken_called {B} g tell sound s e x left change calling others l k conditions =
     let d : Calendar = change (calendar s) in
     let t : State B = on_events change s in

@@ -57,14 +57,17 @@ pub record IsQuiet (change : EventOf → EventOf) : Type 0 where
 failed_same : (change : EventOf → EventOf) → IsQuiet change → (x : EventOf) → is_failed_interruption (change x) ≡ is_failed_interruption x
 failed_same change q x = ap (λ (k : EventKind). not (is_interrupt_kind k) || is_fail (change x).outcome) (q.kind x) ∙ ap (λ (o : Option Outcome). not (is_interrupt_kind x.kind) || is_fail o) (q.outcome x)
 
-triggered_same : (change : EventOf → EventOf) → IsQuiet change → (x : EventOf) → (not (is_none (change x).outcome) && not (change x).processed) ≡ (not (is_none x.outcome) && not x.processed)
+triggered_same : (change : EventOf → EventOf) → IsQuiet change → (x : EventOf)
+    → (not (is_none (change x).outcome) && not (change x).processed) ≡ (not (is_none x.outcome) && not x.processed)
 triggered_same change q x = ap (λ (o : Option Outcome). not (is_none o) && not (change x).processed) (q.outcome x) ∙ ap (λ (p : Bool). not (is_none x.outcome) && not p) (q.processed x)
 
 quiet_calm : (e : EventId) (change : EventOf → EventOf) (d : Calendar) → IsQuiet change → Calm d (change_event e change d)
 quiet_calm e change d q = calm_changed e change d q.kind q.processed (λ x h. ap (λ (o : Option Outcome). not (is_none o)) (q.outcome x) ∙ h)
 
 -- all members may be waited for afterwards
-pub take_changed : {B : Type 0} (s : State B) (e : EventId) (change : EventOf → EventOf) (d : Calendar) → IsQuiet change → ((f : EventId) → list_all (hears d) (members_of (change_event e change d) f) ≡ true) → MayTake s d → MayTake s (change_event e change d)
+pub take_changed : {B : Type 0} (s : State B) (e : EventId) (change : EventOf → EventOf) (d : Calendar) → IsQuiet change
+    → ((f : EventId) → list_all (hears d) (members_of (change_event e change d) f) ≡ true) → MayTake s d
+    → MayTake s (change_event e change d)
 take_changed s e change d q heard h =
     let c : Calendar = s.facilities.calendar in
     let n : Calendar = change_event e change d in
@@ -96,14 +99,16 @@ condition_is_quiet : (change : ConditionOf → ConditionOf) → IsQuiet (λ x. r
 condition_is_quiet change = record { kind = λ x. refl; outcome = λ x. refl; processed = λ x. refl; cancelled = λ x. refl }
 
 -- a condition is changed, and not its members
-pub take_condition : {B : Type 0} (s : State B) (e : EventId) (change : ConditionOf → ConditionOf) (d : Calendar) → ((x : ConditionOf) → (change x).members ≡ x.members) → MayTake s d → MayTake s (change_condition e change d)
+pub take_condition : {B : Type 0} (s : State B) (e : EventId) (change : ConditionOf → ConditionOf) (d : Calendar)
+    → ((x : ConditionOf) → (change x).members ≡ x.members) → MayTake s d → MayTake s (change_condition e change d)
 take_condition s e change d members h =
     let changed : EventOf → EventOf = λ x. record x { condition = Some (change (condition_of x.condition)) } in
     take_changed s e changed d (condition_is_quiet change) (λ f. ap (list_all (hears d)) (change_event-keeps (λ x. (condition_of x.condition).members) e f changed d (λ x. members (condition_of x.condition))) ∙ h.heard f) h
 
 -- ---- a condition that is pending is triggered
 
-pub take_triggered : {B : Type 0} (s : State B) (e : EventId) (x : Outcome) (d : Calendar) → e.0 < length d.events → e.0 ≢ 0 → is_condition_kind (kind_at d e) ≡ true → is_pending d e ≡ true → MayTake s d → MayTake s (trigger e x d)
+pub take_triggered : {B : Type 0} (s : State B) (e : EventId) (x : Outcome) (d : Calendar) → e.0 < length d.events → e.0 ≢ 0
+    → is_condition_kind (kind_at d e) ≡ true → is_pending d e ≡ true → MayTake s d → MayTake s (trigger e x d)
 take_triggered s e x d made nonzero kinds pending h =
     let c : Calendar = s.facilities.calendar in
     let n : Calendar = trigger e x d in
@@ -129,10 +134,13 @@ take_triggered s e x d made nonzero kinds pending h =
 
 -- ---- a callback is registered that resumes nobody and strikes nobody, at an event that is no interruption
 
-resumes_joined : {B : Type 0} (s : State B) (d n : Calendar) → KeepsResumes s.facilities.calendar s.control d s.control → KeepsResumes d s.control n s.control → KeepsResumes s.facilities.calendar s.control n s.control
+resumes_joined : {B : Type 0} (s : State B) (d n : Calendar) → KeepsResumes s.facilities.calendar s.control d s.control
+    → KeepsResumes d s.control n s.control → KeepsResumes s.facilities.calendar s.control n s.control
 resumes_joined s d n h w = record { active = λ p. w.active p ∙ h.active p; in_all = λ p. w.in_all p ∙ h.in_all p; at = λ p e. w.at p e ∙ h.at p e }
 
-pub take_registered : {B : Type 0} (s : State B) (e : EventId) (x : Callback) (d : Calendar) → e.0 < length d.events → is_processed d e ≡ false → is_interrupt_kind (kind_at d e) ≡ false → ((p : ProcId) → is_resume_of p x ≡ false) → is_strike x ≡ false → chains_well d e x ≡ true → MayTake s d → MayTake s (register e x d)
+pub take_registered : {B : Type 0} (s : State B) (e : EventId) (x : Callback) (d : Calendar) → e.0 < length d.events
+    → is_processed d e ≡ false → is_interrupt_kind (kind_at d e) ≡ false → ((p : ProcId) → is_resume_of p x ≡ false)
+    → is_strike x ≡ false → chains_well d e x ≡ true → MayTake s d → MayTake s (register e x d)
 take_registered s e x d made unprocessed kinds resumes strikes well h =
     let c : Calendar = s.facilities.calendar in
     let n : Calendar = register e x d in

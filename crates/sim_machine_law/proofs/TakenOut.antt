@@ -37,7 +37,8 @@ count-apart t u apart (x ∷ xs) =
     (λ a. omega (arith, count_by-cons t x xs, count_by-cons t x rest, count-apart t u apart xs))
 
 -- what is taken out counts, and there is one
-pub count-taken : {X : Type 0} (t u : X → Bool) → ((x : X) → u x ≡ true → t x ≡ true) → (xs : List X) → 0 < count_by u xs → count_by t xs ≡ 1 + count_by t (without_first u xs)
+pub count-taken : {X : Type 0} (t u : X → Bool) → ((x : X) → u x ≡ true → t x ≡ true) → (xs : List X) → 0 < count_by u xs
+    → count_by t xs ≡ 1 + count_by t (without_first u xs)
 count-taken t u counts [] some = absurd (omega (arith, some))
 count-taken t u counts (x ∷ xs) some =
     let rest = without_first u xs in
@@ -77,7 +78,9 @@ abbrev called_by : Control → EventId → List Callback
 called_by k f = if is_event_of k f then left_of k else []
 
 -- what counts no callback that passes the test counts as before
-pub at-unregister : (t test : Callback → Bool) (e f : EventId) (c : Calendar) (k : Control) → ((x : Callback) → test x ≡ true → t x ≡ false) → count_by t (all_callbacks_of (unregister e test c) k f) ≡ count_by t (all_callbacks_of c k f)
+pub at-unregister : (t test : Callback → Bool) (e f : EventId) (c : Calendar) (k : Control)
+    → ((x : Callback) → test x ≡ true → t x ≡ false)
+    → count_by t (all_callbacks_of (unregister e test c) k f) ≡ count_by t (all_callbacks_of c k f)
 at-unregister t test e f c k apart =
     let d : Calendar = unregister e test c in
     let none : (r : Registration) → bears e test r ≡ true → bears f t r ≡ false = λ r w. both_false (is_same r.event f) (t r.callback) (apart r.callback (and_parts (is_same r.event e) (test r.callback) w).1) in
@@ -87,18 +90,22 @@ at-unregister t test e f c k apart =
     both_false true b h = h
     both_false false b h = refl
 
-pub in_all-unregister : (t test : Callback → Bool) (e : EventId) (c : Calendar) (k : Control) → ((x : Callback) → test x ≡ true → t x ≡ false) → callbacks_in_all t (unregister e test c) k ≡ callbacks_in_all t c k
+pub in_all-unregister : (t test : Callback → Bool) (e : EventId) (c : Calendar) (k : Control)
+    → ((x : Callback) → test x ≡ true → t x ≡ false) → callbacks_in_all t (unregister e test c) k ≡ callbacks_in_all t c k
 in_all-unregister t test e c k apart =
     let none : (r : Registration) → bears e test r ≡ true → t r.callback ≡ false = λ r w. apart r.callback (and_parts (is_same r.event e) (test r.callback) w).1 in
     omega (arith, count-apart (λ r. t r.callback) (bears e test) none c.registered)
 
-pub at-unregister_less : (t test : Callback → Bool) (e f : EventId) (c : Calendar) (k : Control) → count_by t (all_callbacks_of (unregister e test c) k f) ≤ count_by t (all_callbacks_of c k f)
+pub at-unregister_less : (t test : Callback → Bool) (e f : EventId) (c : Calendar) (k : Control)
+    → count_by t (all_callbacks_of (unregister e test c) k f) ≤ count_by t (all_callbacks_of c k f)
 at-unregister_less t test e f c k =
     let d : Calendar = unregister e test c in
     omega (arith, count_by-append t (callbacks_of f d) (called_by k f), count_by-append t (callbacks_of f c) (called_by k f), callbacks-counted t f d, callbacks-counted t f c, count-less (bears f t) (bears e test) c.registered)
 
 -- the first callback of an event stays the first, where it does not pass the test
-first_stays : (p : Callback → Bool) (u : Registration → Bool) (f : EventId) → ((r : Registration) → u r ≡ true → p r.callback ≡ false) → (rs : List Registration) → first_passes p (calls_at f rs) ≡ true → first_passes p (calls_at f (without_first u rs)) ≡ true
+first_stays : (p : Callback → Bool) (u : Registration → Bool) (f : EventId)
+    → ((r : Registration) → u r ≡ true → p r.callback ≡ false) → (rs : List Registration)
+    → first_passes p (calls_at f rs) ≡ true → first_passes p (calls_at f (without_first u rs)) ≡ true
 first_stays p u f apart [] h = h
 first_stays p u f apart (r ∷ rs) h =
     let rest : List Registration = without_first u rs in
@@ -110,7 +117,8 @@ first_stays p u f apart (r ∷ rs) h =
 
 -- ---- a resumption is taken out: what is lawful stays so
 
-pub registrations_taken : (e : EventId) (test : Callback → Bool) (c : Calendar) (k : Control) → LawfulRegistrations c k → LawfulRegistrations (unregister e test c) k
+pub registrations_taken : (e : EventId) (test : Callback → Bool) (c : Calendar) (k : Control) → LawfulRegistrations c k
+    → LawfulRegistrations (unregister e test c) k
 registrations_taken e test c k h =
     record { unprocessed = All-without_first (λ r. awaits_processing c r ≡ true) (bears e test) c.registered h.unprocessed; processing = h.processing; outcomes = h.outcomes }
 

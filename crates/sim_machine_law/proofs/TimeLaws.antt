@@ -44,8 +44,10 @@ pending_counts_none a b h = rw h refl
 triggered_counts_once : (b : Bool) → b ≡ false → one_if (not false && not b) ≡ 1
 triggered_counts_once b h = rw h refl
 
-counted_at : (e f : EventId) (n : ℕ) (c : Calendar) (x : Outcome) → e.0 < length c.events → is_pending c e ≡ true → is_processed c e ≡ false → n ≡ one_if (is_triggered c f) → (f.0 ≡ e.0) ⊎ ((f.0 ≡ e.0) → ⊥) →
-    cond {A = ℕ} (e.0 == f.0) 1 0 + n ≡ one_if (is_triggered_event (slice_index_or (slice_set c.events e.0 (with_outcome x (event_at c e))) f.0 (pending_event kind.Plain)))
+counted_at : (e f : EventId) (n : ℕ) (c : Calendar) (x : Outcome) → e.0 < length c.events → is_pending c e ≡ true
+    → is_processed c e ≡ false → n ≡ one_if (is_triggered c f) → (f.0 ≡ e.0) ⊎ ((f.0 ≡ e.0) → ⊥)
+    → cond {A = ℕ} (e.0 == f.0) 1 0 + n
+    ≡ one_if (is_triggered_event (slice_index_or (slice_set c.events e.0 (with_outcome x (event_at c e))) f.0 (pending_event kind.Plain)))
 counted_at e f n c x made pending unprocessed h (inl same) =
     let d : EventOf = pending_event kind.Plain in
     let P : ℕ → Type 0 = λ k. is_none (slice_index_or c.events k d).outcome ≡ true in
@@ -60,7 +62,9 @@ pending_is_none : (o : Option Outcome) → is_none o ≡ true → is_some o ≡ 
 pending_is_none None h = refl
 pending_is_none (Some x) h = absurd (false≢true h)
 
-pub schedule_lawful : (e : EventId) (x : Outcome) (priority : ℕ) (delay : ℤ) (c : Calendar) → e.0 < length c.events → is_pending c e ≡ true → is_processed c e ≡ false → pos 0 ≤ℤ delay → (c.time +ℤ delay) ≤ℤ pos (2 ^ 62) → LawfulTimes c → LawfulTimes (schedule e x priority delay c)
+pub schedule_lawful : (e : EventId) (x : Outcome) (priority : ℕ) (delay : ℤ) (c : Calendar) → e.0 < length c.events
+    → is_pending c e ≡ true → is_processed c e ≡ false → pos 0 ≤ℤ delay → (c.time +ℤ delay) ≤ℤ pos (2 ^ 62) → LawfulTimes c
+    → LawfulTimes (schedule e x priority delay c)
 schedule_lawful e x priority delay c made pending unprocessed low high h =
     let new : Entry = new_entry c e priority delay in
     record {
@@ -76,14 +80,18 @@ schedule_lawful e x priority delay c made pending unprocessed low high h =
 
 -- ---- a new event stands nowhere in the agenda
 
-made_same : (xs : List EventOf) (k : EventKind) (n : ℕ) → is_triggered_event (get_or (xs ++ pending_event k ∷ []) n (pending_event kind.Plain)) ≡ is_triggered_event (get_or xs n (pending_event kind.Plain))
+made_same : (xs : List EventOf) (k : EventKind) (n : ℕ)
+    → is_triggered_event (get_or (xs ++ pending_event k ∷ []) n (pending_event kind.Plain))
+    ≡ is_triggered_event (get_or xs n (pending_event kind.Plain))
 made_same [] k zero = refl
 made_same [] k (suc n) = refl
 made_same (x ∷ xs) k zero = refl
 made_same (x ∷ xs) k (suc n) = made_same xs k n
 
 -- events that are changed but neither triggered nor processed
-pub events_changed : (c : Calendar) (xs : List EventOf) → ((f : EventId) → is_triggered (record c { events = xs }) f ≡ is_triggered c f) → outcomes (record c { events = xs }) ≡ outcomes c → LawfulTimes c → LawfulTimes (record c { events = xs })
+pub events_changed : (c : Calendar) (xs : List EventOf)
+    → ((f : EventId) → is_triggered (record c { events = xs }) f ≡ is_triggered c f)
+    → outcomes (record c { events = xs }) ≡ outcomes c → LawfulTimes c → LawfulTimes (record c { events = xs })
 events_changed c xs same counted h =
     record {
       not_negative = h.not_negative;
@@ -102,7 +110,8 @@ make_lawful k c h = events_changed c (c.events ++ pending_event k ∷ []) (λ f.
 length_made : (xs : List EventOf) (x : EventOf) → length xs < length (xs ++ x ∷ [])
 length_made xs x = rw (length-append xs (x ∷ [])) (omega arith)
 
-pub timeout_lawful : (delay value : ℤ) (c : Calendar) → pos 0 ≤ℤ delay → (c.time +ℤ delay) ≤ℤ pos (2 ^ 62) → LawfulTimes c → LawfulTimes (make_timeout delay value c)
+pub timeout_lawful : (delay value : ℤ) (c : Calendar) → pos 0 ≤ℤ delay → (c.time +ℤ delay) ≤ℤ pos (2 ^ 62) → LawfulTimes c
+    → LawfulTimes (make_timeout delay value c)
 timeout_lawful delay value c low high h =
     let new : EventOf = pending_event kind.Timeout in
     let last : get_or (c.events ++ new ∷ []) (length c.events) (pending_event kind.Plain) ≡ new = made_last c.events new in

@@ -29,11 +29,17 @@ entered_not (Active e left p (signal.Made r)) q = refl
 entered_not (Active e left p _) q = refl
 entered_not (Over why e left) q = refl
 
-pub knows_alone : {B : Type 0} (tell : Telling B) (t : State B) (z : ProcessOf B) → entered_by t.control z.id (is_enter (tell.last z.body)) ≡ [] → requests_of z.id t ≡ tell.scopes z.body → length (requests_of z.id t) ≤ most_scopes → KnowsItsScopes tell t z
+pub knows_alone : {B : Type 0} (tell : Telling B) (t : State B) (z : ProcessOf B)
+    → entered_by t.control z.id (is_enter (tell.last z.body)) ≡ [] → requests_of z.id t ≡ tell.scopes z.body
+    → length (requests_of z.id t) ≤ most_scopes → KnowsItsScopes tell t z
 knows_alone tell t z none own few =
     (own ∙ sym (ap (λ (es : List EventId). tell.scopes z.body ++ es) none ∙ append-nil (tell.scopes z.body)), few)
 
-knows_told : {B : Type 0} (g : Plan B) (tell : Telling B) (s t : State B) (e : EventId) (left : List Callback) (p : ProcId) (x n : Signal) (y : ProcessOf B) (b : B) (z : ProcessOf B) → IsWaitingPoll g tell s e left p x y b → is_enter (tell.last b) ≡ false → ((q : ProcId) → requests_of q t ≡ requests_of q s) → t.control ≡ Active e left p n → KnowsItsScopes tell s z → (v : Bool) → is_process z.id p ≡ v → KnowsItsScopes tell t (if v then record z { body = b } else z)
+knows_told : {B : Type 0} (g : Plan B) (tell : Telling B) (s t : State B) (e : EventId) (left : List Callback) (p : ProcId)
+    (x n : Signal) (y : ProcessOf B) (b : B) (z : ProcessOf B) → IsWaitingPoll g tell s e left p x y b
+    → is_enter (tell.last b) ≡ false → ((q : ProcId) → requests_of q t ≡ requests_of q s) → t.control ≡ Active e left p n
+    → KnowsItsScopes tell s z → (v : Bool) → is_process z.id p ≡ v
+    → KnowsItsScopes tell t (if v then record z { body = b } else z)
 knows_told g tell s t e left p x n y b z h not_enters scopes on w true is =
     let own : (requests_of z.id s ≡ scopes_told (tell.scopes y.body) (tell.last y.body) x) × (length (requests_of z.id s) ≤ most_scopes) = own_scopes g tell s e left p x y h.active h.found h.lawful z.id is in
     let none : entered_by t.control z.id (is_enter (tell.last b)) ≡ [] = ap (λ (v : Bool). entered_by t.control z.id v) not_enters ∙ entered_not t.control z.id in
@@ -47,7 +53,11 @@ knows_told g tell s t e left p x n y b z h not_enters scopes on w false is =
     knows_alone tell t z after (scopes z.id ∙ own) (rw (scopes z.id) w.1)
 
 -- the body of p is replaced, no scope is opened or closed, and p is told something, be it an event that was made
-pub waiting_told : {B : Type 0} (g : Plan B) (tell : Telling B) (s : State B) (e : EventId) (left : List Callback) (p : ProcId) (x n : Signal) (y : ProcessOf B) (b : B) (d : Calendar) (processed drawn : ℕ) (lines : List Line) → IsWaitingPoll g tell s e left p x y b → is_enter (tell.last b) ≡ false → Grown s.facilities.calendar d → ((w : Waiter) → waits_well s.facilities.calendar w ≡ true → is_pending d w.event ≡ true) → WaitingBasis g tell (moved s d (with_body p b s).processes (told_more n s.control) processed drawn lines)
+pub waiting_told : {B : Type 0} (g : Plan B) (tell : Telling B) (s : State B) (e : EventId) (left : List Callback)
+    (p : ProcId) (x n : Signal) (y : ProcessOf B) (b : B) (d : Calendar) (processed drawn : ℕ) (lines : List Line)
+    → IsWaitingPoll g tell s e left p x y b → is_enter (tell.last b) ≡ false → Grown s.facilities.calendar d
+    → ((w : Waiter) → waits_well s.facilities.calendar w ≡ true → is_pending d w.event ≡ true)
+    → WaitingBasis g tell (moved s d (with_body p b s).processes (told_more n s.control) processed drawn lines)
 waiting_told {B} g tell s e left p x n y b d processed drawn lines h not_enters grown pending =
     let f : ProcessOf B → ProcessOf B = λ z. if is_process z.id p then record z { body = b } else z in
     let k : Control = told_more n s.control in

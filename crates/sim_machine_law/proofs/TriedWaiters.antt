@@ -49,7 +49,8 @@ module _ {B : Type 0} (g : Plan B) (tell : Telling B) (sound : B → Type 0) whe
   users_at s w = users w.res s.facilities.ledger
 
   -- what is known of the resource
-  fits_at : (s : State B) (w : Waiter) (want : Want) → Waits s w want → (w.res < length g.setup.resources) × (waits_for_fitting (calendar s) (place w) w want ≡ true)
+  fits_at : (s : State B) (w : Waiter) (want : Want) → Waits s w want
+      → (w.res < length g.setup.resources) × (waits_for_fitting (calendar s) (place w) w want ≡ true)
   fits_at s w want h =
       let rs : List Resource = g.setup.resources in
       let fits : Want → Bool = waits_for_fitting (calendar s) (place w) w in
@@ -58,7 +59,8 @@ module _ {B : Type 0} (g : Plan B) (tell : Telling B) (sound : B → Type 0) whe
       (ltb-true w.res (length rs) parts.0, subst (λ (v : Want). fits v ≡ true) h.wants parts.1)
 
   -- a request takes a slot that is free
-  slot_taken : (s : State B) (w : Waiter) (p : ProcId) (key : RequestKey) → Waits s w (Slot p key) → has_free_slot (place w) (users_at s w) ≡ true → IsWell s w (take_slot w p key s.facilities)
+  slot_taken : (s : State B) (w : Waiter) (p : ProcId) (key : RequestKey) → Waits s w (Slot p key)
+      → has_free_slot (place w) (users_at s w) ≡ true → IsWell s w (take_slot w p key s.facilities)
   slot_taken s w p key h free =
       let f : Facilities = s.facilities in
       let u : User = record { request = w.event; process = p; key = key; since = f.calendar.time } in
@@ -68,7 +70,8 @@ module _ {B : Type 0} (g : Plan B) (tell : Telling B) (sound : B → Type 0) whe
       (λ res. granted_users (IsUserOf s w res) res w.res u (λ same. (refl, subst (λ (n : ℕ). has_scope s.scopes w.event p n ≡ true) (eqb-true w.res res same) scope)))
 
   -- and it may preempt before
-  slot_used : (s : State B) (w : Waiter) (p : ProcId) (key : RequestKey) (grant : Grant) → Waits s w (Slot p key) → grant_of (place w) key (users_at s w) ≡ grant → IsWell s w (use_slot w p key grant s.facilities)
+  slot_used : (s : State B) (w : Waiter) (p : ProcId) (key : RequestKey) (grant : Grant) → Waits s w (Slot p key)
+      → grant_of (place w) key (users_at s w) ≡ grant → IsWell s w (use_slot w p key grant s.facilities)
   slot_used s w p key NoSlot h is = served_none g tell sound s w h.lawful
   slot_used s w p key FreeSlot h is = slot_taken s w p key h (free_slot_of (place w) key (users_at s w) is)
   slot_used s w p key (SlotOf u) h is =
@@ -85,7 +88,9 @@ module _ {B : Type 0} (g : Plan B) (tell : Telling B) (sound : B → Type 0) whe
       }
 
   -- a put or get is served by this deed, which makes no user
-  moved : (s : State B) (w : Waiter) (value : ℤ) (deed : Deed) → Waits s w w.want → FitsLedger g.setup.resources s.facilities.ledger deed → ((res : ℕ) → user_by res deed [] ≡ []) → IsWell s w (serve w value deed s.facilities)
+  moved : (s : State B) (w : Waiter) (value : ℤ) (deed : Deed) → Waits s w w.want
+      → FitsLedger g.setup.resources s.facilities.ledger deed → ((res : ℕ) → user_by res deed [] ≡ [])
+      → IsWell s w (serve w value deed s.facilities)
   moved s w value deed h fits none =
       lawful_served g tell sound s w value deed h.lawful h.one fits (λ res. subst (All (IsUserOf s w res)) (sym (none res)) (All-nil (IsUserOf s w res)))
 
@@ -93,7 +98,8 @@ module _ {B : Type 0} (g : Plan B) (tell : Telling B) (sound : B → Type 0) whe
   more_than_nothing : (k : ResourceKind) (amount : ℤ) → is_container k ≡ true → move_fits k amount ≡ true → int_lt (pos 0) amount ≡ true
   more_than_nothing k amount is h = subst (λ (b : Bool). (if b then int_lt (pos 0) amount else not (takes_requests k)) ≡ true) is h
 
-  given : (s : State B) (w : Waiter) (amount priority : ℤ) → Waits s w (Give amount priority) → IsWell s w (attempt_for g.setup.resources (place w) w (Give amount priority) s.facilities)
+  given : (s : State B) (w : Waiter) (amount priority : ℤ) → Waits s w (Give amount priority)
+      → IsWell s w (attempt_for g.setup.resources (place w) w (Give amount priority) s.facilities)
   given s w amount priority h =
       let rs : List Resource = g.setup.resources in
       let r : Resource = place w in
@@ -116,7 +122,8 @@ module _ {B : Type 0} (g : Plan B) (tell : Telling B) (sound : B → Type 0) whe
   handed s w (Some x) h =
       moved s w x.value (Taken w.res x.put) h (plain_fits g.setup.resources s.facilities (Taken w.res x.put) (λ res. refl) (λ res. refl) (λ res. refl) h.lawful.capacities) (λ res. refl)
 
-  taken : (s : State B) (w : Waiter) (least greatest : ℤ) → Waits s w (Take least greatest) → IsWell s w (attempt_for g.setup.resources (place w) w (Take least greatest) s.facilities)
+  taken : (s : State B) (w : Waiter) (least greatest : ℤ) → Waits s w (Take least greatest)
+      → IsWell s w (attempt_for g.setup.resources (place w) w (Take least greatest) s.facilities)
   taken s w least greatest h =
       let rs : List Resource = g.setup.resources in
       let r : Resource = place w in
@@ -145,7 +152,8 @@ pub record IsTriedWell {B : Type 0} (g : Plan B) (tell : Telling B) (sound : B �
   pub calm : Calm s.facilities.calendar f.calendar
 
 module _ {B : Type 0} (g : Plan B) (tell : Telling B) (sound : B → Type 0) where
-  tried_along : (reach : Reach) (ws : List Waiter) (s : State B) → LawfulBasis g tell sound s → IsQueueOf s.facilities.waiters ws → IsTriedWell g tell sound s (try_along g.setup.resources reach ws s.facilities)
+  tried_along : (reach : Reach) (ws : List Waiter) (s : State B) → LawfulBasis g tell sound s
+      → IsQueueOf s.facilities.waiters ws → IsTriedWell g tell sound s (try_along g.setup.resources reach ws s.facilities)
   tried_along reach [] s l queue = record { lawful = l; calm = calm_self s.facilities.calendar s.facilities.calendar refl }
   tried_along reach (w ∷ ws) s l queue =
       let rs : List Resource = g.setup.resources in

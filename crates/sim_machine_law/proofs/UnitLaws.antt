@@ -23,7 +23,9 @@ use Rattle.sim_machine.specs.Runs.{end_of, end_by, after_units, opening_course, 
 use Rattle.sim_machine_law.specs.Courses.{OfFunction}
 use Rattle.sim_machine_law.proofs.KeptProcessesParts.{is_process-self}
 
-poll_is : {B : Type 0} (g : Plan B) (turn : TurnFunction B) (p : ProcId) (x : Signal) (s : State B) (y : ProcessOf B) → process_at p s ≡ Some y → (o : Option (ProcessOf B)) → o ≡ Some y → IsPoll g (OfFunction turn) p x s (poll_if_any g turn p x o s)
+poll_is : {B : Type 0} (g : Plan B) (turn : TurnFunction B) (p : ProcId) (x : Signal) (s : State B) (y : ProcessOf B)
+    → process_at p s ≡ Some y → (o : Option (ProcessOf B)) → o ≡ Some y
+    → IsPoll g (OfFunction turn) p x s (poll_if_any g turn p x o s)
 poll_is g turn p x s y found o h =
     rw h (record {
       process = y;
@@ -44,7 +46,8 @@ CanStepAt s (Over why e left) = ⊥
 pop_is : {B : Type 0} (s : State B) (x : Entry) → due (calendar s).agenda ≡ Some x → (o : Option Entry) → o ≡ Some x → IsPop s (pop_if_any o s)
 pop_is s x found o h = rw h (record { entry = x; is_due = found; then_is = refl })
 
-step_is_at : {B : Type 0} (g : Plan B) (turn : TurnFunction B) (s : State B) (c : Control) → CanStepAt s c → IsStepAt g (OfFunction turn) s (step_at g turn s c) c
+step_is_at : {B : Type 0} (g : Plan B) (turn : TurnFunction B) (s : State B) (c : Control) → CanStepAt s c
+    → IsStepAt g (OfFunction turn) s (step_at g turn s c) c
 step_is_at g turn s Idle h = pop_is s h.0 h.1 (due (calendar s).agenda) h.1
 step_is_at g turn s (Calling e left) h = refl
 step_is_at g turn s (Active e left p x) h = poll_is g turn p x s h.0 h.1 (process_at p s) h.1
@@ -54,17 +57,21 @@ step_is_at g turn s (Over why e left) h = absurd h
 pub step_is : {B : Type 0} (g : Plan B) (turn : TurnFunction B) (s : State B) → CanStepAt s s.control → IsStep g (OfFunction turn) s (step_of g turn s)
 step_is g turn s h = step_is_at g turn s s.control h
 
-unit_is_at : {B : Type 0} (g : Plan B) (turn : TurnFunction B) (m : Course B) (o : Option Arrival) → (o ≡ None → CanStepAt m.state m.state.control) → IsUnitAt g (OfFunction turn) m (unit_at g turn m o) o
+unit_is_at : {B : Type 0} (g : Plan B) (turn : TurnFunction B) (m : Course B) (o : Option Arrival)
+    → (o ≡ None → CanStepAt m.state m.state.control) → IsUnitAt g (OfFunction turn) m (unit_at g turn m o) o
 unit_is_at g turn m None h = (step_is g turn m.state (h refl), refl)
 unit_is_at g turn m (Some a) h = refl
 
-pub unit_is : {B : Type 0} (g : Plan B) (turn : TurnFunction B) (m : Course B) → (due_arrival m.state m.left ≡ None → CanStepAt m.state m.state.control) → IsUnit g (OfFunction turn) m (unit_of g turn m)
+pub unit_is : {B : Type 0} (g : Plan B) (turn : TurnFunction B) (m : Course B)
+    → (due_arrival m.state m.left ≡ None → CanStepAt m.state m.state.control)
+    → IsUnit g (OfFunction turn) m (unit_of g turn m)
 unit_is g turn m h = unit_is_at g turn m (due_arrival m.state m.left) h
 
 only_pop : {B : Type 0} (s t : State B) → IsPop s t → t ≡ pop_if_any (due (calendar s).agenda) s
 only_pop s t h = rw h.is_due h.then_is
 
-only_poll : {B : Type 0} (g : Plan B) (turn : TurnFunction B) (p : ProcId) (x : Signal) (s t : State B) → IsPoll g (OfFunction turn) p x s t → t ≡ poll_if_any g turn p x (process_at p s) s
+only_poll : {B : Type 0} (g : Plan B) (turn : TurnFunction B) (p : ProcId) (x : Signal) (s t : State B)
+    → IsPoll g (OfFunction turn) p x s t → t ≡ poll_if_any g turn p x (process_at p s) s
 only_poll g turn p x s t h = rw h.found (h.then_is ∙ rw h.turned refl)
 
 only_step_at : {B : Type 0} (g : Plan B) (turn : TurnFunction B) (s t : State B) (c : Control) → IsStepAt g (OfFunction turn) s t c → t ≡ step_at g turn s c
@@ -83,7 +90,8 @@ same_course {B} a b p q =
     let with_left : List Arrival → Course B = λ l. record { state = b.state; left = l } in
     ap with_state p ∙ ap with_left q
 
-only_unit_at : {B : Type 0} (g : Plan B) (turn : TurnFunction B) (m n : Course B) (o : Option Arrival) → IsUnitAt g (OfFunction turn) m n o → n ≡ unit_at g turn m o
+only_unit_at : {B : Type 0} (g : Plan B) (turn : TurnFunction B) (m n : Course B) (o : Option Arrival)
+    → IsUnitAt g (OfFunction turn) m n o → n ≡ unit_at g turn m o
 only_unit_at g turn m n None h = same_course n (record m { state = step_of g turn m.state }) (only_step g turn m.state n.state h.0) h.1
 only_unit_at g turn m n (Some a) h = h
 
@@ -92,7 +100,9 @@ only_unit g turn m n h = only_unit_at g turn m n (due_arrival m.state m.left) h
 
 -- ---- a run that has ended stays as it is
 
-ended_at : {B : Type 0} (g : Plan B) (turn : TurnFunction B) (s : State B) (why : End) (c : Control) (agenda : List Entry) (left : List Arrival) → end_by g c agenda left ≡ Some why → c ≡ s.control → agenda ≡ (calendar s).agenda → unit_at g turn (record { state = s; left = left }) (due_arrival s left) ≡ record { state = s; left = left }
+ended_at : {B : Type 0} (g : Plan B) (turn : TurnFunction B) (s : State B) (why : End) (c : Control) (agenda : List Entry)
+    (left : List Arrival) → end_by g c agenda left ≡ Some why → c ≡ s.control → agenda ≡ (calendar s).agenda
+    → unit_at g turn (record { state = s; left = left }) (due_arrival s left) ≡ record { state = s; left = left }
 ended_at g turn s why Idle [] [] h c a = rw (← c) (rw (← a) refl)
 ended_at g turn s why Idle [] (x ∷ left) h c a = absurd (none-some why h)
 ended_at g turn s why Idle (x ∷ agenda) left h c a = absurd (none-some why h)
@@ -108,13 +118,15 @@ same_run : {B : Type 0} (g : Plan B) (turn : TurnFunction B) (m n : Course B) (w
 same_run g turn m n why h same = rw same (ended_stays g turn m why h)
 
 -- and so does it after any number of units more
-pub ended_stays_on : {B : Type 0} (g : Plan B) (turn : TurnFunction B) (m : Course B) (n : ℕ) (why : End) → end_of g (after_units g turn n m) ≡ Some why → (k : ℕ) → after_units g turn (n + k) m ≡ after_units g turn n m
+pub ended_stays_on : {B : Type 0} (g : Plan B) (turn : TurnFunction B) (m : Course B) (n : ℕ) (why : End)
+    → end_of g (after_units g turn n m) ≡ Some why → (k : ℕ) → after_units g turn (n + k) m ≡ after_units g turn n m
 ended_stays_on g turn m n why h zero = rw add-zero refl
 ended_stays_on g turn m n why h (suc k) = rw add-suc (same_run g turn (after_units g turn n m) (after_units g turn (n + k) m) why h (ended_stays_on g turn m n why h k))
 
 -- ---- until it has ended there is a unit more
 
-found_by_test : {X : Type 0} (p : X → Bool) (x : X) (xs : List X) (b : Bool) → (b || list_any p xs) ≡ true → (list_any p xs ≡ true → (y : X) × (find p xs ≡ Some y)) → (y : X) × (cond b (Some x) (find p xs) ≡ Some y)
+found_by_test : {X : Type 0} (p : X → Bool) (x : X) (xs : List X) (b : Bool) → (b || list_any p xs) ≡ true
+    → (list_any p xs ≡ true → (y : X) × (find p xs ≡ Some y)) → (y : X) × (cond b (Some x) (find p xs) ≡ Some y)
 found_by_test p x xs true any later = (x, refl)
 found_by_test p x xs false any later = later any
 
@@ -136,7 +148,9 @@ not_waiting s a left c e h =
 abbrev pub ActiveIsAlive : {B : Type 0} → State B → Control → Type 0
 ActiveIsAlive s c = (p : ProcId) → IsTrue (is_active c p) → IsTrue (is_alive p s)
 
-can_step_at : {B : Type 0} (g : Plan B) (s : State B) (c : Control) (agenda : List Entry) (left : List Arrival) → end_by g c agenda left ≡ None → c ≡ s.control → agenda ≡ (calendar s).agenda → ActiveIsAlive s c → due_arrival s left ≡ None → CanStepAt s c
+can_step_at : {B : Type 0} (g : Plan B) (s : State B) (c : Control) (agenda : List Entry) (left : List Arrival)
+    → end_by g c agenda left ≡ None → c ≡ s.control → agenda ≡ (calendar s).agenda → ActiveIsAlive s c
+    → due_arrival s left ≡ None → CanStepAt s c
 can_step_at g s Idle [] [] h c a alive none = absurd (none-some _ (sym h))
 can_step_at g s Idle [] (x ∷ left) h c a alive none = absurd (not_waiting s x left c a none)
 can_step_at g s Idle (e ∷ es) left h c a alive none = rw (← a) (best_from (λ f d. comes_first f.key d.key) e es, refl)
@@ -144,7 +158,8 @@ can_step_at g s (Calling e calls) agenda left h c a alive none = tt
 can_step_at g s (Active e calls p x) agenda left h c a alive none = found_where_any (λ y. is_process y.id p) s.processes (alive p (is_process-self p))
 can_step_at g s (Over why e calls) agenda left h c a alive none = absurd (none-some why (sym h))
 
-pub unit_where_not_ended : {B : Type 0} (g : Plan B) (turn : TurnFunction B) (m : Course B) → end_of g m ≡ None → ActiveIsAlive m.state m.state.control → IsUnit g (OfFunction turn) m (unit_of g turn m)
+pub unit_where_not_ended : {B : Type 0} (g : Plan B) (turn : TurnFunction B) (m : Course B) → end_of g m ≡ None
+    → ActiveIsAlive m.state m.state.control → IsUnit g (OfFunction turn) m (unit_of g turn m)
 unit_where_not_ended g turn m h alive =
     unit_is g turn m (λ none. can_step_at g m.state m.state.control (calendar m.state).agenda m.left h refl refl alive none)
 
@@ -158,7 +173,8 @@ pub some_end : (end : Option End) → end ≢ None → (why : End) × (end ≡ S
 some_end None h = absurd (h refl)
 some_end (Some why) h = (why, refl)
 
-only_whole : {B : Type 0} (g : Plan B) (turn : TurnFunction B) (units limit : ℕ) (m n : Course B) → units ≤ limit → n ≡ after_units g turn units m → (units ≡ limit) ⊎ HasEnded g n → n ≡ after_units g turn limit m
+only_whole : {B : Type 0} (g : Plan B) (turn : TurnFunction B) (units limit : ℕ) (m n : Course B) → units ≤ limit
+    → n ≡ after_units g turn units m → (units ≡ limit) ⊎ HasEnded g n → n ≡ after_units g turn limit m
 only_whole g turn units limit m n within is (inl all) =
     let P : ℕ → Type 0 = λ k. n ≡ after_units g turn k m in
     subst P all is
@@ -169,6 +185,7 @@ only_whole g turn units limit m n within is (inr ended) =
     let more : units + (limit - units) ≡ limit = omega (arith, within) in
     subst Q more (is ∙ sym (ended_stays_on g turn m units end.0 (subst P is end.1) (limit - units)))
 
-pub only_run : {B : Type 0} (g : Plan B) (turn : TurnFunction B) (journal : List Arrival) (limit : ℕ) (n : Course B) → IsRun g (OfFunction turn) journal limit n → n ≡ run g turn journal limit
+pub only_run : {B : Type 0} (g : Plan B) (turn : TurnFunction B) (journal : List Arrival) (limit : ℕ) (n : Course B)
+    → IsRun g (OfFunction turn) journal limit n → n ≡ run g turn journal limit
 only_run g turn journal limit n r =
     only_whole g turn r.units limit (opening_course g journal) n r.within (only_course g turn r.units (opening_course g journal) n r.ran) r.whole

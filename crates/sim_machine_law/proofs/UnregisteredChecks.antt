@@ -70,12 +70,15 @@ and_second true b h = h
 and_second false b h = absurd (false≢true h)
 
 -- no event bears more
-pub unregistered-fewer : (q : Callback → Bool) (e cond f : EventId) (c : Calendar) → count_by q (callbacks_of f (unregister e (is_check_of cond) c)) ≤ count_by q (callbacks_of f c)
+pub unregistered-fewer : (q : Callback → Bool) (e cond f : EventId) (c : Calendar)
+    → count_by q (callbacks_of f (unregister e (is_check_of cond) c)) ≤ count_by q (callbacks_of f c)
 unregistered-fewer q e cond f c =
     omega (arith, count_at q f (unregister e (is_check_of cond) c).registered, count_at q f c.registered, fewer (λ r. is_same r.event f && q r.callback) (taken e cond) c.registered)
 
 -- and each as many that are no checks
-unregistered-same : (q : Callback → Bool) (e cond f : EventId) (c : Calendar) → ((x : Callback) → is_check_of cond x ≡ true → q x ≡ false) → count_by q (callbacks_of f (unregister e (is_check_of cond) c)) ≡ count_by q (callbacks_of f c)
+unregistered-same : (q : Callback → Bool) (e cond f : EventId) (c : Calendar)
+    → ((x : Callback) → is_check_of cond x ≡ true → q x ≡ false)
+    → count_by q (callbacks_of f (unregister e (is_check_of cond) c)) ≡ count_by q (callbacks_of f c)
 unregistered-same q e cond f c apart =
     let here : Registration → Bool = λ r. is_same r.event f && q r.callback in
     omega (
@@ -86,11 +89,14 @@ unregistered-same q e cond f c apart =
     )
 
 -- the event itself bears one check less
-pub unregistered-one : (e cond : EventId) (c : Calendar) (n : ℕ) → count_by (is_check_of cond) (callbacks_of e c) ≤ n + 1 → count_by (is_check_of cond) (callbacks_of e (unregister e (is_check_of cond) c)) ≤ n
+pub unregistered-one : (e cond : EventId) (c : Calendar) (n : ℕ) → count_by (is_check_of cond) (callbacks_of e c) ≤ n + 1
+    → count_by (is_check_of cond) (callbacks_of e (unregister e (is_check_of cond) c)) ≤ n
 unregistered-one e cond c n h =
     omega (arith, count_at (is_check_of cond) e (unregister e (is_check_of cond) c).registered, one_fewer (taken e cond) c.registered n (omega (arith, h, count_at (is_check_of cond) e c.registered)))
 
-first_left : (q : Callback → Bool) (e cond f : EventId) (rs : List Registration) → ((x : Callback) → is_check_of cond x ≡ true → q x ≡ false) → first_passes q (calls_at f rs) ≡ true → first_passes q (calls_at f (without_first (taken e cond) rs)) ≡ true
+first_left : (q : Callback → Bool) (e cond f : EventId) (rs : List Registration)
+    → ((x : Callback) → is_check_of cond x ≡ true → q x ≡ false) → first_passes q (calls_at f rs) ≡ true
+    → first_passes q (calls_at f (without_first (taken e cond) rs)) ≡ true
 first_left q e cond f [] apart h = h
 first_left q e cond f (r ∷ rs) apart h =
     let others : List Registration = filter (λ r. is_same r.event f) rs in
@@ -122,11 +128,14 @@ check_builds cond e _ h = absurd (false≢true h)
 abbrev called : Control → EventId → List Callback
 called k e = if is_event_of k e then left_of k else []
 
-all_same : (q : Callback → Bool) (e cond f : EventId) (c : Calendar) (k : Control) → ((x : Callback) → is_check_of cond x ≡ true → q x ≡ false) → count_by q (all_callbacks_of (unregister e (is_check_of cond) c) k f) ≡ count_by q (all_callbacks_of c k f)
+all_same : (q : Callback → Bool) (e cond f : EventId) (c : Calendar) (k : Control)
+    → ((x : Callback) → is_check_of cond x ≡ true → q x ≡ false)
+    → count_by q (all_callbacks_of (unregister e (is_check_of cond) c) k f) ≡ count_by q (all_callbacks_of c k f)
 all_same q e cond f c k apart =
     omega (arith, count_by-append q (callbacks_of f (unregister e (is_check_of cond) c)) (called k f), count_by-append q (callbacks_of f c) (called k f), unregistered-same q e cond f c apart)
 
-all_fewer_at : (q : Callback → Bool) (e cond f : EventId) (c : Calendar) (k : Control) → count_by q (all_callbacks_of (unregister e (is_check_of cond) c) k f) ≤ count_by q (all_callbacks_of c k f)
+all_fewer_at : (q : Callback → Bool) (e cond f : EventId) (c : Calendar) (k : Control)
+    → count_by q (all_callbacks_of (unregister e (is_check_of cond) c) k f) ≤ count_by q (all_callbacks_of c k f)
 all_fewer_at q e cond f c k =
     omega (arith, count_by-append q (callbacks_of f (unregister e (is_check_of cond) c)) (called k f), count_by-append q (callbacks_of f c) (called k f), unregistered-fewer q e cond f c)
 

@@ -29,7 +29,10 @@ use Rattle.sim_machine_law.proofs.ChangedCalendars.{HasAsked, body_asked, scopes
 use Rattle.sim_machine_law.proofs.LawfulBasis.{LawfulBasis}
 
 -- it is no interruption and no stop
-pub lawful_waits : {B : Type 0} (g : Plan B) (tell : Telling B) (sound : B → Type 0) (s : State B) (f : CodeFacts) (e : EventId) (left : List Callback) (p : ProcId) (x : Signal) (y : ProcessOf B) (b : B) (o : Op) (n : EventId) → HasAsked g tell sound s f e left p x y b o → may_wait o ≡ true → n.0 < length (calendar s).events → is_unheard_kind (kind_at (calendar s) n) ≡ false → LawfulBasis g tell sound (wait n p (with_body p b s))
+pub lawful_waits : {B : Type 0} (g : Plan B) (tell : Telling B) (sound : B → Type 0) (s : State B) (f : CodeFacts)
+    (e : EventId) (left : List Callback) (p : ProcId) (x : Signal) (y : ProcessOf B) (b : B) (o : Op) (n : EventId)
+    → HasAsked g tell sound s f e left p x y b o → may_wait o ≡ true → n.0 < length (calendar s).events
+    → is_unheard_kind (kind_at (calendar s) n) ≡ false → LawfulBasis g tell sound (wait n p (with_body p b s))
 lawful_waits {B} g tell sound s f e left p x y b o n asked waits made heard =
     let c : Calendar = calendar s in
     let h : LawfulBasis g tell sound s = asked.lawful in

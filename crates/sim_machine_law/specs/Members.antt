@@ -2,7 +2,7 @@
 use Rattle.std.specs.Prelude.{true, false, ◌≡◌, ◌<◌, ◌≤◌, List, [], ◌∷◌, length}
 use Rattle.std.specs.List.{Contains}
 use Rattle.sim_types.specs.declared.event.EventId.{EventId}
-use Rattle.sim_machine.specs.State.{Sort, Calendar}
+use Rattle.sim_machine.specs.State.{AllOrAny, Calendar}
 use Rattle.sim_machine.specs.Events.{event_at, is_pending, is_processed, is_fail}
 use Rattle.sim_machine.specs.Conditions.{is_condition, condition_at, members_of, most_weight}
 
@@ -20,7 +20,7 @@ pub record IsLeafOf (c : Calendar) (cond leaf : EventId) : Type 0 where
   pub plain : is_condition c leaf ≡ false
 
 -- a condition of this sort that is pending, so that a processed member counts
-pub record IsCounting (c : Calendar) (sort : Sort) (cond : EventId) : Type 0 where
+pub record IsCounting (c : Calendar) (sort : AllOrAny) (cond : EventId) : Type 0 where
   pub made : cond.0 < length c.events
   pub pending : is_pending c cond ≡ true
   pub is : (condition_at c cond).sort ≡ sort
