@@ -5,6 +5,7 @@ use Rattle.std.specs.Prelude.{◌≡◌, refl, ℕ, ◌+◌, List, [], ◌∷◌
 use Rattle.sim_types.specs.Scenarios.{ScenarioOf}
 use Rattle.sim_types.specs.declared.script.Kind.{Kind}
 use Rattle.sim_types.specs.declared.script.Stmt.{Stmt}
+use Rattle.sim_types.specs.declared.setup.Until.{Until}
 use Rattle.sim_types.specs.declared.setup.Until.TheVariants as until
 use Rattle.sim_types.specs.declared.setup.ResourceKind.{ResourceKind}
 use Rattle.sim_types.specs.declared.setup.ResourceKind.TheVariants as resource
@@ -17,11 +18,11 @@ use Rattle.sim_language.specs.Shapes.{Operand}
 use Rattle.sim_language.specs.AnywhereInText.{ProcessLines}
 use Rattle.sim_language.specs.Places.{LineInText}
 use Rattle.sim_language.specs.Statements.{literal_of, number_declared, kind_number, statement}
-use Rattle.sim_language.specs.Reads.{add, with_resource, with_port, with_start, with_kind, with_statement, with_arrival, onto_last, natural_of, capacity_of, start_argument_of, kind_of}
+use Rattle.sim_language.specs.Reads.{add, with_resource, with_port, with_start, with_kind, with_statement, with_arrival, onto_last, natural_of, capacity_of, start_argument_of, event_ahead, kind_of}
 
 pub data Added : Type 0 where
   Nothing : Added
-  TheUntil : ℤ → Added
+  TheUntil : Until → Added
   TheSeed : ℕ → Added
   -- its kind, capacity and opening
   AResource : ResourceKind → ℤ → ℤ → Added
@@ -36,7 +37,7 @@ pub data Added : Type 0 where
 
 abbrev pub put_in : Added → ScenarioOf → ScenarioOf
 put_in Nothing s = s
-put_in (TheUntil time) s = record s { setup = record s.setup { until = until.At time } }
+put_in (TheUntil u) s = record s { setup = record s.setup { until = u } }
 put_in (TheSeed n) s = record s { seed = n }
 put_in (AResource kind capacity opening) s = with_resource s kind capacity opening
 put_in AnEvent s = record s { setup = record s.setup { events = s.setup.events + 1 } }
@@ -53,7 +54,8 @@ by_statement None = Nothing
 by_statement (Some statement) = AStatement statement
 
 abbrev pub added : ProcessLines → LineInText → Form → List Operand → Added
-added heads place form.UntilTime (t ∷ []) = TheUntil (literal_of t.word)
+added heads place form.UntilTime (t ∷ []) = TheUntil (until.At (literal_of t.word))
+added heads place form.UntilEvent (n ∷ []) = TheUntil (until.Event (record { 0 = event_ahead n }))
 added heads place form.Seed (n ∷ []) = TheSeed (natural_of n.word)
 added heads place form.Resource (n ∷ c ∷ []) = AResource resource.Plain (literal_of c.word) (pos 0)
 added heads place form.Priority (n ∷ c ∷ []) = AResource resource.Priority (literal_of c.word) (pos 0)
@@ -77,6 +79,7 @@ put_statement (Some statement) s = refl
 
 pub add_added : (heads : ProcessLines) (place : LineInText) (f : Form) (slots : List Operand) (s : ScenarioOf) → add heads place f slots s ≡ put_in (added heads place f slots) s
 add_added heads place form.UntilTime (t ∷ []) s = refl
+add_added heads place form.UntilEvent (n ∷ []) s = refl
 add_added heads place form.Seed (n ∷ []) s = refl
 add_added heads place form.Resource (n ∷ c ∷ []) s = refl
 add_added heads place form.Priority (n ∷ c ∷ []) s = refl

@@ -12,7 +12,7 @@ use Rattle.sim_language.specs.Shapes.{Context, shape}
 use Rattle.sim_language.specs.AnywhereInText.{ProcessLines}
 use Rattle.sim_language.specs.Places.{LineInText, is_entry, is_poster}
 use Rattle.sim_language_law.proofs.ByShape.{Rule}
-use Rattle.sim_language_law.proofs.Additions.{Added, AResource, AnEvent, APort, AKind, AStart, AStatement, AnArrival, APoster, APost, added}
+use Rattle.sim_language_law.proofs.Additions.{Added, AResource, AnEvent, APort, AKind, AStatement, AnArrival, APoster, APost, added}
 
 -- what is declared by what is added
 abbrev pub sort_added : Added → Option Sort
@@ -34,10 +34,6 @@ adds_poster a = false
 abbrev pub adds_statement : Added → Bool
 adds_statement (AStatement statement) = true
 adds_statement a = false
-
-abbrev pub adds_start : Added → Bool
-adds_start (AStart kind args) = true
-adds_start a = false
 
 -- the kind of resource that a form declares
 abbrev pub resource_kind : Form → ResourceKind
@@ -65,8 +61,10 @@ so s e p st m = record { sort = s; entries = e; posters = p; statements = st; ma
 
 pub told : (context : Context) (heads : ProcessLines) (place : LineInText) (f : Form) → Rule context [] (shape f) (λ slots. Told f (added heads place f slots))
 told context heads place form.Scenario = λ w. so refl refl refl refl tt
+told context heads place form.ScenarioTwo = λ w. so refl refl refl refl tt
 told context heads place form.UntilEmpty = λ w. so refl refl refl refl tt
-told context heads place form.UntilTime = λ w. so refl refl refl refl tt
+told context heads place form.UntilTime = λ t. so refl refl refl refl tt
+told context heads place form.UntilEvent = λ e n. so refl refl refl refl tt
 told context heads place form.Seed = λ w. so refl refl refl refl tt
 told context heads place form.Resource = λ n c. so refl refl refl refl refl
 told context heads place form.Priority = λ n c. so refl refl refl refl refl
@@ -109,6 +107,7 @@ told context heads place form.Catch = λ k v. so refl refl refl refl tt
 told context heads place form.End = so refl refl refl refl tt
 told context heads place form.Break = so refl refl refl refl tt
 told context heads place form.Log = λ a. so refl refl refl refl tt
+told context heads place form.Chain = λ e f. so refl refl refl refl tt
 told context heads place form.Draw = λ x lo hi. so refl refl refl refl tt
 told context heads place form.NewTimeout = λ x d v. so refl refl refl refl tt
 told context heads place form.NewEvent = λ x. so refl refl refl refl tt

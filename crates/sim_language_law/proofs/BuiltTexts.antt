@@ -16,7 +16,7 @@ use Rattle.sim_language.specs.declared.form.Form.{Form}
 use Rattle.sim_language.specs.declared.form.Form.TheVariants as form
 use Rattle.sim_language.specs.Lines.{Word, lines, is_empty}
 use Rattle.sim_language.specs.Shapes.{Operand}
-use Rattle.sim_language.specs.AnywhereInText.{ProcessLines, heads_of}
+use Rattle.sim_language.specs.AnywhereInText.{ProcessLines, WholeText, whole_text}
 use Rattle.sim_language.specs.Sayings.{TextLine, Saying, Blank, Wrong, Says, sayings}
 use Rattle.sim_language.specs.Blocks.{Block, closed, split_first, blocks_behind, blocks_then, open_blocks}
 use Rattle.sim_language.specs.Places.{LineInText, places, is_with}
@@ -99,26 +99,16 @@ opened_built b None plain h = tt
 opened_built b (Some blocks) plain h = (plain, h)
 
 behind_built : (inside : ℕ) (f : Form) (slots : List Operand) (blocks : Option (List Block)) → is_built f ≡ true → AllBuilt blocks → AllBuilt (blocks_behind inside f slots blocks)
-behind_built inside form.Scenario slots blocks is h = h
-behind_built inside form.UntilEmpty slots blocks is h = h
-behind_built inside form.Seed slots blocks is h = h
 behind_built inside form.Process slots blocks is h = tt
-behind_built inside form.Start slots blocks is h = h
 behind_built inside form.End slots blocks is h = closed_built blocks h
-behind_built inside form.Timeout slots blocks is h = h
-behind_built inside form.Log slots blocks is h = h
-behind_built inside form.Let slots blocks is h = h
-behind_built inside form.Raise slots blocks is h = h
-behind_built inside form.Finish slots blocks is h = h
+behind_built inside form.With slots blocks is h = absurd (false≢true is)
 behind_built inside form.Loop slots blocks is h = opened_built _ blocks refl h
 behind_built inside form.Repeat slots blocks is h = opened_built _ blocks refl h
 behind_built inside form.If slots blocks is h = opened_built _ blocks refl h
 behind_built inside form.Else slots blocks is h = split_built blocks h
 behind_built inside form.Try slots blocks is h = opened_built _ blocks refl h
 behind_built inside form.Catch slots blocks is h = split_built blocks h
-behind_built inside form.Break slots blocks is h = h
-behind_built inside form.Draw slots blocks is h = h
-behind_built inside f slots blocks is h = absurd (false≢true is)
+behind_built inside f slots blocks is h = h
 
 then_built : (inside : ℕ) (said : Saying) (blocks : Option (List Block)) → IsBuiltSaid is_built said → AllBuilt blocks → AllBuilt (blocks_then inside said blocks)
 then_built inside Blank blocks is h = h
@@ -243,9 +233,12 @@ unless_built (Some fault) s h = tt
 text_built : (text : List ℕ) → ReadBuilt (reads is_built text)
 text_built text = by (is_too_long text)
   where
-    by : (b : Bool) → ReadBuilt (if b then Err (record { line = 0; kind = fault.TooLong }) else reads_text is_built (heads_of (lines text)) (lines text))
+    by : (b : Bool)
+        → ReadBuilt (if b then Err (record { line = 0; kind = fault.TooLong }) else reads_text is_built (whole_text is_built (lines text)) (lines text))
     by true = tt
-    by false = unless_built _ _ (built_text (heads_of (lines text)) (sayings is_built (heads_of (lines text)) (lines text)) (all_built is_built (heads_of (lines text)) (lines text)))
+    by false =
+        let whole : WholeText = whole_text is_built (lines text) in
+        unless_built _ _ (built_text whole.heads (sayings is_built whole (lines text)) (all_built is_built refl whole (lines text)))
 
 pub read_built : (text : List ℕ) (s : ScenarioOf) → reads is_built text ≡ Ok s → IsTrue (is_built_scenario s)
 read_built text s e = subst ReadBuilt e (text_built text)

@@ -15,7 +15,7 @@ use Rattle.sim_language.specs.Lines.{Word}
 use Rattle.sim_language.specs.Numbers.{literal, literal_within}
 use Rattle.sim_language.specs.Named.{Named, value_of}
 use Rattle.sim_language.specs.Shapes.{Context, shape}
-use Rattle.sim_language.specs.AnywhereInText.{ProcessLines}
+use Rattle.sim_language.specs.AnywhereInText.{WholeText}
 use Rattle.sim_language.specs.Sayings.{Says}
 use Rattle.sim_language.specs.Places.{LineInText, after_then}
 use Rattle.sim_language.specs.OrderFaults.{falls}
@@ -44,17 +44,21 @@ there_by_statement : (n : ℕ) (o : Option Stmt) → PortThere n (by_statement o
 there_by_statement n None = tt
 there_by_statement n (Some statement) = tt
 
-port_number : (heads : ProcessLines) (place : LineInText) (w : Word) (s : ScenarioOf) (n : ℕ) → GoodSlot heads place (record { role = Names sort.Port; word = w }) → Declared place.above.declared s → length s.setup.ports ≤ n → nat_lt (number_declared place.above.declared w) n ≡ true
-port_number heads place w s n good h fits =
-    let found = declared_is heads place.above.declared sort.Port w refl (sort_is heads place sort.Port w good) in
+port_number : (whole : WholeText) (place : LineInText) (w : Word) (s : ScenarioOf) (n : ℕ) → GoodSlot whole place (record { role = Names sort.Port; word = w })
+    → Declared place.above.declared s → length s.setup.ports ≤ n → nat_lt (number_declared place.above.declared w) n ≡ true
+port_number whole place w s n good h fits =
+    let found = declared_is whole.heads place.above.declared sort.Port w refl (sort_is whole place sort.Port w good) in
     let few = h.numbers w found.0 sort.Port found.1 found.2 in
     let all = h.sizes sort.Port in
     rw (number_is place.above.declared w found.0 found.1) (lt-ltb found.0.number n (omega arith))
 
-module _ (context : Context) (heads : ProcessLines) (place : LineInText) where
+module _ (context : Context) (whole : WholeText) (place : LineInText) where
   -- the port of an entry is one of n, where the lines above declare no more
-  pub port_there : (s : ScenarioOf) (n : ℕ) (f : Form) → Rule context [] (shape f) (λ slots. CleanLine heads place f slots → Declared place.above.declared s → length s.setup.ports ≤ n → PortThere n (added heads place f slots))
+  pub port_there : (s : ScenarioOf) (n : ℕ) (f : Form)
+      → Rule context [] (shape f) (λ slots. CleanLine whole place f slots → Declared place.above.declared s → length s.setup.ports ≤ n
+      → PortThere n (added whole.heads place f slots))
   port_there s n form.UntilTime = λ t clean h fits. tt
+  port_there s n form.UntilEvent = λ e m clean h fits. tt
   port_there s n form.Seed = λ t clean h fits. tt
   port_there s n form.Resource = λ r c clean h fits. tt
   port_there s n form.Priority = λ r c clean h fits. tt
@@ -67,10 +71,10 @@ module _ (context : Context) (heads : ProcessLines) (place : LineInText) where
   port_there s n form.Port = λ p k clean h fits. tt
   port_there s n form.Process = λ p ps clean h fits. tt
   port_there s n form.Start = λ p args clean h fits. tt
-  port_there s n form.After = λ k p m port v clean h fits. port_number heads place port s n clean.good.1.1.1.0 h fits
+  port_there s n form.After = λ k p m port v clean h fits. port_number whole place port s n clean.good.1.1.1.0 h fits
   port_there s n form.Poster = λ p clean h fits. tt
-  port_there s n form.Post = λ port v clean h fits. port_number heads place port s n clean.good.0 h fits
-  port_there s n f = rule_all context [] (shape f) (λ slots. CleanLine heads place f slots → Declared place.above.declared s → length s.setup.ports ≤ n → PortThere n (added heads place f slots)) (λ slots clean h fits. there_by_statement n (statement heads place f slots))
+  port_there s n form.Post = λ port v clean h fits. port_number whole place port s n clean.good.0 h fits
+  port_there s n f = rule_all context [] (shape f) (λ slots. CleanLine whole place f slots → Declared place.above.declared s → length s.setup.ports ≤ n → PortThere n (added whole.heads place f slots)) (λ slots clean h fits. there_by_statement n (statement whole.heads place f slots))
 
 -- ---- the order of a journal
 
@@ -89,21 +93,24 @@ order_after last w some order =
     let is : literal w ≡ Some (pos (natural_of w)) = literal_is (pos 0) (pos (2 ^ 62)) w refl refl some ∙ ap Some (sym (pos_nat_abs (literal_of w) parts.0)) in
     (is, λ m e. not_below m (natural_of w) (subst (λ o. falls o (Some (pos (natural_of w))) ≡ false) e (subst (λ o. falls last o ≡ false) is order)))
 
-pub order_fits : (context : Context) (heads : ProcessLines) (place : LineInText) (f : Form) → Rule context [] (shape f) (λ slots. CleanLine heads place f slots → OrderFits place.above.after (after_then (Says f slots) place.above.after) (added heads place f slots))
-order_fits context heads place form.UntilTime = λ t clean. refl
-order_fits context heads place form.Seed = λ n clean. refl
-order_fits context heads place form.Resource = λ n c clean. refl
-order_fits context heads place form.Priority = λ n c clean. refl
-order_fits context heads place form.Preemptive = λ n c clean. refl
-order_fits context heads place form.Container = λ n c o clean. refl
-order_fits context heads place form.Store = λ n c clean. refl
-order_fits context heads place form.PStore = λ n c clean. refl
-order_fits context heads place form.FStore = λ n c clean. refl
-order_fits context heads place form.Event = λ n clean. refl
-order_fits context heads place form.Port = λ n p clean. refl
-order_fits context heads place form.Process = λ n ws clean. refl
-order_fits context heads place form.Start = λ p args clean. refl
-order_fits context heads place form.After = λ k p n port v clean. order_after place.above.after k clean.good.0.number clean.order
-order_fits context heads place form.Poster = λ n clean. refl
-order_fits context heads place form.Post = λ port v clean. refl
-order_fits context heads place f = rule_all context [] (shape f) (λ slots. CleanLine heads place f slots → OrderFits place.above.after (after_then (Says f slots) place.above.after) (added heads place f slots)) (λ slots clean. order_by_statement place.above.after (statement heads place f slots))
+pub order_fits : (context : Context) (whole : WholeText) (place : LineInText) (f : Form)
+    → Rule context [] (shape f) (λ slots. CleanLine whole place f slots
+    → OrderFits place.above.after (after_then (Says f slots) place.above.after) (added whole.heads place f slots))
+order_fits context whole place form.UntilTime = λ t clean. refl
+order_fits context whole place form.UntilEvent = λ e n clean. refl
+order_fits context whole place form.Seed = λ n clean. refl
+order_fits context whole place form.Resource = λ n c clean. refl
+order_fits context whole place form.Priority = λ n c clean. refl
+order_fits context whole place form.Preemptive = λ n c clean. refl
+order_fits context whole place form.Container = λ n c o clean. refl
+order_fits context whole place form.Store = λ n c clean. refl
+order_fits context whole place form.PStore = λ n c clean. refl
+order_fits context whole place form.FStore = λ n c clean. refl
+order_fits context whole place form.Event = λ n clean. refl
+order_fits context whole place form.Port = λ n p clean. refl
+order_fits context whole place form.Process = λ n ws clean. refl
+order_fits context whole place form.Start = λ p args clean. refl
+order_fits context whole place form.After = λ k p n port v clean. order_after place.above.after k clean.good.0.number clean.order
+order_fits context whole place form.Poster = λ n clean. refl
+order_fits context whole place form.Post = λ port v clean. refl
+order_fits context whole place f = rule_all context [] (shape f) (λ slots. CleanLine whole place f slots → OrderFits place.above.after (after_then (Says f slots) place.above.after) (added whole.heads place f slots)) (λ slots clean. order_by_statement place.above.after (statement whole.heads place f slots))

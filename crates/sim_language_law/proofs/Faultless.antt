@@ -15,7 +15,7 @@ use Rattle.sim_language.specs.Faults.{applies, kinds_in_order, fault_by, fault_a
 
 -- what a faultless line of this form is not
 pub record Faultless (heads : ProcessLines) (place : LineInText) (f : Form) (slots : List Operand) : Type 0 where
-  pub header : orders.bad_header place.above place.line.words ≡ false
+  pub header : orders.bad_header place.above place.line ≡ false
   pub duplicate : names.duplicate place.above f slots ≡ false
   pub unknown : names.unknown_name heads place.above slots ≡ false
   pub kind : names.wrong_kind heads place.above f slots ≡ false
@@ -26,7 +26,7 @@ pub record Faultless (heads : ProcessLines) (place : LineInText) (f : Form) (slo
   pub order : orders.bad_order place.above f slots ≡ false
 
 -- nothing is found where nothing passes the test
-none_pass : {X : Type 0} (test : X → Bool) (xs : List X) → find test xs ≡ None → AllByRecursion (λ x. test x ≡ false) xs
+pub none_pass : {X : Type 0} (test : X → Bool) (xs : List X) → find test xs ≡ None → AllByRecursion (λ x. test x ≡ false) xs
 none_pass test [] h = tt
 none_pass test (x ∷ xs) h = by (test x) refl (none_pass test xs)
   where

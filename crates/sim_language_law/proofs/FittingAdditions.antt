@@ -11,6 +11,7 @@ use Rattle.sim_types.specs.declared.setup.Class.TheVariants as class
 use Rattle.sim_types.specs.declared.script.Stmt.{Stmt}
 use Rattle.sim_language.specs.declared.form.Form.{Form}
 use Rattle.sim_language.specs.declared.form.Form.TheVariants as form
+use Rattle.sim_language.specs.declared.form.Version.{Version}
 use Rattle.sim_language.specs.declared.shape.Role.TheVariants.{Declares, Parameter}
 use Rattle.sim_language.specs.Lines.{Word}
 use Rattle.sim_language.specs.Names.{is_spelled, is_name, is_reserved}
@@ -18,7 +19,7 @@ use Rattle.sim_language.specs.Numbers.{literal_within, greatest}
 use Rattle.sim_language.specs.Named.{Named}
 use Rattle.sim_language.specs.Parameters.{parameter_name, parameter_class}
 use Rattle.sim_language.specs.Shapes.{Context, shape, slot_of, capacity}
-use Rattle.sim_language.specs.AnywhereInText.{ProcessLines}
+use Rattle.sim_language.specs.AnywhereInText.{WholeText}
 use Rattle.sim_language.specs.Variables.{given_by}
 use Rattle.sim_language.specs.Places.{LineInText}
 use Rattle.sim_language.specs.Statements.{literal_of, statement}
@@ -26,7 +27,7 @@ use Rattle.sim_language.specs.Reads.{natural_of, capacity_of, classes_of, kind_o
 use Rattle.sim_types.specs.Setups.{is_within, resource_fits}
 use Rattle.sim_language.specs.WellFormed.{kind_fits}
 use Rattle.sim_language_law.proofs.ByShape.{Rule, rule_all}
-use Rattle.sim_language_law.proofs.Additions.{Added, TheUntil, TheSeed, AResource, APort, AKind, AnArrival, by_statement, added}
+use Rattle.sim_language_law.proofs.Additions.{Added, TheSeed, AResource, APort, AKind, AnArrival, by_statement, added}
 use Rattle.sim_language_law.proofs.CleanLines.{CleanLine}
 use Rattle.sim_language_law.proofs.Literals.{le_z_trans, literal_in, capacity_in, capacity_most, natural_in}
 
@@ -76,7 +77,6 @@ kind_fits_alone place n ws few = kind_fits_by (length (given_by (map (slot_of Pa
 -- ---- each form
 
 abbrev pub FitsAlone : Added → Type 0
-FitsAlone (TheUntil time) = is_within (pos 1) (pos (2 ^ 62)) time ≡ true
 FitsAlone (TheSeed n) = nat_lt n (2 ^ 63) ≡ true
 FitsAlone (AResource kind c o) = resource_fits (record { kind = kind; capacity = c; opening = o }) ≡ true
 FitsAlone (APort name kind) = is_spelled name ≡ true
@@ -88,24 +88,26 @@ alone_by_statement : (o : Option Stmt) → FitsAlone (by_statement o)
 alone_by_statement None = tt
 alone_by_statement (Some statement) = tt
 
-spelled : (w : Word) → not (is_name w) ≡ false → is_spelled w ≡ true
-spelled w h = (and_parts (is_spelled w) (not (is_reserved w)) (not-false (is_name w) h)).0
+spelled : (version : Version) (w : Word) → not (is_name version w) ≡ false → is_spelled w ≡ true
+spelled version w h = (and_parts (is_spelled w) (not (is_reserved version w)) (not-false (is_name version w) h)).0
 
-pub fits_alone : (context : Context) (heads : ProcessLines) (place : LineInText) (f : Form) → Rule context [] (shape f) (λ slots. CleanLine heads place f slots → FitsAlone (added heads place f slots))
-fits_alone context heads place form.UntilTime = λ t clean. literal_in (pos 1) (pos (2 ^ 62)) t refl refl clean.good.0.number
-fits_alone context heads place form.Seed = λ n clean. below (natural_of n) (2 ^ 63 - 1) (natural_to (2 ^ 63 - 1) n refl clean.good.0.number)
-fits_alone context heads place form.Resource = λ n c clean. and_from _ _ (literal_in (pos 1) (pos (2 ^ 32 - 1)) c refl refl clean.good.1.0.number) refl
-fits_alone context heads place form.Priority = λ n c clean. and_from _ _ (literal_in (pos 1) (pos (2 ^ 32 - 1)) c refl refl clean.good.1.0.number) refl
-fits_alone context heads place form.Preemptive = λ n c clean. and_from _ _ (literal_in (pos 1) (pos (2 ^ 32 - 1)) c refl refl clean.good.1.0.number) refl
-fits_alone context heads place form.Container = λ n c o clean. and_from _ _ (capacity_in (pos (2 ^ 62)) c refl clean.good.1.0.number) (opening_in c o clean.good.1.0.number clean.good.1.1.0.number)
-fits_alone context heads place form.Store = λ n c clean. and_from _ _ (capacity_in (pos (2 ^ 32)) c refl clean.good.1.0.number) refl
-fits_alone context heads place form.PStore = λ n c clean. and_from _ _ (capacity_in (pos (2 ^ 32)) c refl clean.good.1.0.number) refl
-fits_alone context heads place form.FStore = λ n c clean. and_from _ _ (capacity_in (pos (2 ^ 32)) c refl clean.good.1.0.number) refl
-fits_alone context heads place form.Event = λ n clean. tt
-fits_alone context heads place form.Port = λ n p clean. spelled n clean.good.0.name
-fits_alone context heads place form.Process = λ n ws clean. kind_fits_alone place n ws clean.form
-fits_alone context heads place form.Start = λ p args clean. tt
-fits_alone context heads place form.After = λ k p n port v clean. (natural_to (2 ^ 62) k refl clean.good.0.number, below (natural_of p) 15 (natural_to 15 p refl clean.good.1.0.number), below (natural_of n) 65535 (natural_to 65535 n refl clean.good.1.1.0.number))
-fits_alone context heads place form.Poster = λ n clean. tt
-fits_alone context heads place form.Post = λ port v clean. tt
-fits_alone context heads place f = rule_all context [] (shape f) (λ slots. CleanLine heads place f slots → FitsAlone (added heads place f slots)) (λ slots clean. alone_by_statement (statement heads place f slots))
+pub fits_alone : (context : Context) (whole : WholeText) (place : LineInText) (f : Form)
+    → Rule context [] (shape f) (λ slots. CleanLine whole place f slots → FitsAlone (added whole.heads place f slots))
+fits_alone context whole place form.UntilTime = λ t clean. tt
+fits_alone context whole place form.UntilEvent = λ e n clean. tt
+fits_alone context whole place form.Seed = λ n clean. below (natural_of n) (2 ^ 63 - 1) (natural_to (2 ^ 63 - 1) n refl clean.good.0.number)
+fits_alone context whole place form.Resource = λ n c clean. and_from _ _ (literal_in (pos 1) (pos (2 ^ 32 - 1)) c refl refl clean.good.1.0.number) refl
+fits_alone context whole place form.Priority = λ n c clean. and_from _ _ (literal_in (pos 1) (pos (2 ^ 32 - 1)) c refl refl clean.good.1.0.number) refl
+fits_alone context whole place form.Preemptive = λ n c clean. and_from _ _ (literal_in (pos 1) (pos (2 ^ 32 - 1)) c refl refl clean.good.1.0.number) refl
+fits_alone context whole place form.Container = λ n c o clean. and_from _ _ (capacity_in (pos (2 ^ 62)) c refl clean.good.1.0.number) (opening_in c o clean.good.1.0.number clean.good.1.1.0.number)
+fits_alone context whole place form.Store = λ n c clean. and_from _ _ (capacity_in (pos (2 ^ 32)) c refl clean.good.1.0.number) refl
+fits_alone context whole place form.PStore = λ n c clean. and_from _ _ (capacity_in (pos (2 ^ 32)) c refl clean.good.1.0.number) refl
+fits_alone context whole place form.FStore = λ n c clean. and_from _ _ (capacity_in (pos (2 ^ 32)) c refl clean.good.1.0.number) refl
+fits_alone context whole place form.Event = λ n clean. tt
+fits_alone context whole place form.Port = λ n p clean. spelled whole.version n clean.good.0.name
+fits_alone context whole place form.Process = λ n ws clean. kind_fits_alone place n ws clean.form
+fits_alone context whole place form.Start = λ p args clean. tt
+fits_alone context whole place form.After = λ k p n port v clean. (natural_to (2 ^ 62) k refl clean.good.0.number, below (natural_of p) 15 (natural_to 15 p refl clean.good.1.0.number), below (natural_of n) 65535 (natural_to 65535 n refl clean.good.1.1.0.number))
+fits_alone context whole place form.Poster = λ n clean. tt
+fits_alone context whole place form.Post = λ port v clean. tt
+fits_alone context whole place f = rule_all context [] (shape f) (λ slots. CleanLine whole place f slots → FitsAlone (added whole.heads place f slots)) (λ slots clean. alone_by_statement (statement whole.heads place f slots))

@@ -4,25 +4,22 @@
 use Rattle.std.specs.Prelude.{◌≡◌, refl, ℕ, ◌+◌, ◌≤◌, ◌<◌, ◌^◌, Bool, true, false, ◌&&◌, ◌==◌, nat_le, nat_lt, List, [], ◌∷◌, ◌++◌, length}
 use Rattle.std.specs.List.{list_all}
 use Rattle.std.proofs.Common.{arith}
-use Rattle.std.proofs.lemmas.Bool.{ltb-false, leb-true, le-leb, and_parts, and_from}
+use Rattle.std.proofs.lemmas.Bool.{ltb-false, leb-true, and_parts}
 use Rattle.std.proofs.lemmas.List.{length_push}
 use Rattle.std.proofs.lemmas.List.Folds.{list_all-append}
 use Rattle.sim_types.specs.Scenarios.{ScenarioOf}
-use Rattle.sim_types.specs.Setups.{until_fits, resource_fits}
-use Rattle.sim_types.specs.declared.setup.Until.{Until}
-use Rattle.sim_types.specs.declared.setup.Until.TheVariants as until
+use Rattle.sim_types.specs.Setups.{resource_fits}
 use Rattle.sim_types.specs.declared.script.Kind.{Kind}
 use Rattle.sim_language.specs.Names.{is_spelled}
 use Rattle.sim_language.specs.Reads.{nothing_said}
 use Rattle.sim_language.specs.WellFormed.{kind_fits}
-use Rattle.sim_language_law.proofs.Additions.{Added, TheUntil, TheSeed, AResource, AnEvent, APort, AKind, AStart, put_in}
+use Rattle.sim_language_law.proofs.Additions.{Added, TheSeed, AResource, APort, AKind, AStart, put_in}
 use Rattle.sim_language_law.proofs.FittingAdditions.{FitsAlone}
 
 pub list_all_push : {X : Type 0} (test : X → Bool) (xs : List X) (x : X) → list_all test xs ≡ true → test x ≡ true → list_all test (xs ++ x ∷ []) ≡ true
 list_all_push test xs x h e = rw (list_all-append test xs (x ∷ []), h, e) refl
 
 pub record Alone (n : ℕ) (s : ScenarioOf) : Type 0 where
-  pub until : until_fits s.setup.events s.setup.until ≡ true
   pub seed : nat_lt s.seed (2 ^ 63) ≡ true
   pub resources : list_all resource_fits s.setup.resources ≡ true
   pub kinds : list_all kind_fits s.kinds ≡ true
@@ -32,26 +29,12 @@ pub record Alone (n : ℕ) (s : ScenarioOf) : Type 0 where
   pub few : length s.setup.starts ≤ 65536
 
 pub alone_nothing : Alone 1 nothing_said
-alone_nothing = record { until = refl; seed = refl; resources = refl; kinds = refl; names = refl; named = refl; starts = omega arith; few = omega arith }
+alone_nothing = record { seed = refl; resources = refl; kinds = refl; names = refl; named = refl; starts = omega arith; few = omega arith }
 
 pub alone_later : (n : ℕ) (s : ScenarioOf) → Alone n s → Alone (n + 1) s
-alone_later n s h = record { until = h.until; seed = h.seed; resources = h.resources; kinds = h.kinds; names = h.names; named = h.named; starts = omega arith; few = h.few }
+alone_later n s h = record { seed = h.seed; resources = h.resources; kinds = h.kinds; names = h.names; named = h.named; starts = omega arith; few = h.few }
 
 -- ---- one thing more
-
--- what fits so many named events fits one more
-one_event_more : (named : ℕ) (u : Until) → until_fits named u ≡ true → until_fits (named + 1) u ≡ true
-one_event_more named until.Never h = refl
-one_event_more named (until.At time) h = h
-one_event_more named (until.Event e) h =
-    let parts = and_parts (nat_lt 0 e.0) (nat_le e.0 named) h in
-    let below = leb-true e.0 named parts.1 in
-    and_from (nat_lt 0 e.0) _ parts.0 (le-leb e.0 (named + 1) (omega arith))
-
-until_put : (a : Added) (s : ScenarioOf) → FitsAlone a → until_fits s.setup.events s.setup.until ≡ true → until_fits (put_in a s).setup.events (put_in a s).setup.until ≡ true
-until_put (TheUntil time) s fits h = fits
-until_put AnEvent s fits h = one_event_more s.setup.events s.setup.until h
-until_put a s fits h = h
 
 seed_put : (a : Added) (s : ScenarioOf) → FitsAlone a → nat_lt s.seed (2 ^ 63) ≡ true → nat_lt (put_in a s).seed (2 ^ 63) ≡ true
 seed_put (TheSeed n) s fits h = fits
@@ -82,7 +65,6 @@ alone_line n a s low fits h =
     let most = ltb-false 65536 n low in
     let more = starts_put a s in
     record {
-      until = until_put a s fits h.until;
       seed = seed_put a s fits h.seed;
       resources = resources_put a s fits h.resources;
       kinds = kinds_put a s fits h.kinds;

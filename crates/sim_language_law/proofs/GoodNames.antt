@@ -12,7 +12,7 @@ use Rattle.sim_language.specs.declared.shape.Role.TheVariants.{Names}
 use Rattle.sim_language.specs.Lines.{Word}
 use Rattle.sim_language.specs.Named.{Named, value_of, is_named}
 use Rattle.sim_language.specs.Forms.{declares_sort, same_sort}
-use Rattle.sim_language.specs.AnywhereInText.{ProcessLines}
+use Rattle.sim_language.specs.AnywhereInText.{ProcessLines, WholeText}
 use Rattle.sim_language.specs.Declarations.{sort_of, sort_by}
 use Rattle.sim_language.specs.Places.{LineInText}
 use Rattle.sim_language.specs.NameFaults.{is_other}
@@ -29,10 +29,12 @@ wanted : (o : Sort) (found : Option Sort) → is_none found ≡ false → is_oth
 wanted o None known other = absurd (true≢false known)
 wanted o (Some p) known other = ap Some (sym (same_sort_is o p (not-false (same_sort o p) other)))
 
-pub sort_is : (heads : ProcessLines) (place : LineInText) (o : Sort) (w : Word) → GoodSlot heads place (record { role = Names o; word = w }) → sort_of heads place.above.declared w ≡ Some o
-sort_is heads place o w good = wanted o (sort_of heads place.above.declared w) good.known good.sort
+pub sort_is : (whole : WholeText) (place : LineInText) (o : Sort) (w : Word) → GoodSlot whole place (record { role = Names o; word = w })
+    → sort_of whole.heads place.above.declared w ≡ Some o
+sort_is whole place o w good = wanted o (sort_of whole.heads place.above.declared w) good.known good.sort
 
-pub declared_is : (heads : ProcessLines) (ds : List (Named Meaning)) (o : Sort) (w : Word) → same_sort sort.Process o ≡ false → sort_of heads ds w ≡ Some o → (d : Meaning) × (value_of w ds ≡ Some d) × (declares_sort d.form ≡ Some o)
+pub declared_is : (heads : ProcessLines) (ds : List (Named Meaning)) (o : Sort) (w : Word) → same_sort sort.Process o ≡ false → sort_of heads ds w ≡ Some o
+    → (d : Meaning) × (value_of w ds ≡ Some d) × (declares_sort d.form ≡ Some o)
 declared_is heads ds o w other h = by (value_of w ds) refl h
   where
     as_head : (b : Bool) → sort_by None b ≡ Some o → same_sort sort.Process o ≡ true

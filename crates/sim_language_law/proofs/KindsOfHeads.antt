@@ -1,5 +1,4 @@
 -- The process kinds of a faultless text, found by the names of its process lines.
---     HeadsOf heads ls        the process lines of the text are these
 --     KindsFit heads t        each name of a process is that of a kind with the classes of its parameters
 --     kinds_of_heads          so it is for a faultless text
 use Rattle.std.specs.Prelude.{◌≡◌, refl, ℕ, zero, suc, ◌≤◌, Bool, true, false, if◌then◌else◌, List, [], ◌∷◌, map, length, drop, codes, Some, option_map, unwrap_or, slice_get}
@@ -26,11 +25,8 @@ use Rattle.sim_language_law.proofs.Walking.{passed}
 use Rattle.sim_language_law.proofs.FittingSetup.{kind_params}
 use Rattle.sim_language_law.proofs.NamesApart.{all_append, with_all_apart, Apart}
 use Rattle.sim_language_law.proofs.NamedLists.{place_value}
-use Rattle.sim_language_law.proofs.ProcessHeads.{ProcessHeads, head_said, heads_said, heads_passed}
-
-pub record HeadsOf (heads : ProcessLines) (ls : List TextLine) : Type 0 where
-  -- each process by the first line that declares it
-  pub first : heads ≡ with_all [] (heads_said ls)
+use Rattle.sim_language_law.proofs.ProcessHeads.{ProcessHeads, heads_passed}
+use Rattle.sim_language_law.proofs.SaidAnywhere.{head_said, heads_said}
 
 -- a class that a parameter can have
 abbrev pub is_parameter_class : Class → Bool
@@ -100,11 +96,12 @@ kinds_fit_by heads t same_classes fits plain = record {
 
 -- ---- a faultless text
 
-pub heads_are : (heads : ProcessLines) (ls : List TextLine) (s : ScenarioOf) → HeadsOf heads ls → ProcessHeads (passed [] ls) s → heads ≡ heads_said ls
-heads_are heads ls s of h = of.first ∙ with_all_apart [] (heads_said ls) (subst (λ hs. Apart [] hs) (heads_passed [] ls) h.apart)
+pub heads_are : (heads : ProcessLines) (ls : List TextLine) (s : ScenarioOf) → heads ≡ with_all [] (heads_said ls) → ProcessHeads (passed [] ls) s
+    → heads ≡ heads_said ls
+heads_are heads ls s first h = first ∙ with_all_apart [] (heads_said ls) (subst (λ hs. Apart [] hs) (heads_passed [] ls) h.apart)
 
-pub kinds_of_heads : (heads : ProcessLines) (ls : List TextLine) (t : ScenarioOf) → HeadsOf heads ls → ProcessHeads (passed [] ls) t → list_all kind_fits t.kinds ≡ true → KindsFit heads t
-kinds_of_heads heads ls t of h fits =
-    let are = heads_are heads ls t of h in
+pub kinds_of_heads : (heads : ProcessLines) (ls : List TextLine) (t : ScenarioOf)
+    → heads ≡ heads_said ls → ProcessHeads (passed [] ls) t → list_all kind_fits t.kinds ≡ true → KindsFit heads t
+kinds_of_heads heads ls t are h fits =
     let same_classes : map parameter_classes t.kinds ≡ map (λ head. head.value) heads = h.classes ∙ ap (map (λ head. head.value)) (heads_passed [] ls ∙ sym are) in
     kinds_fit_by heads t same_classes fits (subst (λ hs. AllByRecursion (λ head. list_all is_parameter_class head.value ≡ true) hs) (sym are) (plain_heads ls))

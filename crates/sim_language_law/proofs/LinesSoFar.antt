@@ -15,7 +15,7 @@ use Rattle.sim_language.specs.Named.{is_named, value_of}
 use Rattle.sim_language.specs.Forms.{declares_sort}
 use Rattle.sim_language.specs.declared.shape.Role.TheVariants.{Declares, Parameter}
 use Rattle.sim_language.specs.Shapes.{Operand, slot_of}
-use Rattle.sim_language.specs.AnywhereInText.{ProcessLines}
+use Rattle.sim_language.specs.AnywhereInText.{WholeText}
 use Rattle.sim_language.specs.Blocks.{statements}
 use Rattle.sim_language.specs.Sayings.{TextLine, Saying, Blank, Wrong, Says}
 use Rattle.sim_language.specs.Declarations.{declared, with_declared}
@@ -39,40 +39,48 @@ use Rattle.sim_language_law.proofs.ProcessHeads.{ProcessHeads, heads_nothing, he
 
 -- ---- a line of these operands
 
-module _ (heads : ProcessLines) (place : LineInText) (f : Form) (slots : List Operand) (clean : CleanLine heads place f slots) where
-  pub told_line : Told f (added heads place f slots)
-  told_line = of_shape heads place f slots clean (λ more. Told f (added heads place f more)) (told clean.fits.fits.context heads place f)
+module _ (whole : WholeText) (place : LineInText) (f : Form) (slots : List Operand) (clean : CleanLine whole place f slots) where
+  pub told_line : Told f (added whole.heads place f slots)
+  told_line = of_shape whole place f slots clean (λ more. Told f (added whole.heads place f more)) (told clean.fits.fits.context whole.heads place f)
 
-  pub alone_fits : FitsAlone (added heads place f slots)
-  alone_fits = of_shape heads place f slots clean (λ more. CleanLine heads place f more → FitsAlone (added heads place f more)) (fits_alone clean.fits.fits.context heads place f) clean
+  pub alone_fits : FitsAlone (added whole.heads place f slots)
+  alone_fits = of_shape whole place f slots clean (λ more. CleanLine whole place f more → FitsAlone (added whole.heads place f more)) (fits_alone clean.fits.fits.context whole place f) clean
 
   pub grown_line : Grown f (declares_sort f) place.above.declared (with_declared place.above.declared f (declares_sort f) slots)
-  grown_line = of_shape heads place f slots clean (λ more. list_any (declares_again place.above) more ≡ false → Grown f (declares_sort f) place.above.declared (with_declared place.above.declared f (declares_sort f) more)) (grown clean.fits.fits.context place.above f) clean.again
+  grown_line = of_shape whole place f slots clean (λ more. list_any (declares_again place.above) more ≡ false → Grown f (declares_sort f) place.above.declared (with_declared place.above.declared f (declares_sort f) more)) (grown clean.fits.fits.context place.above f) clean.again
 
-  pub ports_there : (s : ScenarioOf) (n : ℕ) → Declared place.above.declared s → length s.setup.ports ≤ n → PortThere n (added heads place f slots)
-  ports_there s n = of_shape heads place f slots clean (λ more. CleanLine heads place f more → Declared place.above.declared s → length s.setup.ports ≤ n → PortThere n (added heads place f more)) (port_there clean.fits.fits.context heads place s n f) clean
+  pub ports_there : (s : ScenarioOf) (n : ℕ) → Declared place.above.declared s → length s.setup.ports ≤ n → PortThere n (added whole.heads place f slots)
+  ports_there s n = of_shape whole place f slots clean (λ more. CleanLine whole place f more → Declared place.above.declared s → length s.setup.ports ≤ n → PortThere n (added whole.heads place f more)) (port_there clean.fits.fits.context whole place s n f) clean
 
-  pub order_kept : OrderFits place.above.after (after_then (Says f slots) place.above.after) (added heads place f slots)
-  order_kept = of_shape heads place f slots clean (λ more. CleanLine heads place f more → OrderFits place.above.after (after_then (Says f more) place.above.after) (added heads place f more)) (order_fits clean.fits.fits.context heads place f) clean
+  pub order_kept : OrderFits place.above.after (after_then (Says f slots) place.above.after) (added whole.heads place f slots)
+  order_kept = of_shape whole place f slots clean (λ more. CleanLine whole place f more → OrderFits place.above.after (after_then (Says f more) place.above.after) (added whole.heads place f more)) (order_fits clean.fits.fits.context whole place f) clean
 
 -- ---- the process lines behind a line
 
-heads_line : (heads : ProcessLines) (n : ℕ) (above : List TextLine) (ws : List Word) (f : Form) (slots : List Operand) (below : List TextLine) (s : ScenarioOf) → CleanLine heads (place_at n above (line ws (Says f slots)) below) f slots → ProcessHeads above s → ProcessHeads (line ws (Says f slots) ∷ above) (put_in (added heads (place_at n above (line ws (Says f slots)) below) f slots) s)
-heads_line heads n above ws form.Process slots below s clean h =
-    of_shape heads (place_at n above (line ws (Says form.Process slots)) below) form.Process slots clean
-    (λ more. CleanLine heads (place_at n above (line ws (Says form.Process more)) below) form.Process more → ProcessHeads (line ws (Says form.Process more) ∷ above) (put_in (added heads (place_at n above (line ws (Says form.Process more)) below) form.Process more) s))
-    (λ name params fine. process name params fine)
-    clean
+heads_line : (whole : WholeText) (n : ℕ) (above : List TextLine) (ws : List Word) (f : Form) (slots : List Operand) (below : List TextLine) (s : ScenarioOf)
+    → CleanLine whole (place_at n above (line ws (Says f slots)) below) f slots → ProcessHeads above s
+    → ProcessHeads (line ws (Says f slots) ∷ above) (put_in (added whole.heads (place_at n above (line ws (Says f slots)) below) f slots) s)
+heads_line whole n above ws form.Process slots below s clean h = of_shape whole (place slots) form.Process slots clean (λ more. CleanLine whole (place more) form.Process more → Behind more) process clean
   where
-    process : (name : Word) (params : List Word) → CleanLine heads (place_at n above (line ws (Says form.Process (slot_of Declares name ∷ map (slot_of Parameter) params))) below) form.Process (slot_of Declares name ∷ map (slot_of Parameter) params)
-        → ProcessHeads (line ws (Says form.Process (slot_of Declares name ∷ map (slot_of Parameter) params)) ∷ above) (put_in (added heads (place_at n above (line ws (Says form.Process (slot_of Declares name ∷ map (slot_of Parameter) params))) below) form.Process (slot_of Declares name ∷ map (slot_of Parameter) params)) s)
+    place : List Operand → LineInText
+    place more = place_at n above (line ws (Says form.Process more)) below
+
+    Behind : List Operand → Type 0
+    Behind more = ProcessHeads (line ws (Says form.Process more) ∷ above) (put_in (added whole.heads (place more) form.Process more) s)
+
+    operands : Word → List Word → List Operand
+    operands name params = slot_of Declares name ∷ map (slot_of Parameter) params
+
+    process : (name : Word) (params : List Word) → CleanLine whole (place (operands name params)) form.Process (operands name params)
+        → Behind (operands name params)
     process name params fine =
-        let more : List Operand = slot_of Declares name ∷ map (slot_of Parameter) params in
-        let place : LineInText = place_at n above (line ws (Says form.Process more)) below in
-        heads_process above ws name params (kind_of place more) s (or_parts (is_named name (declared above)) _ fine.again).0 (kind_classes name params below (statements above) fine.repeats (kind_params (kind_of place more) (alone_fits heads place form.Process more fine))) h
-heads_line heads n above ws f slots below s clean h =
+        let more : List Operand = operands name params in
+        let few = kind_params (kind_of (place more) more) (alone_fits whole (place more) form.Process more fine) in
+        let classes = kind_classes name params below (statements above) fine.repeats few in
+        heads_process above ws name params (kind_of (place more) more) s (or_parts (is_named name (declared above)) _ fine.again).0 classes h
+heads_line whole n above ws f slots below s clean h =
     let place : LineInText = place_at n above (line ws (Says f slots)) below in
-    heads_other above ws f slots (added heads place f slots) s refl (told_line heads place f slots clean) (grown_line heads place f slots clean) h
+    heads_other above ws f slots (added whole.heads place f slots) s refl (told_line whole place f slots clean) (grown_line whole place f slots clean) h
 
 -- ---- lines that say nothing
 
@@ -123,31 +131,35 @@ so_far_quiet final n above ws saying s quiet h = record {
   heads = heads_quiet above ws saying s quiet h.heads;
 }
 
-module _ (heads : ProcessLines) (end : Option Fault) (final : ScenarioOf) where
-  pub grows : (n : ℕ) (above : List TextLine) (ws : List Word) (f : Form) (slots : List Operand) (below : List TextLine) (s : ScenarioOf) → Passing heads end final n above ws f slots below s → Grows s final
-  grows n above ws f slots below s passing = subst (λ t. Grows s t) passing.ahead (grows_lines heads (places n above (line ws (Says f slots) ∷ below)) s)
+module _ (whole : WholeText) (end : Option Fault) (final : ScenarioOf) where
+  pub grows : (n : ℕ) (above : List TextLine) (ws : List Word) (f : Form) (slots : List Operand) (below : List TextLine) (s : ScenarioOf)
+      → Passing whole end final n above ws f slots below s → Grows s final
+  grows n above ws f slots below s passing = subst (λ t. Grows s t) passing.ahead (grows_lines whole.heads (places n above (line ws (Says f slots) ∷ below)) s)
 
-  pub so_far_line : (n : ℕ) (above : List TextLine) (ws : List Word) (f : Form) (slots : List Operand) (below : List TextLine) (s : ScenarioOf) → Passing heads end final n above ws f slots below s → SoFar final n above s → SoFar final (n + 1) (line ws (Says f slots) ∷ above) (put_in (added heads (place_at n above (line ws (Says f slots)) below) f slots) s)
+  pub so_far_line : (n : ℕ) (above : List TextLine) (ws : List Word) (f : Form) (slots : List Operand) (below : List TextLine) (s : ScenarioOf)
+      → Passing whole end final n above ws f slots below s → SoFar final n above s
+      → SoFar final (n + 1) (line ws (Says f slots) ∷ above) (put_in (added whole.heads (place_at n above (line ws (Says f slots)) below) f slots) s)
   so_far_line n above ws f slots below s passing h =
       let place : LineInText = place_at n above (line ws (Says f slots)) below in
       let clean = passing.clean in
-      let a : Added = added heads place f slots in
-      let by_form = told_line heads place f slots clean in
-      let fits = alone_fits heads place f slots clean in
-      let there = ports_there heads place f slots clean s (length final.setup.ports) h.declared (grows n above ws f slots below s passing).ports in
+      let a : Added = added whole.heads place f slots in
+      let by_form = told_line whole place f slots clean in
+      let fits = alone_fits whole place f slots clean in
+      let there = ports_there whole place f slots clean s (length final.setup.ports) h.declared (grows n above ws f slots below s passing).ports in
       record {
-        declared = declared_line f a place.above _ s by_form clean.sorts (grown_line heads place f slots clean) h.declared;
+        declared = declared_line f a place.above _ s by_form clean.sorts (grown_line whole place f slots clean) h.declared;
         alone = alone_line n a s clean.number fits h.alone;
-        entries = entries_line above ws f slots a final s by_form clean.form fits there (order_kept heads place f slots clean) h.entries;
-        heads = heads_line heads n above ws f slots below s clean h.heads;
+        entries = entries_line above ws f slots a final s by_form clean.form fits there (order_kept whole place f slots clean) h.entries;
+        heads = heads_line whole n above ws f slots below s clean h.heads;
       }
 
-  steps : Steps heads end final (λ n above below s. SoFar final n above s)
+  steps : Steps whole end final (λ n above below s. SoFar final n above s)
   steps = record {
     blank = λ n above ws below s h. so_far_quiet final n above ws Blank s tt h;
     wrong = λ n above ws kind below s h. so_far_quiet final n above ws (Wrong kind) s tt h;
     says = λ n above ws f slots below s passing h. so_far_line n above ws f slots below s passing h;
   }
 
-  pub so_far : (ls : List TextLine) → AllAmong heads ls → first_fault heads (places 1 [] ls) end ≡ None → with_lines heads nothing_said (places 1 [] ls) ≡ final → SoFar final (1 + length ls) (passed [] ls) final
-  so_far ls among clean ahead = by_lines heads end final (λ n above below s. SoFar final n above s) steps ls 1 [] nothing_said among clean ahead (so_far_nothing final)
+  pub so_far : (ls : List TextLine) → AllAmong whole ls → first_fault whole.heads (places 1 [] ls) end ≡ None
+      → with_lines whole.heads nothing_said (places 1 [] ls) ≡ final → SoFar final (1 + length ls) (passed [] ls) final
+  so_far ls among clean ahead = by_lines whole end final (λ n above below s. SoFar final n above s) steps ls 1 [] nothing_said among clean ahead (so_far_nothing final)

@@ -60,6 +60,7 @@ module _ (heads : ProcessLines) (place : LineInText) (n : ℕ) (blocks : List Bl
   makes form.NewGet (x ∷ r ∷ a ∷ more) fit placed here new = by_parts _ refl refl refl refl
   makes form.Cancel (x ∷ []) fit placed here new = by_parts _ refl refl refl refl
   makes form.Log (a ∷ []) fit placed here new = by_parts _ refl refl refl refl
+  makes form.Chain (e ∷ f ∷ []) fit placed here new = by_parts _ refl refl refl refl
   makes form.Draw (x ∷ lo ∷ hi ∷ []) fit placed here new = by_parts _ refl refl refl refl
   makes form.With (x ∷ r ∷ more) fit placed here new = by_parts _ refl (ap not new.1) refl refl
   makes form.Loop [] fit placed here new = by_parts _ refl refl refl refl

@@ -1,7 +1,7 @@
 -- Lists of things with names, as they grow.
 use Rattle.std.specs.Prelude.{◌≡◌, refl, ℕ, zero, suc, Bool, true, false, if◌then◌else◌, List, [], ◌∷◌, ◌++◌, Option, Some, None, is_some, option_map, map, slice_get}
 use Rattle.std.proofs.Common.{arith, sym, ap, ◌∙◌, ◌⊎◌, inl, inr}
-use Rattle.std.proofs.lemmas.Bool.{true≢false, false≢true}
+use Rattle.std.proofs.lemmas.Bool.{false≢true}
 use Rattle.std.proofs.lemmas.Option.{none-some, same_Some}
 use Rattle.std.proofs.lemmas.Slice.Eq.{bytes_eq-Decides}
 use Rattle.sim_language.specs.Lines.{Word, same}
@@ -30,13 +30,6 @@ value_of_behind w (n ∷ ns) ms h = by (same w n.name) h (value_of_behind w ns m
     by : (b : Bool) → (if b then Some n.value else value_of w ns) ≡ None → (value_of w ns ≡ None → value_of w (ns ++ ms) ≡ value_of w ms) → (if b then Some n.value else value_of w (ns ++ ms)) ≡ value_of w ms
     by true e rest = absurd (none-some n.value (sym e))
     by false e rest = rest e
-
-pub not_named : {A : Type 0} (w : Word) (ns : List (Named A)) → is_named w ns ≡ false → value_of w ns ≡ None
-not_named w ns h = by (value_of w ns) h
-  where
-    by : {A : Type 0} (o : Option A) → is_some o ≡ false → o ≡ None
-    by None h = refl
-    by (Some v) h = absurd (true≢false h)
 
 -- a thing of the name is one of the first, or the last
 pub value_of_push : {A : Type 0} (w : Word) (ns : List (Named A)) (n : Named A) (v : A) → value_of w (ns ++ n ∷ []) ≡ Some v → (value_of w ns ≡ Some v) ⊎ ((same w n.name ≡ true) × (n.value ≡ v))

@@ -1,5 +1,4 @@
 -- The process lines of a faultless text: all of different names, and one process kind for each.
---     heads_said ls                the process lines among these, each with the classes of its parameters
 --     ProcessHeads above s         the kinds that lines above say are those of the process lines above
 --     heads_nothing, heads_line    so it is at the start, and behind each line
 use Rattle.std.specs.Prelude.{◌≡◌, refl, ℕ, ◌≤◌, true, false, List, [], ◌∷◌, ◌++◌, map, length, take, replicate, Some, is_some}
@@ -22,12 +21,13 @@ use Rattle.sim_language.specs.Parameters.{parameter_class}
 use Rattle.sim_language.specs.Forms.{is_process, declares_sort}
 use Rattle.sim_language.specs.Shapes.{Operand, slot_of}
 use Rattle.sim_language.specs.AnywhereInText.{ProcessLines}
-use Rattle.sim_language.specs.Sayings.{TextLine, Saying, Says}
+use Rattle.sim_language.specs.Sayings.{TextLine, Says}
 use Rattle.sim_language.specs.Declarations.{declared, count_of}
 use Rattle.sim_language.specs.Variables.{given_by, given_below, variables_of}
 use Rattle.sim_language.specs.NameFaults.{repeats}
 use Rattle.sim_language.specs.Reads.{nothing_said, classes_of}
 use Rattle.sim_language_law.proofs.Walking.{passed}
+use Rattle.sim_language_law.proofs.SaidAnywhere.{head_said, heads_said}
 use Rattle.sim_language_law.proofs.LineByLine.{line}
 use Rattle.sim_language_law.proofs.FittingAdditions.{parameter_of, given_by_parameters}
 use Rattle.sim_language_law.proofs.Additions.{Added, AKind, put_in}
@@ -37,14 +37,6 @@ use Rattle.sim_language_law.proofs.NamedLists.{value_of_push, named_value, named
 use Rattle.sim_language_law.proofs.NamesApart.{Apart, apart_push, with_all_apart, with_all_append, with_all_fresh, fresh, repeats_apart}
 
 -- ---- process lines
-
-abbrev pub head_said : Saying → ProcessLines
-head_said (Says form.Process (name ∷ params)) = record { name = name.word; value = map (λ p. parameter_class p.word) params } ∷ []
-head_said other = []
-
-abbrev pub heads_said : List TextLine → ProcessLines
-heads_said [] = []
-heads_said (l ∷ ls) = head_said l.saying ++ heads_said ls
 
 -- those above a line, the nearest first
 abbrev pub heads_above : List TextLine → ProcessLines
@@ -93,11 +85,11 @@ heads_nothing = record { apart = tt; named = λ w h. absurd (true≢false (sym h
 
 -- ---- another line
 
-no_head : (f : Form) (slots : List Operand) → is_process f ≡ false → head_said (Says f slots) ≡ []
+pub no_head : (f : Form) (slots : List Operand) → is_process f ≡ false → head_said (Says f slots) ≡ []
 no_head form.Process slots h = absurd (true≢false h)
 no_head f slots h = refl
 
-declares_process : (f : Form) → declares_sort f ≡ Some sort.Process → is_process f ≡ true
+pub declares_process : (f : Form) → declares_sort f ≡ Some sort.Process → is_process f ≡ true
 declares_process form.Process h = refl
 declares_process f h = absurd cc
 

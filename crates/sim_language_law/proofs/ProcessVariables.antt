@@ -19,7 +19,7 @@ use Rattle.sim_language.specs.Lines.{Word, same}
 use Rattle.sim_language.specs.Named.{Named, value_of, is_named, place_of}
 use Rattle.sim_language.specs.Forms.{declares_sort, is_process, is_end}
 use Rattle.sim_language.specs.Shapes.{Operand}
-use Rattle.sim_language.specs.AnywhereInText.{ProcessLines}
+use Rattle.sim_language.specs.AnywhereInText.{WholeText}
 use Rattle.sim_language.specs.Sayings.{TextLine, Saying, Blank, Wrong, Says}
 use Rattle.sim_language.specs.Declarations.{declared, is_event, is_of_sort}
 use Rattle.sim_language.specs.Variables.{given_by, given_below, ends_process, deep_behind, variables_at, variables_of, variable_number}
@@ -107,37 +107,45 @@ variables_other above ws form.Process slots below h = absurd (true≢false h)
 variables_other above ws f slots below h = refl
 
 -- a line of a process gives variables of such names
-line_given : (heads : ProcessLines) (n : ℕ) (above : List TextLine) (ws : List Word) (f : Form) (slots : List Operand) (below : List TextLine) (vs : List (Named Class)) → CleanLine heads (place_at n above (line ws (Says f slots)) below) f slots → variables_at (line ws (Says f slots) ∷ above) below ≡ vs → AllByRecursion (GoodName vs (declared above)) (given_by slots)
-line_given heads n above ws f slots below vs clean same =
+line_given : (whole : WholeText) (n : ℕ) (above : List TextLine) (ws : List Word) (f : Form) (slots : List Operand) (below : List TextLine)
+    → (vs : List (Named Class)) → CleanLine whole (place_at n above (line ws (Says f slots)) below) f slots
+    → variables_at (line ws (Says f slots) ∷ above) below ≡ vs
+    → AllByRecursion (GoodName vs (declared above)) (given_by slots)
+line_given whole n above ws f slots below vs clean same =
     line_good (declared above) vs (given_by slots) (none_of (λ v. nat_le 64 (variable_number vs v.name)) (given_by slots) (subst (λ us. gives_too_many us slots ≡ false) same clean.variables)) (none_of (λ v. is_event (declared above) v.name) (given_by slots) clean.hides)
 
 weaker_names : (vs : List (Named Class)) (f : Form) (o : Option Sort) (ds es : List (Named Meaning)) (given : List (Named Class)) → Grown f o ds es → AllByRecursion (GoodName vs es) given → AllByRecursion (GoodName vs ds) given
 weaker_names vs f o ds es given more all = all_weaker (GoodName vs es) (GoodName vs ds) given (λ v good. (good.0, events_before f o ds es v.name more good.1)) all
 
-module _ (heads : ProcessLines) (end : Option Fault) where
+module _ (whole : WholeText) (end : Option Fault) where
   -- where the line does not end the process
-  given_then : (n : ℕ) (above : List TextLine) (deep : ℕ) (ws : List Word) (f : Form) (slots : List Operand) (below : List TextLine) (vs : List (Named Class)) → FitsAmong heads f slots → first_fault heads (places n above (line ws (Says f slots) ∷ below)) end ≡ None → variables_at above (line ws (Says f slots) ∷ below) ≡ vs
+  given_then : (n : ℕ) (above : List TextLine) (deep : ℕ) (ws : List Word) (f : Form) (slots : List Operand) (below : List TextLine) (vs : List (Named Class))
+      → FitsAmong whole f slots → first_fault whole.heads (places n above (line ws (Says f slots) ∷ below)) end ≡ None
+      → variables_at above (line ws (Says f slots) ∷ below) ≡ vs
       → ((d : ℕ) → variables_at (line ws (Says f slots) ∷ above) below ≡ vs → AllByRecursion (GoodName vs (declared (line ws (Says f slots) ∷ above))) (given_below d below))
       → AllByRecursion (GoodName vs (declared above)) (given_below deep (line ws (Says f slots) ∷ below))
   given_then n above deep ws f slots below vs fits clean same rest = by (ends_process deep f) refl
     where
-      here : CleanLine heads (place_at n above (line ws (Says f slots)) below) f slots
-      here = first_clean heads end n above ws f slots below fits clean
+      here : CleanLine whole (place_at n above (line ws (Says f slots)) below) f slots
+      here = first_clean whole end n above ws f slots below fits clean
 
       by : (b : Bool) → ends_process deep f ≡ b → AllByRecursion (GoodName vs (declared above)) (if b then [] else given_by slots ++ given_below (deep_behind deep f) below)
       by true e = tt
       by false e =
           let stays = variables_other above ws f slots below (goes_on deep f e) ∙ same in
           all_append (GoodName vs (declared above)) (given_by slots) (given_below (deep_behind deep f) below)
-          (line_given heads n above ws f slots below vs here stays)
-          (weaker_names vs f (declares_sort f) (declared above) _ (given_below (deep_behind deep f) below) (grown_line heads (place_at n above (line ws (Says f slots)) below) f slots here) (rest (deep_behind deep f) stays))
+          (line_given whole n above ws f slots below vs here stays)
+          (weaker_names vs f (declares_sort f) (declared above) _ (given_below (deep_behind deep f) below) (grown_line whole (place_at n above (line ws (Says f slots)) below) f slots here) (rest (deep_behind deep f) stays))
 
-  pub given_good : (below : List TextLine) (n : ℕ) (above : List TextLine) (deep : ℕ) (vs : List (Named Class)) → AllAmong heads below → first_fault heads (places n above below) end ≡ None → variables_at above below ≡ vs → AllByRecursion (GoodName vs (declared above)) (given_below deep below)
+  pub given_good : (below : List TextLine) (n : ℕ) (above : List TextLine) (deep : ℕ) (vs : List (Named Class)) → AllAmong whole below
+      → first_fault whole.heads (places n above below) end ≡ None → variables_at above below ≡ vs
+      → AllByRecursion (GoodName vs (declared above)) (given_below deep below)
   given_good [] n above deep vs among none same = tt
   given_good (l ∷ below) n above deep vs among none same =
-      by l.words l.saying among.0 none same (λ d later. given_good below (n + 1) (l ∷ above) d vs among.1 (others_clean heads end n above l below none) later)
+      by l.words l.saying among.0 none same (λ d later. given_good below (n + 1) (l ∷ above) d vs among.1 (others_clean whole.heads end n above l below none) later)
     where
-      by : (ws : List Word) (saying : Saying) → Among heads saying → first_fault heads (places n above (line ws saying ∷ below)) end ≡ None → variables_at above (line ws saying ∷ below) ≡ vs
+      by : (ws : List Word) (saying : Saying) → Among whole saying → first_fault whole.heads (places n above (line ws saying ∷ below)) end ≡ None
+          → variables_at above (line ws saying ∷ below) ≡ vs
           → ((d : ℕ) → variables_at (line ws saying ∷ above) below ≡ vs → AllByRecursion (GoodName vs (declared (line ws saying ∷ above))) (given_below d below))
           → AllByRecursion (GoodName vs (declared above)) (given_below deep (line ws saying ∷ below))
       by ws Blank fits clean same rest = rest deep same
@@ -146,8 +154,11 @@ module _ (heads : ProcessLines) (end : Option Fault) where
 
 -- ---- the variables of a process
 
-pub process_variables : (heads : ProcessLines) (end : Option Fault) (n : ℕ) (above : List TextLine) (ws : List Word) (slots : List Operand) (below : List TextLine) → AllAmong heads below → first_fault heads (places (n + 1) (line ws (Says form.Process slots) ∷ above) below) end ≡ None → CleanLine heads (place_at n above (line ws (Says form.Process slots)) below) form.Process slots → VariablesFit (variables_of slots below) (declared (line ws (Says form.Process slots) ∷ above))
-process_variables heads end n above ws slots below among none clean = record {
+pub process_variables : (whole : WholeText) (end : Option Fault) (n : ℕ) (above : List TextLine) (ws : List Word) (slots : List Operand) (below : List TextLine)
+    → AllAmong whole below → first_fault whole.heads (places (n + 1) (line ws (Says form.Process slots) ∷ above) below) end ≡ None
+    → CleanLine whole (place_at n above (line ws (Says form.Process slots)) below) form.Process slots
+    → VariablesFit (variables_of slots below) (declared (line ws (Says form.Process slots) ∷ above))
+process_variables whole end n above ws slots below among none clean = record {
   few = subst (λ us. length us ≤ 63) (sym once) (few_by_numbers [] (fresh [] given) (fresh_apart [] given) (subst (λ us. AllByRecursion (λ v. variable_number us v.name < 64) (fresh [] given)) once (all_weaker (GoodName vs es) (λ v. variable_number vs v.name < 64) (fresh [] given) (λ v good. good.0) all)) (omega arith));
   apart = λ w c h. name_all (λ v. is_event es v ≡ false) w vs c (subst (λ us. AllByRecursion (λ v. is_event es v.name ≡ false) us) (sym once) (all_weaker (GoodName vs es) (λ v. is_event es v.name ≡ false) (fresh [] given) (λ v good. good.1) all)) h;
 }
@@ -165,10 +176,10 @@ process_variables heads end n above ws slots below among none clean = record {
     once = with_all_fresh [] given
 
     more : Grown form.Process (Some sort.Process) (declared above) es
-    more = grown_line heads (place_at n above (line ws (Says form.Process slots)) below) form.Process slots clean
+    more = grown_line whole (place_at n above (line ws (Says form.Process slots)) below) form.Process slots clean
 
     first : AllByRecursion (GoodName vs es) (given_by slots)
-    first = all_weaker (GoodName vs (declared above)) (GoodName vs es) (given_by slots) (λ v good. (good.0, events_behind form.Process (declared above) es v.name more refl good.1)) (line_given heads n above ws form.Process slots below vs clean refl)
+    first = all_weaker (GoodName vs (declared above)) (GoodName vs es) (given_by slots) (λ v good. (good.0, events_behind form.Process (declared above) es v.name more refl good.1)) (line_given whole n above ws form.Process slots below vs clean refl)
 
     all : AllByRecursion (GoodName vs es) (fresh [] given)
-    all = fresh_all (GoodName vs es) [] given (all_append (GoodName vs es) (given_by slots) (given_below 0 below) first (given_good heads end below (n + 1) (line ws (Says form.Process slots) ∷ above) 0 vs among none refl))
+    all = fresh_all (GoodName vs es) [] given (all_append (GoodName vs es) (given_by slots) (given_below 0 below) first (given_good whole end below (n + 1) (line ws (Says form.Process slots) ∷ above) 0 vs among none refl))

@@ -1,10 +1,10 @@
 -- The processes of a faultless text, line by line: each statement fits its kind, in the whole scenario.
 --     Standing blocks ks code vs ds      of the kinds ks, all have ended but the last, which stands where blocks are open
---     Beyond heads final n above below s      what holds in front of line n
+--     Processes final above below s            what holds in front of a line
 use Rattle.std.specs.Prelude.{◌≡◌, refl, ℕ, ◌+◌, ◌≤◌, Bool, true, false, ◌&&◌, List, [], ◌∷◌, ◌++◌, length, Option, Some, None, is_some}
 use Rattle.std.specs.List.{list_all}
 use Rattle.std.proofs.Common.{arith, sym, ap, ◌∙◌, subst, ◌⊎◌, inl, inr}
-use Rattle.std.proofs.lemmas.Bool.{true≢false, and_parts}
+use Rattle.std.proofs.lemmas.Bool.{true≢false, and_parts, or_from}
 use Rattle.std.proofs.lemmas.List.{length_push}
 use Rattle.std.proofs.lemmas.List.Folds.{list_all-append}
 use Rattle.sim_types.specs.Scenarios.{ScenarioOf}
@@ -18,7 +18,7 @@ use Rattle.sim_language.specs.Lines.{Word}
 use Rattle.sim_language.specs.Named.{Named}
 use Rattle.sim_language.specs.Forms.{is_statement, is_process}
 use Rattle.sim_language.specs.Shapes.{Operand}
-use Rattle.sim_language.specs.AnywhereInText.{ProcessLines}
+use Rattle.sim_language.specs.AnywhereInText.{WholeText}
 use Rattle.sim_language.specs.Sayings.{TextLine, Blank, Wrong, Says}
 use Rattle.sim_language.specs.Declarations.{declared}
 use Rattle.sim_language.specs.Blocks.{Block, statements, open_blocks, blocks_behind}
@@ -37,12 +37,12 @@ use Rattle.sim_language_law.proofs.DeclaredNames.{Grown}
 use Rattle.sim_language_law.proofs.FittingSetup.{list_all_push}
 use Rattle.sim_language_law.proofs.ProcessHeads.{same_kinds}
 use Rattle.sim_language_law.proofs.LinesSoFar.{told_line, grown_line}
-use Rattle.sim_language_law.proofs.FittingCalls.{Ground}
+use Rattle.sim_language_law.proofs.FittingInWhole.{Ground}
 use Rattle.sim_language_law.proofs.ProcessVariables.{VariablesFit, variables_other}
 use Rattle.sim_language_law.proofs.FittingOperands.{InProcess}
 use Rattle.sim_language_law.proofs.FittingByForm.{StatementFits, statements_fit}
 use Rattle.sim_language_law.proofs.CodeOfKinds.{fits_from, is_closed, list_all_both, closed_push, closed_fits, open_fits, now_closed}
-use Rattle.sim_language_law.proofs.BlocksByForm.{statement_inside, blocks_stay, added_statement, statement_no_process, blocks_other, nothing_declared}
+use Rattle.sim_language_law.proofs.LineForms.{statement_inside, blocks_stay, added_statement, statement_begins_none, same_blocks, nothing_declared}
 
 -- the last kind is that of a process that has not ended, with these variables
 pub record OpenProcess (ks : List Kind) (code : List Stmt) (vs : List (Named Class)) (ds : List (Named Meaning)) : Type 0 where
@@ -117,7 +117,7 @@ same_code : (a : Added) (s : ScenarioOf) → adds_statement a ≡ false → (put
 same_code (AStatement st) s h = absurd (true≢false h)
 same_code a s h = refl
 
-module _ (heads : ProcessLines) (final : ScenarioOf) (n : ℕ) (above : List TextLine) (ws : List Word) (f : Form) (slots : List Operand) (below : List TextLine) (s : ScenarioOf) where
+module _ (whole : WholeText) (final : ScenarioOf) (n : ℕ) (above : List TextLine) (ws : List Word) (f : Form) (slots : List Operand) (below : List TextLine) (s : ScenarioOf) where
   abbrev pub here : TextLine
   here = line ws (Says f slots)
 
@@ -125,40 +125,43 @@ module _ (heads : ProcessLines) (final : ScenarioOf) (n : ℕ) (above : List Tex
   place = place_at n above (line ws (Says f slots)) below
 
   -- a line of a process leaves the declared names as they are
-  same_declared : CleanLine heads place f slots → is_process f ≡ false → is_some (open_blocks above) ≡ true → declared (here ∷ above) ≡ declared above
+  same_declared : CleanLine whole place f slots → is_process f ≡ false → is_some (open_blocks above) ≡ true → declared (here ∷ above) ≡ declared above
   same_declared clean other inside =
       let none = nothing_declared place.above f slots other clean.placed inside in
-      subst (λ o. Grown f o (declared above) (declared (here ∷ above))) none (grown_line heads place f slots clean)
+      subst (λ o. Grown f o (declared above) (declared (here ∷ above))) none (grown_line whole place f slots clean)
 
-  statement_inside_process : (process : OpenProcess s.kinds s.code (variables_at above (here ∷ below)) (declared above)) → CleanLine heads place f slots → Ground heads final place → is_process f ≡ false → StatementFits final process.kind (statement heads place f slots)
+  statement_inside_process : (process : OpenProcess s.kinds s.code (variables_at above (here ∷ below)) (declared above)) → CleanLine whole place f slots
+      → Ground whole final place → is_process f ≡ false → StatementFits final process.kind (statement whole.heads place f slots)
   statement_inside_process process clean ground other =
       let same = variables_other above ws f slots below other in
-      let inside : InProcess heads final process.kind place = record {
+      let inside : InProcess whole final process.kind place = record {
         ground = ground;
         classes = process.classes ∙ ap classes_of (sym same);
         variables = subst (λ vs. VariablesFit vs (declared above)) (sym same) process.variables;
       } in
-      of_shape heads place f slots clean (λ more. CleanLine heads place f more → clean.fits.fits.context.heads ≡ heads → StatementFits final process.kind (statement heads place f more)) (statements_fit heads final process.kind place inside clean.fits.fits.context f) clean clean.fits.among
+      of_shape whole place f slots clean (λ more. CleanLine whole place f more → clean.fits.fits.context.whole ≡ whole → StatementFits final process.kind (statement whole.heads place f more)) (statements_fit whole final process.kind place inside clean.fits.fits.context f) clean clean.fits.among
 
   -- a statement
-  pub processes_statement : CleanLine heads place f slots → Ground heads final place → is_statement f ≡ true → Processes final above (here ∷ below) s → Processes final (here ∷ above) below (put_in (added heads place f slots) s)
-  processes_statement clean ground is h = by (statement heads place f slots) refl (is_there (open_blocks above) inside)
+  pub processes_statement : CleanLine whole place f slots → Ground whole final place → is_statement f ≡ true → Processes final above (here ∷ below) s
+      → Processes final (here ∷ above) below (put_in (added whole.heads place f slots) s)
+  processes_statement clean ground is h = by (statement whole.heads place f slots) refl (is_there (open_blocks above) inside)
     where
       other : is_process f ≡ false
-      other = statement_no_process f is
+      other = statement_begins_none f is
 
       inside : is_some (open_blocks above) ≡ true
       inside = statement_inside place.above f slots is clean.placed
 
-      adds : (o : Option Stmt) → statement heads place f slots ≡ o → added heads place f slots ≡ by_statement o
-      adds o e = added_statement heads place f slots is ∙ ap by_statement e
+      adds : (o : Option Stmt) → statement whole.heads place f slots ≡ o → added whole.heads place f slots ≡ by_statement o
+      adds o e = added_statement whole.heads place f slots is ∙ ap by_statement e
 
-      by : (o : Option Stmt) → statement heads place f slots ≡ o → (blocks : List Block) × (open_blocks above ≡ Some blocks) → Processes final (here ∷ above) below (put_in (added heads place f slots) s)
-      by None e blocks = absurd (true≢false (sym is ∙ (sym (told_line heads place f slots clean).statements ∙ ap adds_statement (adds None e))))
+      by : (o : Option Stmt) → statement whole.heads place f slots ≡ o → (blocks : List Block) × (open_blocks above ≡ Some blocks)
+          → Processes final (here ∷ above) below (put_in (added whole.heads place f slots) s)
+      by None e blocks = absurd (true≢false (sym is ∙ (sym (told_line whole place f slots clean).statements ∙ ap adds_statement (adds None e))))
       by (Some st) e blocks =
           let process : OpenProcess s.kinds s.code (variables_at above (here ∷ below)) (declared above) = subst (λ o. Standing o s.kinds s.code (variables_at above (here ∷ below)) (declared above)) blocks.1 h.standing in
           let fit : statement_fits final process.kind st ≡ true = subst (λ o. StatementFits final process.kind o) e (statement_inside_process process clean ground other) in
-          let next = standing_more final s.kinds s.code st (variables_at above (here ∷ below)) (declared above) process (blocks_behind (statements (here ∷ above)) f slots (Some blocks.0)) (blocks_stay heads place f slots (statements (here ∷ above)) blocks.0 st blocks.1 e) in
+          let next = standing_more final s.kinds s.code st (variables_at above (here ∷ below)) (declared above) process (blocks_behind (statements (here ∷ above)) f slots (Some blocks.0)) (blocks_stay whole.heads place f slots (statements (here ∷ above)) blocks.0 st blocks.1 e) in
           subst (λ a. Processes final (here ∷ above) below (put_in a s)) (sym (adds (Some st) e)) (record {
             code = rw is (length_push s.code st ∙ ap (λ m. m + 1) h.code);
             fits = fits_more final s.kinds s.code st (variables_at above (here ∷ below)) (declared above) process h.fits fit;
@@ -166,7 +169,8 @@ module _ (heads : ProcessLines) (final : ScenarioOf) (n : ℕ) (above : List Tex
           })
 
   -- a line that is no statement, and begins no process
-  pub processes_other : CleanLine heads place f slots → is_statement f ≡ false → is_process f ≡ false → Processes final above (here ∷ below) s → Processes final (here ∷ above) below (put_in (added heads place f slots) s)
+  pub processes_other : CleanLine whole place f slots → is_statement f ≡ false → is_process f ≡ false → Processes final above (here ∷ below) s
+      → Processes final (here ∷ above) below (put_in (added whole.heads place f slots) s)
   processes_other clean no_statement no_process h = record {
     code = ap length same_statements ∙ (h.code ∙ rw no_statement refl);
     fits = rw (same_statements, same_processes) h.fits;
@@ -174,17 +178,17 @@ module _ (heads : ProcessLines) (final : ScenarioOf) (n : ℕ) (above : List Tex
   }
     where
       a : Added
-      a = added heads place f slots
+      a = added whole.heads place f slots
 
       same_statements : (put_in a s).code ≡ s.code
-      same_statements = same_code a s ((told_line heads place f slots clean).statements ∙ no_statement)
+      same_statements = same_code a s ((told_line whole place f slots clean).statements ∙ no_statement)
 
       same_processes : (put_in a s).kinds ≡ s.kinds
-      same_processes = same_kinds f a s no_process (told_line heads place f slots clean).sort
+      same_processes = same_kinds f a s no_process (told_line whole place f slots clean).sort
 
-      same_blocks : (o : Option (List Block)) → open_blocks above ≡ o → o ≡ open_blocks (here ∷ above)
-      same_blocks o e = sym e ∙ sym (blocks_other (statements (here ∷ above)) f slots (open_blocks above) no_statement no_process)
+      still_open : (o : Option (List Block)) → open_blocks above ≡ o → o ≡ open_blocks (here ∷ above)
+      still_open o e = sym e ∙ sym (same_blocks (statements (here ∷ above)) f slots (open_blocks above) (or_from _ _ no_statement no_process))
 
       by : (o : Option (List Block)) → open_blocks above ≡ o → Standing o s.kinds s.code (variables_at above (here ∷ below)) (declared above) → Standing (open_blocks (here ∷ above)) (put_in a s).kinds (put_in a s).code (variables_at (here ∷ above) below) (declared (here ∷ above))
-      by None e standing = standing_same None _ s.kinds (put_in a s).kinds s.code (put_in a s).code (variables_at (here ∷ above) below) _ (declared (here ∷ above)) _ (same_blocks None e) (sym same_processes) (sym same_statements) refl refl standing
-      by (Some blocks) e standing = standing_same (Some blocks) _ s.kinds (put_in a s).kinds s.code (put_in a s).code (variables_at above (here ∷ below)) _ (declared above) _ (same_blocks (Some blocks) e) (sym same_processes) (sym same_statements) (sym (variables_other above ws f slots below no_process)) (sym (same_declared clean no_process (ap is_some e))) standing
+      by None e standing = standing_same None _ s.kinds (put_in a s).kinds s.code (put_in a s).code (variables_at (here ∷ above) below) _ (declared (here ∷ above)) _ (still_open None e) (sym same_processes) (sym same_statements) refl refl standing
+      by (Some blocks) e standing = standing_same (Some blocks) _ s.kinds (put_in a s).kinds s.code (put_in a s).code (variables_at above (here ∷ below)) _ (declared above) _ (still_open (Some blocks) e) (sym same_processes) (sym same_statements) (sym (variables_other above ws f slots below no_process)) (sym (same_declared clean no_process (ap is_some e))) standing

@@ -5,7 +5,7 @@ use Rattle.std.proofs.Common.{◌≡◌, refl, subst, ℕ, zero, suc, Bool, true
 use Rattle.std.proofs.lemmas.Option.{none-some, same_Some}
 use Rattle.std.proofs.lemmas.Bool.{or_right}
 use Rattle.sim_language.specs.declared.shape.Item.{Item}
-use Rattle.sim_language.specs.declared.shape.Item.TheVariants.{Exactly, OneOf, A, Opening, NextPoster, MayEnd, Each, SpawnArguments, StartArguments}
+use Rattle.sim_language.specs.declared.shape.Item.TheVariants.{Exactly, OneOf, A, Opening, EventName, NextPoster, MayEnd, Each, SpawnArguments, StartArguments}
 use Rattle.sim_language.specs.Lines.{Word, same, is_among}
 use Rattle.sim_language.specs.Shapes.{Operand, Context, fixed_word, choices, before_all, fit}
 
@@ -57,5 +57,6 @@ fit-length context last (Exactly word ∷ items) (w ∷ ws) = if_found (Exactly 
 fit-length context last (OneOf choice ∷ items) (w ∷ ws) = if_found (OneOf choice ∷ items) (is_among w (choices choice)) _ (one_before items (OneOf choice ∷ items) _ (fit context w items ws) (λ n. refl) (fit-length context w items ws))
 fit-length context last (A role ∷ items) (w ∷ ws) = one_before items (A role ∷ items) _ (fit context w items ws) (λ n. refl) (fit-length context w items ws)
 fit-length context last (Opening ∷ items) (w ∷ ws) = one_before items (Opening ∷ items) _ (fit context w items ws) (λ n. refl) (fit-length context w items ws)
+fit-length context last (EventName ∷ items) (w ∷ ws) = one_before items (EventName ∷ items) _ (fit context w items ws) (λ n. refl) (fit-length context w items ws)
 fit-length context last (NextPoster ∷ items) (w ∷ ws) = one_before items (NextPoster ∷ items) _ (fit context w items ws) (λ n. refl) (fit-length context w items ws)
 fit-length context last (item ∷ items) [] = not_found (item ∷ items)

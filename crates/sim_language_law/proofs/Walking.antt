@@ -22,6 +22,11 @@ abbrev pub passed : List TextLine → List TextLine → List TextLine
 passed above [] = above
 passed above (l ∷ below) = passed (l ∷ above) below
 
+-- neither the line nor one behind it is faulty
+pub none_here : (k : Option FaultKind) (n : ℕ) (later : Option Fault) → option_or (at_line n k) later ≡ None → (k ≡ None) × (later ≡ None)
+none_here None n later h = (refl, h)
+none_here (Some kind) n later h = absurd (none-some _ (sym h))
+
 module _ (heads : ProcessLines) (P : ℕ → List TextLine → List TextLine → ScenarioOf → Type 0) where
   abbrev pub Kept : Type 0
   Kept = (n : ℕ) (above : List TextLine) (l : TextLine) (below : List TextLine) (s : ScenarioOf) → P n above (l ∷ below) s → fault_at heads (place_at n above l below) ≡ None → P (n + 1) (l ∷ above) below (add_said heads (place_at n above l below) l.saying s)
@@ -30,10 +35,6 @@ module _ (heads : ProcessLines) (P : ℕ → List TextLine → List TextLine →
   pub record Ends (n : ℕ) (above below : List TextLine) (s : ScenarioOf) (end : Option Fault) : Type 0 where
     pub holds : P (n + length below) (passed above below) [] (with_lines heads s (places n above below))
     pub none : end ≡ None
-
-  none_here : (k : Option FaultKind) (n : ℕ) (later : Option Fault) → option_or (at_line n k) later ≡ None → (k ≡ None) × (later ≡ None)
-  none_here None n later h = (refl, h)
-  none_here (Some kind) n later h = absurd (none-some _ (sym h))
 
   walk-nil : (n : ℕ) (above : List TextLine) (s : ScenarioOf) (end : Option Fault) → end ≡ None → P n above [] s → Ends n above [] s end
   walk-nil n above s end clean p = let same : n + 0 ≡ n = omega arith in record { holds = rw same p; none = clean }
