@@ -1,6 +1,6 @@
 -- A statement that fits its process kind asks only for what the process may ask for.
 use Rattle.std.proofs.Common.{◌≡◌, ℕ, zero, suc, ◌<◌, ℤ, pos, Bool, true, false, List, [], ◌∷◌, length, map, take, drop, refl, sym, ◌∙◌, arith, Option, Some, None}
-use Rattle.std.specs.Prelude.{◌&&◌, not, nat_lt, nat_le, nat_abs, slice_get, slice_index_or}
+use Rattle.std.specs.Prelude.{◌&&◌, ◌||◌, ◌==◌, not, nat_lt, nat_le, nat_abs, slice_get, slice_index_or}
 use Rattle.std.specs.List.{list_any, list_all}
 use Rattle.std.specs.Cmp.Lexicographic.{pointwise}
 use Rattle.std.proofs.lemmas.Bool.{false≢true, and_parts, and_from, or_left, or_right, eq-eqb, leb-true, lt-ltb, ltb-true}
@@ -26,7 +26,8 @@ use Rattle.sim_machine.specs.Tellings.{is_class}
 use Rattle.sim_machine.specs.MayAsk as asks
 use Rattle.sim_machine.specs.MayAsk.{is_zero, is_named, is_in_place, is_known, is_known_event, is_known_process, takes_requests, has_resource, may_ask}
 use Rattle.sim_machine.specs.BodyLaw.{may_start}
-use Rattle.sim_language.specs.declared.shape.Reference.TheVariants.{AnyEvent, PlainEvent, AProcess}
+use Rattle.sim_language.specs.declared.shape.Reference.TheVariants.{AnyEvent, PlainEvent, Chained, AProcess}
+use Rattle.sim_language.specs.VariableFaults.{takes_class}
 use Rattle.sim_language.specs.FittingStatements as fits
 use Rattle.sim_language.specs.FittingStatements.{class_of, uses, number_fits, gives, gives_maybe, event_fits, members_fit, request_fits, put_fits, get_fits, resource_at, statement_fits}
 use Rattle.sim_script_model.specs.Scripts.{Script, event_in, event_of_ref, process_of_ref, value_of_num, value_of_arg, places_of}
@@ -83,6 +84,26 @@ a_process x kind b (ref.Var v) same may h =
     or_right _ _ (class_in_place class.Proc refl kind b v same may (sym (same_class-is (class_of kind v) class.Proc (and_parts (nat_lt v 64) _ h).1)))
 a_process x kind b (ref.Named e) same may h = absurd (false≢true h)
 a_process x kind b ref.Me same may h = or_left _ _ (or_right _ _ (eq-eqb b.me.0 b.me.0 refl))
+
+-- what a chain takes the outcome of
+module _ (x : ScenarioOf) (kind : Kind) (b : Script) (same : b.classes ≡ kind.classes) (may : may_start b.classes b.variables ≡ true) where
+  abbrev is_chained : EventId → Bool
+  is_chained e =
+      is_known_event (facts_of x) (places_of b.classes b.variables) e
+      || (e.0 == b.me.0)
+      || is_in_place (places_of b.classes b.variables) class.Cond e
+      || is_in_place (places_of b.classes b.variables) class.Proc e
+
+  chained_variable : (v : ℕ) (c : Class) → class_of kind v ≡ c → takes_class Chained c ≡ true → is_chained (event_in b v) ≡ true
+  chained_variable v class.Event is takes = or_left _ _ (or_left _ _ (or_left _ _ (or_right _ _ (class_in_place class.Event refl kind b v same may is))))
+  chained_variable v class.Cond is takes = or_left _ _ (or_right _ _ (class_in_place class.Cond refl kind b v same may is))
+  chained_variable v class.Proc is takes = or_right _ _ (class_in_place class.Proc refl kind b v same may is)
+  chained_variable v _ is takes = absurd (false≢true takes)
+
+  chained_event : (r : Ref) → event_fits x kind Chained r ≡ true → is_chained (event_of_ref b r) ≡ true
+  chained_event (ref.Var v) h = chained_variable v (class_of kind v) refl (and_parts (nat_lt v 64) _ h).1
+  chained_event (ref.Named e) h = or_left _ _ (or_left _ _ (or_left _ _ (plain_event x kind b (ref.Named e) same may h)))
+  chained_event ref.Me h = or_left _ _ (or_left _ _ (or_right _ _ (eq-eqb b.me.0 b.me.0 refl)))
 
 -- ---- arguments and members
 
@@ -225,5 +246,7 @@ statement_may_ask x kind b time (stmt.Get to res lo hi) scopes same long may fit
 statement_may_ask x kind b time (stmt.Cancel on) scopes same long may fit allow = or_right _ _ (class_in_place class.Move refl kind b on same may (class_used kind on class.Move fit))
 statement_may_ask x kind b time stmt.EndWith scopes same long may fit allow = lt-ltb 0 (length scopes) allow
 statement_may_ask x kind b time stmt.EndProcess scopes same long may fit allow = rw allow refl
-statement_may_ask x kind b time (stmt.Chain on to) scopes same long may fit allow = absurd (false≢true fit)
+statement_may_ask x kind b time (stmt.Chain on to) scopes same long may fit allow =
+    let parts = and_parts (event_fits x kind Chained on) (event_fits x kind PlainEvent to) fit in
+    and_from _ _ (chained_event x kind b same may on parts.0) (plain_event x kind b to same may parts.1)
 statement_may_ask x kind b time _ scopes same long may fit allow = refl

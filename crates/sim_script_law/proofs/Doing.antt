@@ -328,4 +328,4 @@ module _ (x : ScenarioOf) (kind : Kind) (opens : List Open) (t : Script) (time :
   does stmt.Break is st = stops Breaking refl (λ breaking. sym (break_within t.place opens) ∙ st.stands)
   does (stmt.Log value) is st = goes_on (op.Log (value_of_num time next value)) (may (stmt.Log value) st.fits tt) (st.on refl) refl refl refl
   does (stmt.Draw to lo hi) is st = answers (stmt.Draw to lo hi) (op.Draw (value_of_num time next lo) (value_of_num time next hi)) is (may (stmt.Draw to lo hi) st.fits tt) st.fits refl (st.on refl) refl refl
-  does (stmt.Chain on to) is st = absurd (false≢true st.fits)
+  does (stmt.Chain on to) is st = goes_on (op.Chain (event_of_ref next on) (event_of_ref next to)) (may (stmt.Chain on to) st.fits tt) (st.on refl) refl refl refl

@@ -19,7 +19,7 @@ use Rattle.sim_types.specs.declared.script.Stmt.TheVariants as stmt
 use Rattle.sim_machine.specs.Tellings.{is_class}
 use Rattle.sim_machine.specs.BodyLaw.{may_start}
 use Rattle.sim_language.specs.declared.shape.Reference.{Reference}
-use Rattle.sim_language.specs.declared.shape.Reference.TheVariants.{AnyEvent, PlainEvent, AProcess}
+use Rattle.sim_language.specs.declared.shape.Reference.TheVariants.{AnyEvent, PlainEvent, Chained, AProcess}
 use Rattle.sim_language.specs.FittingStatements.{classes_at, class_of, gives, gives_maybe, uses, number_fits, event_fits, argument_fits, arguments_fit, members_fit, request_fits, put_fits, get_fits, resource_at, statement_fits}
 use Rattle.sim_script_model.specs.Scripts.{Script}
 use Rattle.sim_script_law.specs.Ready.{is_variable, may_be_variable, has_variable, refers_within, argument_within, variables_within, event_is_small, events_are_small}
@@ -149,7 +149,9 @@ fits_within x kind (stmt.Draw to lo hi) h =
     let parts = and_parts (gives kind to class.Number && number_fits kind lo) (number_fits kind hi) h in
     let front = and_parts (gives kind to class.Number) (number_fits kind lo) parts.0 in
     and_from (is_variable to && has_variable lo) _ (and_from (is_variable to) _ (given kind to class.Number front.0) (number kind lo front.1)) (number kind hi parts.1)
-fits_within x kind (stmt.Chain on to) h = absurd (false≢true h)
+fits_within x kind (stmt.Chain on to) h =
+    let parts = and_parts (event_fits x kind Chained on) (event_fits x kind PlainEvent to) h in
+    and_from (refers_within on) _ (reference x kind Chained on parts.0) (reference x kind PlainEvent to parts.1)
 fits_within x kind _ h = refl
 
 -- ---- events

@@ -2,7 +2,6 @@
 use Rattle.std.specs.Prelude.{◌≡◌, ℕ, ℤ, List, [], map, if◌then◌else◌}
 use Rattle.sim_types.specs.Scenarios.{ScenarioOf, facts_of}
 use Rattle.sim_types.specs.declared.event.EventId.{EventId}
-use Rattle.sim_types.specs.declared.event.ProcId.{ProcId}
 use Rattle.sim_types.specs.declared.event.Signal.{Signal}
 use Rattle.sim_types.specs.declared.op.Op.{Op}
 use Rattle.sim_machine.specs.Tellings.{CodeFacts}
