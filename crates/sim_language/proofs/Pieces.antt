@@ -42,6 +42,7 @@ length-pieces ends x [] last = rw last refl
 length-pieces ends x (y ∷ ys) last = by (ends x) (length-pieces ends y ys last)
   where
     by : (b : Bool) → length (pieces ends (y ∷ ys)) ≡ length (filter ends (y ∷ ys))
-        → length (if b then [] ∷ pieces ends (y ∷ ys) else onto_first x (pieces ends (y ∷ ys))) ≡ length (cond b (x ∷ filter ends (y ∷ ys)) (filter ends (y ∷ ys)))
+        → length (if b then [] ∷ pieces ends (y ∷ ys) else onto_first x (pieces ends (y ∷ ys)))
+        ≡ length (cond b (x ∷ filter ends (y ∷ ys)) (filter ends (y ∷ ys)))
     by true ih = ap suc ih
     by false ih = length-onto_first ends x y ys ∙ ih

@@ -77,7 +77,8 @@ put_statement : (o : Option Stmt) (s : ScenarioOf) → with_statement s o ≡ pu
 put_statement None s = refl
 put_statement (Some statement) s = refl
 
-pub add_added : (heads : ProcessLines) (place : LineInText) (f : Form) (slots : List Operand) (s : ScenarioOf) → add heads place f slots s ≡ put_in (added heads place f slots) s
+pub add_added : (heads : ProcessLines) (place : LineInText) (f : Form) (slots : List Operand) (s : ScenarioOf)
+    → add heads place f slots s ≡ put_in (added heads place f slots) s
 add_added heads place form.UntilTime (t ∷ []) s = refl
 add_added heads place form.UntilEvent (n ∷ []) s = refl
 add_added heads place form.Seed (n ∷ []) s = refl

@@ -56,7 +56,8 @@ pub record Told (f : Form) (a : Added) : Type 0 where
   pub statements : adds_statement a ≡ is_statement f
   pub made : IsMadeBy f a
 
-so : {f : Form} {a : Added} → sort_added a ≡ declares_sort f → adds_entry a ≡ is_entry f → adds_poster a ≡ is_poster f → adds_statement a ≡ is_statement f → IsMadeBy f a → Told f a
+so : {f : Form} {a : Added} → sort_added a ≡ declares_sort f → adds_entry a ≡ is_entry f → adds_poster a ≡ is_poster f
+    → adds_statement a ≡ is_statement f → IsMadeBy f a → Told f a
 so s e p st m = record { sort = s; entries = e; posters = p; statements = st; made = m }
 
 pub told : (context : Context) (heads : ProcessLines) (place : LineInText) (f : Form) → Rule context [] (shape f) (λ slots. Told f (added heads place f slots))

@@ -55,16 +55,22 @@ break_stands variables [] = refl
 break_stands variables (b ∷ blocks) = rw (loop_alike b.form b.variable b.split b.inside (variable variables b.variable), break_stands variables blocks) refl
 
 -- variables of one name have one number
-with_alike : (variables : List (Named Class)) (f : Form) (w v : Word) (split : Bool) (inside : ℕ) → (is_with (block f v split inside) && same w v) ≡ true → is_with_frame (variable variables w) (frame_by f split (variable variables v) inside) ≡ true
+with_alike : (variables : List (Named Class)) (f : Form) (w v : Word) (split : Bool) (inside : ℕ)
+    → (is_with (block f v split inside) && same w v) ≡ true
+    → is_with_frame (variable variables w) (frame_by f split (variable variables v) inside) ≡ true
 with_alike variables form.With w v split inside h = eq-eqb _ _ (ap (variable variables) ((bytes_eq-Decides w v).0 h))
 with_alike variables f w v split inside h = absurd (false≢true h)
 
 -- a `with` of this name that is open by the lines is open by the statements
-pub release_stands : (variables : List (Named Class)) (w : Word) (blocks : List Block) → list_any (λ b. is_with b && same w b.variable) blocks ≡ true → list_any (is_with_frame (variable variables w)) (frames_of variables blocks) ≡ true
+pub release_stands : (variables : List (Named Class)) (w : Word) (blocks : List Block)
+    → list_any (λ b. is_with b && same w b.variable) blocks ≡ true
+    → list_any (is_with_frame (variable variables w)) (frames_of variables blocks) ≡ true
 release_stands variables w [] h = h
 release_stands variables w (b ∷ blocks) h = by (or_cases (is_with b && same w b.variable) _ h) (release_stands variables w blocks)
   where
-    by : ((is_with b && same w b.variable) ≡ true) ⊎ (list_any (λ c. is_with c && same w c.variable) blocks ≡ true) → (list_any (λ c. is_with c && same w c.variable) blocks ≡ true → list_any (is_with_frame (variable variables w)) (frames_of variables blocks) ≡ true) → list_any (is_with_frame (variable variables w)) (frames_of variables (b ∷ blocks)) ≡ true
+    by : ((is_with b && same w b.variable) ≡ true) ⊎ (list_any (λ c. is_with c && same w c.variable) blocks ≡ true)
+        → (list_any (λ c. is_with c && same w c.variable) blocks ≡ true → list_any (is_with_frame (variable variables w)) (frames_of variables blocks) ≡ true)
+        → list_any (is_with_frame (variable variables w)) (frames_of variables (b ∷ blocks)) ≡ true
     by (inl here) further = or_left _ _ (with_alike variables b.form w b.variable b.split b.inside here)
     by (inr there) further = or_right _ _ (further there)
 
@@ -75,7 +81,9 @@ pub record Splits (variables : List (Named Class)) (s : Stmt) (inner : Frame) (b
   pub may : may_stand s (frames_of variables blocks) ≡ true
   pub behind : with_inner inner (frames_of variables blocks) ≡ frames_of variables (split_first blocks)
 
-else_block : (variables : List (Named Class)) (f : Form) (w : Word) (split : Bool) (inside : ℕ) (blocks : List Block) → awaits_else (block f w split inside ∷ blocks) ≡ true → Splits variables (stmt.Else 0) InElse (block f w split inside ∷ blocks)
+else_block : (variables : List (Named Class)) (f : Form) (w : Word) (split : Bool) (inside : ℕ) (blocks : List Block)
+    → awaits_else (block f w split inside ∷ blocks) ≡ true
+    → Splits variables (stmt.Else 0) InElse (block f w split inside ∷ blocks)
 else_block variables form.If w false inside blocks h = record { may = refl; behind = refl }
 else_block variables form.If w true inside blocks h = absurd (false≢true h)
 else_block variables f w split inside blocks h = absurd (false≢true h)
@@ -84,12 +92,15 @@ pub else_stands : (variables : List (Named Class)) (blocks : List Block) → awa
 else_stands variables [] h = absurd (false≢true h)
 else_stands variables (b ∷ blocks) h = else_block variables b.form b.variable b.split b.inside blocks h
 
-catch_block : (variables : List (Named Class)) (k v : ℕ) (f : Form) (w : Word) (split : Bool) (inside : ℕ) (blocks : List Block) → awaits_catch (block f w split inside ∷ blocks) ≡ true → Splits variables (stmt.Catch k v 0) InCatch (block f w split inside ∷ blocks)
+catch_block : (variables : List (Named Class)) (k v : ℕ) (f : Form) (w : Word) (split : Bool) (inside : ℕ)
+    (blocks : List Block) → awaits_catch (block f w split inside ∷ blocks) ≡ true
+    → Splits variables (stmt.Catch k v 0) InCatch (block f w split inside ∷ blocks)
 catch_block variables k v form.Try w false inside blocks h = record { may = refl; behind = refl }
 catch_block variables k v form.Try w true inside blocks h = absurd (false≢true h)
 catch_block variables k v f w split inside blocks h = absurd (false≢true h)
 
-pub catch_stands : (variables : List (Named Class)) (k v : ℕ) (blocks : List Block) → awaits_catch blocks ≡ true → Splits variables (stmt.Catch k v 0) InCatch blocks
+pub catch_stands : (variables : List (Named Class)) (k v : ℕ) (blocks : List Block) → awaits_catch blocks ≡ true
+    → Splits variables (stmt.Catch k v 0) InCatch blocks
 catch_stands variables k v [] h = absurd (false≢true h)
 catch_stands variables k v (b ∷ blocks) h = catch_block variables k v b.form b.variable b.split b.inside blocks h
 
@@ -99,7 +110,8 @@ pub record Closes (variables : List (Named Class)) (n : ℕ) (blocks : List Bloc
   pub behind : frames_then n (end_of blocks) (frames_of variables blocks) ≡ frames_at variables (closed (Some blocks))
   pub ends : is_end_process (end_of blocks) ≡ is_none (closed (Some blocks))
 
-end_block : (variables : List (Named Class)) (n : ℕ) (f : Form) (w : Word) (split : Bool) (inside : ℕ) (blocks : List Block) → awaits_catch (block f w split inside ∷ blocks) ≡ false → Closes variables n (block f w split inside ∷ blocks)
+end_block : (variables : List (Named Class)) (n : ℕ) (f : Form) (w : Word) (split : Bool) (inside : ℕ) (blocks : List Block)
+    → awaits_catch (block f w split inside ∷ blocks) ≡ false → Closes variables n (block f w split inside ∷ blocks)
 end_block variables n form.Loop w split inside blocks h = record { may = eq-eqb inside inside refl; behind = refl; ends = refl }
 end_block variables n form.Repeat w split inside blocks h = record { may = eq-eqb inside inside refl; behind = refl; ends = refl }
 end_block variables n form.If w true inside blocks h = record { may = refl; behind = refl; ends = refl }

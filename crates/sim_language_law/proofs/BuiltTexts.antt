@@ -35,7 +35,9 @@ last_and : (a x y : Bool) → (x ≡ true → y ≡ true) → (a && x) ≡ true 
 last_and true x y f h = f h
 last_and false x y f h = absurd (false≢true h)
 
-with_code : (s : ScenarioOf) (code : List Stmt) → (list_all is_built_statement s.code ≡ true → list_all is_built_statement code ≡ true) → is_built_scenario s ≡ true → is_built_scenario (record s { code = code }) ≡ true
+with_code : (s : ScenarioOf) (code : List Stmt)
+    → (list_all is_built_statement s.code ≡ true → list_all is_built_statement code ≡ true) → is_built_scenario s ≡ true
+    → is_built_scenario (record s { code = code }) ≡ true
 with_code s code = last_and (is_never s.setup.until && (s.setup.events == 0) && is_empty s.setup.resources && is_empty s.setup.ports && is_empty s.port_names && is_empty s.journal && is_empty s.posters) _ _
 
 one_more : (s : ScenarioOf) (t : Stmt) → is_built_statement t ≡ true → is_built_scenario s ≡ true → is_built_scenario (with_statement s (Some t)) ≡ true
@@ -98,7 +100,8 @@ opened_built : (b : Block) (blocks : Option (List Block)) → is_with b ≡ fals
 opened_built b None plain h = tt
 opened_built b (Some blocks) plain h = (plain, h)
 
-behind_built : (inside : ℕ) (f : Form) (slots : List Operand) (blocks : Option (List Block)) → is_built f ≡ true → AllBuilt blocks → AllBuilt (blocks_behind inside f slots blocks)
+behind_built : (inside : ℕ) (f : Form) (slots : List Operand) (blocks : Option (List Block)) → is_built f ≡ true
+    → AllBuilt blocks → AllBuilt (blocks_behind inside f slots blocks)
 behind_built inside form.Process slots blocks is h = tt
 behind_built inside form.End slots blocks is h = closed_built blocks h
 behind_built inside form.With slots blocks is h = absurd (false≢true is)
@@ -110,7 +113,8 @@ behind_built inside form.Try slots blocks is h = opened_built _ blocks refl h
 behind_built inside form.Catch slots blocks is h = split_built blocks h
 behind_built inside f slots blocks is h = h
 
-then_built : (inside : ℕ) (said : Saying) (blocks : Option (List Block)) → IsBuiltSaid is_built said → AllBuilt blocks → AllBuilt (blocks_then inside said blocks)
+then_built : (inside : ℕ) (said : Saying) (blocks : Option (List Block)) → IsBuiltSaid is_built said → AllBuilt blocks
+    → AllBuilt (blocks_then inside said blocks)
 then_built inside Blank blocks is h = h
 then_built inside (Wrong kind) blocks is h = h
 then_built inside (Says f slots) blocks is h = behind_built inside f slots blocks is h
@@ -118,7 +122,8 @@ then_built inside (Says f slots) blocks is h = behind_built inside f slots block
 -- ---- a statement
 
 -- what closes a block that is built
-end_block : (f : Form) (w : Word) (split : Bool) (inside : ℕ) (blocks : List Block) → is_with (block f w split inside) ≡ false → is_built_statement (end_of (block f w split inside ∷ blocks)) ≡ true
+end_block : (f : Form) (w : Word) (split : Bool) (inside : ℕ) (blocks : List Block)
+    → is_with (block f w split inside) ≡ false → is_built_statement (end_of (block f w split inside ∷ blocks)) ≡ true
 end_block form.With w split inside blocks h = absurd (true≢false h)
 end_block form.Loop w split inside blocks h = refl
 end_block form.Repeat w split inside blocks h = refl
@@ -134,7 +139,8 @@ abbrev MadeBuilt : Option Stmt → Type 0
 MadeBuilt None = Unit {0}
 MadeBuilt (Some t) = is_built_statement t ≡ true
 
-made_built : (heads : ProcessLines) (place : LineInText) (f : Form) (slots : List Operand) → is_built f ≡ true → AllBuilt place.above.blocks → MadeBuilt (statement heads place f slots)
+made_built : (heads : ProcessLines) (place : LineInText) (f : Form) (slots : List Operand) → is_built f ≡ true
+    → AllBuilt place.above.blocks → MadeBuilt (statement heads place f slots)
 made_built heads place form.Timeout (d ∷ []) is all = refl
 made_built heads place form.Timeout slots is all = tt
 made_built heads place form.Log (a ∷ []) is all = refl
@@ -177,7 +183,9 @@ with_made s (Some t) is h = one_more s t is h
 
 -- ---- a line
 
-add_built : (heads : ProcessLines) (place : LineInText) (f : Form) (slots : List Operand) (s : ScenarioOf) → is_built f ≡ true → AllBuilt place.above.blocks → is_built_scenario s ≡ true → is_built_scenario (add heads place f slots s) ≡ true
+add_built : (heads : ProcessLines) (place : LineInText) (f : Form) (slots : List Operand) (s : ScenarioOf)
+    → is_built f ≡ true → AllBuilt place.above.blocks → is_built_scenario s ≡ true
+    → is_built_scenario (add heads place f slots s) ≡ true
 add_built heads place form.Scenario slots s is all h = h
 add_built heads place form.UntilEmpty slots s is all h = h
 add_built heads place form.Seed [] s is all h = h
@@ -202,14 +210,17 @@ add_built heads place form.Break slots s is all h = with_made s (statement heads
 add_built heads place form.Draw slots s is all h = with_made s (statement heads place form.Draw slots) (made_built heads place form.Draw slots is all) h
 add_built heads place f slots s is all h = absurd (false≢true is)
 
-said_built : (heads : ProcessLines) (place : LineInText) (said : Saying) (s : ScenarioOf) → IsBuiltSaid is_built said → AllBuilt place.above.blocks → is_built_scenario s ≡ true → is_built_scenario (add_said heads place said s) ≡ true
+said_built : (heads : ProcessLines) (place : LineInText) (said : Saying) (s : ScenarioOf) → IsBuiltSaid is_built said
+    → AllBuilt place.above.blocks → is_built_scenario s ≡ true → is_built_scenario (add_said heads place said s) ≡ true
 said_built heads place Blank s is all h = h
 said_built heads place (Wrong kind) s is all h = h
 said_built heads place (Says f slots) s is all h = add_built heads place f slots s is all h
 
 -- ---- the text
 
-lines_add_built : (heads : ProcessLines) (n : ℕ) (above below : List TextLine) (s : ScenarioOf) → All (λ l. IsBuiltSaid is_built l.saying) below → AllBuilt (open_blocks above) → is_built_scenario s ≡ true → is_built_scenario (with_lines heads s (places n above below)) ≡ true
+lines_add_built : (heads : ProcessLines) (n : ℕ) (above below : List TextLine) (s : ScenarioOf)
+    → All (λ l. IsBuiltSaid is_built l.saying) below → AllBuilt (open_blocks above) → is_built_scenario s ≡ true
+    → is_built_scenario (with_lines heads s (places n above below)) ≡ true
 lines_add_built heads n above [] s built all h = h
 lines_add_built heads n above (l ∷ below) s built all h =
     let is : IsBuiltSaid is_built l.saying = All-head (λ k. IsBuiltSaid is_built k.saying) l below built in
@@ -218,7 +229,9 @@ lines_add_built heads n above (l ∷ below) s built all h =
 linked_text : (s : ScenarioOf) → is_built_scenario s ≡ true → is_built_scenario (record s { code = linked 0 s.code }) ≡ true
 linked_text s = with_code s (linked 0 s.code) (linked_built 0 s.code)
 
-pub built_text : (heads : ProcessLines) (ls : List TextLine) → All (λ l. IsBuiltSaid is_built l.saying) ls → let s : ScenarioOf = with_lines heads nothing_said (places 1 [] ls) in is_built_scenario (record s { code = linked 0 s.code }) ≡ true
+pub built_text : (heads : ProcessLines) (ls : List TextLine) → All (λ l. IsBuiltSaid is_built l.saying) ls
+    → let s : ScenarioOf = with_lines heads nothing_said (places 1 [] ls) in is_built_scenario (record s { code = linked 0 s.code })
+    ≡ true
 built_text heads ls built = linked_text (with_lines heads nothing_said (places 1 [] ls)) (lines_add_built heads 1 [] ls nothing_said built tt refl)
 
 -- a scenario that is read has built parts

@@ -25,11 +25,13 @@ Rule context last (EventName ∷ items) P = (w : Word) → Rule context w items 
 Rule context last (NextPoster ∷ items) P = (w : Word) → Rule context w items (λ slots. P (slot_of (Within (pos context.posters) (pos context.posters)) w ∷ slots))
 
 -- one operand more in front
-in_front : (slot : Operand) (o : Option (List Operand)) (slots : List Operand) (P : List Operand → Type 0) → before_all slot o ≡ Some slots → ((more : List Operand) → o ≡ Some more → P (slot ∷ more)) → P slots
+in_front : (slot : Operand) (o : Option (List Operand)) (slots : List Operand) (P : List Operand → Type 0)
+    → before_all slot o ≡ Some slots → ((more : List Operand) → o ≡ Some more → P (slot ∷ more)) → P slots
 in_front slot None slots P h each = absurd (none-some slots h)
 in_front slot (Some more) slots P h each = subst P (same_Some (slot ∷ more) slots h) (each more refl)
 
-pub by_shape : (context : Context) (last : Word) (items : List Item) (ws : List Word) (slots : List Operand) (P : List Operand → Type 0) → fit context last items ws ≡ Some slots → Rule context last items P → P slots
+pub by_shape : (context : Context) (last : Word) (items : List Item) (ws : List Word) (slots : List Operand)
+    (P : List Operand → Type 0) → fit context last items ws ≡ Some slots → Rule context last items P → P slots
 by_shape context last [] [] slots P h rule = subst P (same_Some [] slots h) rule
 by_shape context last [] (w ∷ ws) slots P h rule = absurd (none-some slots h)
 by_shape context last (MayEnd ∷ items) [] slots P h rule = subst P (same_Some [] slots h) rule.0
@@ -50,7 +52,10 @@ by_shape context last (Exactly word ∷ items) (w ∷ ws) slots P h rule = by (s
     by false e rest = absurd (none-some slots e)
 by_shape context last (OneOf choice ∷ items) (w ∷ ws) slots P h rule = by (is_among w (choices choice)) refl h (λ among more e. by_shape context w items ws more (λ later. P (slot_of Free w ∷ later)) e (rule w among))
   where
-    by : (b : Bool) → is_among w (choices choice) ≡ b → (if b then before_all (slot_of Free w) (fit context w items ws) else None) ≡ Some slots → (is_among w (choices choice) ≡ true → (more : List Operand) → fit context w items ws ≡ Some more → P (slot_of Free w ∷ more)) → P slots
+    by : (b : Bool) → is_among w (choices choice) ≡ b
+        → (if b then before_all (slot_of Free w) (fit context w items ws) else None) ≡ Some slots
+        → (is_among w (choices choice) ≡ true → (more : List Operand) → fit context w items ws ≡ Some more → P (slot_of Free w ∷ more))
+        → P slots
     by true among e rest = in_front (slot_of Free w) (fit context w items ws) slots P e (rest among)
     by false among e rest = absurd (none-some slots e)
 by_shape context last (A role ∷ items) (w ∷ ws) slots P h rule = in_front (slot_of role w) (fit context w items ws) slots P h (λ more e. by_shape context w items ws more (λ later. P (slot_of role w ∷ later)) e (rule w))
@@ -61,7 +66,8 @@ by_shape context last (EventName ∷ items) (w ∷ ws) slots P h rule =
 by_shape context last (NextPoster ∷ items) (w ∷ ws) slots P h rule = in_front (slot_of (Within (pos context.posters) (pos context.posters)) w) (fit context w items ws) slots P h (λ more e. by_shape context w items ws more (λ later. P (slot_of (Within (pos context.posters) (pos context.posters)) w ∷ later)) e (rule w))
 
 -- what holds of all operands
-pub rule_all : (context : Context) (last : Word) (items : List Item) (P : List Operand → Type 0) → ((slots : List Operand) → P slots) → Rule context last items P
+pub rule_all : (context : Context) (last : Word) (items : List Item) (P : List Operand → Type 0)
+    → ((slots : List Operand) → P slots) → Rule context last items P
 rule_all context last [] P all = all []
 rule_all context last (MayEnd ∷ items) P all = (all [], rule_all context last items P all)
 rule_all context last (Each role ∷ items) P all = λ ws. all (map (slot_of role) ws)

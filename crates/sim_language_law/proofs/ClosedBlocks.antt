@@ -102,7 +102,8 @@ with_alike : (v : ℕ) (frame : Frame) (cs : List Closing) → is_open_with v (o
 with_alike v (InWith w) cs = refl
 with_alike v frame cs = refl
 
-any_alike : (p : Open → Bool) (q : Frame → Bool) → ((frame : Frame) (cs : List Closing) → p (open_of frame cs) ≡ q frame) → (frames : List Frame) (cs : List Closing) → list_any p (opened frames cs) ≡ list_any q frames
+any_alike : (p : Open → Bool) (q : Frame → Bool) → ((frame : Frame) (cs : List Closing) → p (open_of frame cs) ≡ q frame)
+    → (frames : List Frame) (cs : List Closing) → list_any p (opened frames cs) ≡ list_any q frames
 any_alike p q alike [] cs = refl
 any_alike p q alike (frame ∷ frames) cs = rw (alike frame cs, any_alike p q alike frames (without_first cs)) refl
 
@@ -150,7 +151,8 @@ pub release_within : (n v : ℕ) (opens : List Open) → stands_within n opens (
 release_within n v (OpenIf other ∷ opens) = refl
 release_within n v opens = refl
 
-pub with_within : (n to res : ℕ) (priority : Num) (preempt : Bool) (opens : List Open) → stands_within n opens (stmt.With to res priority preempt) ≡ not (list_any (is_open_with to) opens)
+pub with_within : (n to res : ℕ) (priority : Num) (preempt : Bool) (opens : List Open)
+    → stands_within n opens (stmt.With to res priority preempt) ≡ not (list_any (is_open_with to) opens)
 with_within n to res priority preempt (OpenIf other ∷ opens) = refl
 with_within n to res priority preempt opens = refl
 
@@ -171,7 +173,8 @@ same_place n = eq-eqb n n refl
 closed_here : (first inside n : ℕ) → (first == inside) ≡ true → ((first == inside) && (suc n == suc n)) ≡ true
 closed_here first inside n h = and_from (first == inside) (suc n == suc n) h (same_place (suc n))
 
-goes : (n : ℕ) (frames : List Frame) (s : Stmt) (cs : List Closing) → may_stand s frames ≡ true → length cs ≡ length (frames_then n s frames) → Goes n frames s cs
+goes : (n : ℕ) (frames : List Frame) (s : Stmt) (cs : List Closing) → may_stand s frames ≡ true
+    → length cs ≡ length (frames_then n s frames) → Goes n frames s cs
 goes n frames (stmt.With to res priority preempt) cs may long = record { stands = with_within n to res priority preempt (opened frames (without_first cs)) ∙ ap not (any_alike (is_open_with to) (is_with_frame to) (with_alike to) frames (without_first cs)) ∙ may; opens = refl; closes = one_less cs (length frames) long }
 goes n frames (stmt.Loop past) cs may long = record { stands = free_within n _ (stmt.Loop (past_of cs)) refl; opens = refl; closes = one_less cs (length frames) long }
 goes n frames (stmt.Repeat times past) cs may long = record { stands = free_within n _ (stmt.Repeat times (past_of cs)) refl; opens = refl; closes = one_less cs (length frames) long }
@@ -214,7 +217,9 @@ pub leaves_none : Leaves 0 [] []
 leaves_none rest long well = well
 
 -- one statement more
-pub leaves_more : (n : ℕ) (frames : List Frame) (code : List Stmt) (s : Stmt) → Leaves n frames code → may_stand s frames ≡ true → nat_le (length (frames_then n s frames)) 32 ≡ true → Leaves (suc n) (frames_then n s frames) (code ++ s ∷ [])
+pub leaves_more : (n : ℕ) (frames : List Frame) (code : List Stmt) (s : Stmt) → Leaves n frames code
+    → may_stand s frames ≡ true → nat_le (length (frames_then n s frames)) 32 ≡ true
+    → Leaves (suc n) (frames_then n s frames) (code ++ s ∷ [])
 leaves_more n frames code s leaves may few rest long well =
     let g : Goes n frames s (closings (suc n) rest) = goes n frames s (closings (suc n) rest) may long in
     rw (append_assoc code (s ∷ []) rest) (leaves (s ∷ rest) g.closes (rw (g.stands, g.opens, opened-length (frames_then n s frames) (closings (suc n) rest), few) well))
@@ -241,7 +246,8 @@ last_ends-linked n [] = refl
 last_ends-linked n (s ∷ []) = is_end_process-link s []
 last_ends-linked n (s ∷ t ∷ code) = last_ends-linked (suc n) (t ∷ code)
 
-well_to_end : (n : ℕ) (opens : List Open) (s : Stmt) (code : List Stmt) → all_stand n opens (s ∷ code) ≡ true → last_ends (s ∷ code) ≡ true → stand_well n opens (s ∷ code) ≡ true
+well_to_end : (n : ℕ) (opens : List Open) (s : Stmt) (code : List Stmt) → all_stand n opens (s ∷ code) ≡ true
+    → last_ends (s ∷ code) ≡ true → stand_well n opens (s ∷ code) ≡ true
 well_to_end n opens s [] well ends =
     let parts = and_parts (stands_within n opens s && nat_le (length (open_then n opens s)) 32) true well in
     and_from (stands_within n opens s) (is_end_process s) (and_parts (stands_within n opens s) _ parts.0).0 ends

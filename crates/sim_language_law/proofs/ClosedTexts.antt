@@ -58,7 +58,10 @@ module _ (heads : ProcessLines) (n : ℕ) (above : List TextLine) (words : List 
   place said = place_at n above (line said) below
 
   -- a line of a process
-  one_statement : (f : Form) (slots : List Operand) → Fits f slots → Faultless heads (place (Says f slots)) f slots → StandsAt above (line (Says f slots) ∷ below) s → is_statement f ≡ true → (blocks : Option (List Block)) → open_blocks above ≡ blocks → StandsAt (line (Says f slots) ∷ above) below (add heads (place (Says f slots)) f slots s)
+  one_statement : (f : Form) (slots : List Operand) → Fits f slots → Faultless heads (place (Says f slots)) f slots
+      → StandsAt above (line (Says f slots) ∷ below) s → is_statement f ≡ true → (blocks : Option (List Block))
+      → open_blocks above ≡ blocks
+      → StandsAt (line (Says f slots) ∷ above) below (add heads (place (Says f slots)) f slots s)
   one_statement f slots is free p e None here = absurd (false≢true (sym free.misplaced ∙ statement_outside (above_of above) f slots e here))
   one_statement f slots is free p e (Some blocks) here =
       let v : variables_at (line (Says f slots) ∷ above) below ≡ variables_at above (line (Says f slots) ∷ below) = same_variables f slots below _ (statement_begins_none f e) in
@@ -75,27 +78,34 @@ module _ (heads : ProcessLines) (n : ℕ) (above : List TextLine) (words : List 
       stands_like _ _ _ _ _ _ _ _ _ _ counts refl behind (ap (λ (x : ScenarioOf). x.code) t) (ap (λ (x : ScenarioOf). x.kinds) t) r
 
   -- a process line
-  one_process : (slots : List Operand) → Faultless heads (place (Says form.Process slots)) form.Process slots → StandsAt above (line (Says form.Process slots) ∷ below) s → StandsAt (line (Says form.Process slots) ∷ above) below (add heads (place (Says form.Process slots)) form.Process slots s)
+  one_process : (slots : List Operand) → Faultless heads (place (Says form.Process slots)) form.Process slots
+      → StandsAt above (line (Says form.Process slots) ∷ below) s
+      → StandsAt (line (Says form.Process slots) ∷ above) below (add heads (place (Says form.Process slots)) form.Process slots s)
   one_process slots free p =
       let none : open_blocks above ≡ None = no_blocks (open_blocks above) (or_parts _ _ free.misplaced).0 in
       stands_process (statements above) _ _ s.code s.kinds (kind_of (place (Says form.Process slots)) slots) refl (stands_like _ _ _ _ _ _ _ _ _ _ refl refl none refl refl p)
 
   -- a line that is neither adds no code and no kind
-  one_beside : (f : Form) (slots : List Operand) → (is_statement f || is_process f) ≡ false → StandsAt above (line (Says f slots) ∷ below) s → StandsAt (line (Says f slots) ∷ above) below (add heads (place (Says f slots)) f slots s)
+  one_beside : (f : Form) (slots : List Operand) → (is_statement f || is_process f) ≡ false
+      → StandsAt above (line (Says f slots) ∷ below) s
+      → StandsAt (line (Says f slots) ∷ above) below (add heads (place (Says f slots)) f slots s)
   one_beside f slots e p =
       let parts = or_parts (is_statement f) (is_process f) e in
       let same = same_code heads (place (Says f slots)) f slots s e in
       let counts : statements above ≡ statements (line (Says f slots) ∷ above) = rw parts.0 refl in
       stands_like _ _ _ _ _ _ _ _ _ _ counts (sym (same_variables f slots below _ parts.1)) (sym (same_blocks _ f slots (open_blocks above) e)) (sym same.0) (sym same.1) p
 
-  one_saying : (f : Form) (slots : List Operand) → is_process f ≡ false → Fits f slots → Faultless heads (place (Says f slots)) f slots → StandsAt above (line (Says f slots) ∷ below) s → StandsAt (line (Says f slots) ∷ above) below (add heads (place (Says f slots)) f slots s)
+  one_saying : (f : Form) (slots : List Operand) → is_process f ≡ false → Fits f slots
+      → Faultless heads (place (Says f slots)) f slots → StandsAt above (line (Says f slots) ∷ below) s
+      → StandsAt (line (Says f slots) ∷ above) below (add heads (place (Says f slots)) f slots s)
   one_saying f slots none is free p = by (is_statement f) refl
     where
       by : (b : Bool) → is_statement f ≡ b → StandsAt (line (Says f slots) ∷ above) below (add heads (place (Says f slots)) f slots s)
       by true e = one_statement f slots is free p e (open_blocks above) refl
       by false e = one_beside f slots (or_from _ _ e none) p
 
-  one_line : (said : Saying) → IsSaid said → fault_at heads (place said) ≡ None → StandsAt above (line said ∷ below) s → StandsAt (line said ∷ above) below (add_said heads (place said) said s)
+  one_line : (said : Saying) → IsSaid said → fault_at heads (place said) ≡ None → StandsAt above (line said ∷ below) s
+      → StandsAt (line said ∷ above) below (add_said heads (place said) said s)
   one_line Blank is clean p = p
   one_line (Wrong kind) is clean p = p
   one_line (Says form.Process slots) is clean p = one_process slots (faultless heads _ form.Process slots clean refl) p
@@ -143,7 +153,8 @@ at_end n variables s p = record {
     long : length (firsts_of s.kinds) ≡ length s.kinds
     long = length-map s.kinds (λ k. k.first)
 
-pub closed_text : (heads : ProcessLines) (ls : List TextLine) → All (λ l. IsSaid l.saying) ls → first_fault heads (places 1 [] ls) (end_fault ls) ≡ None → Closed (with_lines heads nothing_said (places 1 [] ls))
+pub closed_text : (heads : ProcessLines) (ls : List TextLine) → All (λ l. IsSaid l.saying) ls
+    → first_fault heads (places 1 [] ls) (end_fault ls) ≡ None → Closed (with_lines heads nothing_said (places 1 [] ls))
 closed_text heads ls said clean =
     let ends : Ends heads SoFar 1 [] ls nothing_said (end_fault ls) = walk heads SoFar (kept heads) ls 1 [] nothing_said (end_fault ls) clean (said, stands_none (variables_at [] ls)) in
     at_end _ _ _ (stands_like _ _ _ _ _ _ _ _ _ _ refl refl (in_no_process ls ends.none) refl refl ends.holds.1)

@@ -21,7 +21,8 @@ abbrev pub is_closed : List Stmt → Kind → Bool
 is_closed code k = list_any is_end_process (drop k.first code)
 
 -- what follows from two tests on each
-pub list_all_both : {X : Type 0} (p q r : X → Bool) (xs : List X) → ((x : X) → p x ≡ true → q x ≡ true → r x ≡ true) → list_all p xs ≡ true → list_all q xs ≡ true → list_all r xs ≡ true
+pub list_all_both : {X : Type 0} (p q r : X → Bool) (xs : List X) → ((x : X) → p x ≡ true → q x ≡ true → r x ≡ true)
+    → list_all p xs ≡ true → list_all q xs ≡ true → list_all r xs ≡ true
 list_all_both p q r [] each h g = refl
 list_all_both p q r (x ∷ xs) each h g =
     let first = and_parts (p x) (list_all p xs) h in
@@ -39,7 +40,8 @@ one_fits : (test : Stmt → Bool) (s : Stmt) → test s ≡ true → list_all te
 one_fits test stmt.EndProcess h = rw h refl
 one_fits test s h = rw h refl
 
-more_fits : (test : Stmt → Bool) (xs : List Stmt) (s : Stmt) → list_all test (up_to_end xs) ≡ true → test s ≡ true → list_all test (up_to_end (xs ++ s ∷ [])) ≡ true
+more_fits : (test : Stmt → Bool) (xs : List Stmt) (s : Stmt) → list_all test (up_to_end xs) ≡ true → test s ≡ true
+    → list_all test (up_to_end (xs ++ s ∷ [])) ≡ true
 more_fits test [] s h one = one_fits test s one
 more_fits test (stmt.EndProcess ∷ xs) s h one = h
 more_fits test (x ∷ xs) s h one = let parts = and_parts (test x) (list_all test (up_to_end xs)) h in and_from _ _ parts.0 (more_fits test xs s parts.1 one)
@@ -54,10 +56,12 @@ closed_within (suc n) (s ∷ code) h = let rest = closed_within n code h in omeg
 pub closed_push : (code : List Stmt) (s : Stmt) (k : Kind) → is_closed code k ≡ true → is_closed (code ++ s ∷ []) k ≡ true
 closed_push code s k h = rw (drop-append-le k.first code (s ∷ []) (closed_within k.first code h), list_any-append is_end_process (drop k.first code) (s ∷ [])) (or_left _ _ h)
 
-pub closed_fits : (final : ScenarioOf) (code : List Stmt) (s : Stmt) (k : Kind) → is_closed code k ≡ true → fits_from final code k ≡ true → fits_from final (code ++ s ∷ []) k ≡ true
+pub closed_fits : (final : ScenarioOf) (code : List Stmt) (s : Stmt) (k : Kind) → is_closed code k ≡ true
+    → fits_from final code k ≡ true → fits_from final (code ++ s ∷ []) k ≡ true
 closed_fits final code s k closed h = rw (drop-append-le k.first code (s ∷ []) (closed_within k.first code closed), up_to_end_closed (drop k.first code) (s ∷ []) closed) h
 
-pub open_fits : (final : ScenarioOf) (code : List Stmt) (s : Stmt) (k : Kind) → k.first ≤ length code → fits_from final code k ≡ true → statement_fits final k s ≡ true → fits_from final (code ++ s ∷ []) k ≡ true
+pub open_fits : (final : ScenarioOf) (code : List Stmt) (s : Stmt) (k : Kind) → k.first ≤ length code
+    → fits_from final code k ≡ true → statement_fits final k s ≡ true → fits_from final (code ++ s ∷ []) k ≡ true
 open_fits final code s k within h one = rw (drop-append-le k.first code (s ∷ []) within) (more_fits (statement_fits final k) (drop k.first code) s h one)
 
 pub now_closed : (code : List Stmt) (s : Stmt) (k : Kind) → k.first ≤ length code → is_end_process s ≡ true → is_closed (code ++ s ∷ []) k ≡ true

@@ -65,10 +65,13 @@ abbrev pub Grown : Form → Option Sort → List (Named Meaning) → List (Named
 Grown f None ds es = es ≡ ds
 Grown f (Some o) ds es = (w : Word) × (is_named w ds ≡ false) × (es ≡ ds ++ record { name = w; value = record { form = f; number = count_of o ds } } ∷ [])
 
-one_grown : (f : Form) (o : Sort) (ds : List (Named Meaning)) (w : Word) (others : Bool) → (is_named w ds || others) ≡ false → Grown f (Some o) ds (with_one ds (record { name = w; value = record { form = f; number = count_of o ds } }))
+one_grown : (f : Form) (o : Sort) (ds : List (Named Meaning)) (w : Word) (others : Bool) → (is_named w ds || others) ≡ false
+    → Grown f (Some o) ds (with_one ds (record { name = w; value = record { form = f; number = count_of o ds } }))
 one_grown f o ds w others again = let parts = or_parts (is_named w ds) others again in (w, parts.0, with_one_new ds (record { name = w; value = record { form = f; number = count_of o ds } }) parts.0)
 
-pub grown : (context : Context) (above : Above) (f : Form) → Rule context [] (shape f) (λ slots. list_any (declares_again above) slots ≡ false → Grown f (declares_sort f) above.declared (with_declared above.declared f (declares_sort f) slots))
+pub grown : (context : Context) (above : Above) (f : Form)
+    → Rule context [] (shape f)
+    (λ slots. list_any (declares_again above) slots ≡ false → Grown f (declares_sort f) above.declared (with_declared above.declared f (declares_sort f) slots))
 grown context above form.Resource = λ n c again. one_grown form.Resource sort.Resource above.declared n _ again
 grown context above form.Priority = λ n c again. one_grown form.Priority sort.Resource above.declared n _ again
 grown context above form.Preemptive = λ n c again. one_grown form.Preemptive sort.Resource above.declared n _ again
@@ -82,12 +85,14 @@ grown context above form.Process = λ n ws again. one_grown form.Process sort.Pr
 grown context above f = rule_all context [] (shape f) (λ slots. list_any (declares_again above) slots ≡ false → Grown f (declares_sort f) above.declared (with_declared above.declared f (declares_sort f) slots)) (λ slots again. refl)
 
 -- what is declared keeps its meaning
-pub grown_kept : (f : Form) (o : Option Sort) (ds es : List (Named Meaning)) (w : Word) (d : Meaning) → Grown f o ds es → value_of w ds ≡ Some d → value_of w es ≡ Some d
+pub grown_kept : (f : Form) (o : Option Sort) (ds es : List (Named Meaning)) (w : Word) (d : Meaning) → Grown f o ds es
+    → value_of w ds ≡ Some d → value_of w es ≡ Some d
 grown_kept f None ds es w d more h = subst (λ fs. value_of w fs ≡ Some d) (sym more) h
 grown_kept f (Some o) ds es w d more h = subst (λ fs. value_of w fs ≡ Some d) (sym more.2) (value_of_kept w ds _ d h)
 
 -- what is declared was so above, or is so by the line
-pub grown_cases : (f : Form) (o : Option Sort) (ds es : List (Named Meaning)) (w : Word) (d : Meaning) → Grown f o ds es → value_of w es ≡ Some d → (value_of w ds ≡ Some d) ⊎ (f ≡ d.form)
+pub grown_cases : (f : Form) (o : Option Sort) (ds es : List (Named Meaning)) (w : Word) (d : Meaning) → Grown f o ds es
+    → value_of w es ≡ Some d → (value_of w ds ≡ Some d) ⊎ (f ≡ d.form)
 grown_cases f None ds es w d more h = inl (subst (λ fs. value_of w fs ≡ Some d) more h)
 grown_cases f (Some o) ds es w d more h = by (value_of_push w ds _ d (subst (λ fs. value_of w fs ≡ Some d) more.2 h))
   where
@@ -120,7 +125,8 @@ declared_nothing = record {
     none sort.Process = refl
 
 -- the first of a list keep their places
-kept_kind : (rs : List Resource) (r : Resource) (i : ℕ) (k : ResourceKind) → option_map (λ q. q.kind) (slice_get rs i) ≡ Some k → option_map (λ q. q.kind) (slice_get (rs ++ r ∷ []) i) ≡ Some k
+kept_kind : (rs : List Resource) (r : Resource) (i : ℕ) (k : ResourceKind)
+    → option_map (λ q. q.kind) (slice_get rs i) ≡ Some k → option_map (λ q. q.kind) (slice_get (rs ++ r ∷ []) i) ≡ Some k
 kept_kind [] r i k h = absurd (none-some k h)
 kept_kind (q ∷ rs) r zero k h = h
 kept_kind (q ∷ rs) r (suc i) k h = kept_kind rs r i k h
@@ -129,14 +135,19 @@ last_kind : (rs : List Resource) (r : Resource) → option_map (λ q. q.kind) (s
 last_kind [] r = refl
 last_kind (q ∷ rs) r = last_kind rs r
 
-pub kind_put : (a : Added) (s : ScenarioOf) (i : ℕ) (k : ResourceKind) → option_map (λ q. q.kind) (slice_get s.setup.resources i) ≡ Some k → option_map (λ q. q.kind) (slice_get (put_in a s).setup.resources i) ≡ Some k
+pub kind_put : (a : Added) (s : ScenarioOf) (i : ℕ) (k : ResourceKind)
+    → option_map (λ q. q.kind) (slice_get s.setup.resources i) ≡ Some k
+    → option_map (λ q. q.kind) (slice_get (put_in a s).setup.resources i) ≡ Some k
 kind_put (AResource kind c o) s i k h = kept_kind s.setup.resources _ i k h
 kind_put a s i k h = h
 
-new_kind : (f : Form) (a : Added) (s : ScenarioOf) → Told f a → declares_sort f ≡ Some sort.Resource → option_map (λ q. q.kind) (slice_get (put_in a s).setup.resources (length s.setup.resources)) ≡ Some (resource_kind f)
+new_kind : (f : Form) (a : Added) (s : ScenarioOf) → Told f a → declares_sort f ≡ Some sort.Resource
+    → option_map (λ q. q.kind) (slice_get (put_in a s).setup.resources (length s.setup.resources)) ≡ Some (resource_kind f)
 new_kind f a s told e = by a (told.sort ∙ e) told.made
   where
-    by : (b : Added) → sort_added b ≡ Some sort.Resource → Rattle.sim_language_law.proofs.AdditionsByForm.IsMadeBy f b → option_map (λ q. q.kind) (slice_get (put_in b s).setup.resources (length s.setup.resources)) ≡ Some (resource_kind f)
+    by : (b : Added) → sort_added b ≡ Some sort.Resource → Rattle.sim_language_law.proofs.AdditionsByForm.IsMadeBy f b
+        → option_map (λ q. q.kind) (slice_get (put_in b s).setup.resources (length s.setup.resources))
+        ≡ Some (resource_kind f)
     by (AResource kind c o) h made = last_kind s.setup.resources _ ∙ ap Some made
     by b h made = absurd cc
 
@@ -161,7 +172,9 @@ declared_same a ds s e h = record {
   kinds = λ w d named sort. kind_put a s d.number (resource_kind d.form) (h.kinds w d named sort);
 }
 
-declared_more : (f : Form) (a : Added) (o : Sort) (ds es : List (Named Meaning)) (s : ScenarioOf) → Told f a → declares_sort f ≡ Some o → nat_le (most_of o) (count_of o ds) ≡ false → Grown f (Some o) ds es → Declared ds s → Declared es (put_in a s)
+declared_more : (f : Form) (a : Added) (o : Sort) (ds es : List (Named Meaning)) (s : ScenarioOf) → Told f a
+    → declares_sort f ≡ Some o → nat_le (most_of o) (count_of o ds) ≡ false → Grown f (Some o) ds es → Declared ds s
+    → Declared es (put_in a s)
 declared_more f a o ds es s told e full more h = record {
   sizes = λ p. size_put p a s ∙ (rw (told.sort, e) (rw (h.sizes p) (sym (counts p))));
   few = λ p. rw (counts p) (few_push p o (λ q. count_of q ds) (leb-false (most_of o) (count_of o ds) full) h.few);
@@ -178,18 +191,23 @@ declared_more f a o ds es s told e full more h = record {
     one_more : count_of o ds < count_of o es
     one_more = let more : count_of o es ≡ count_of o ds + 1 = counts o ∙ ap (λ b. count_of o ds + one_if b) (same_sort_self o) in omega arith
 
-    numbers : (w : Word) (d : Meaning) (p : Sort) → (value_of w ds ≡ Some d) ⊎ ((same w more.0 ≡ true) × (meaning ≡ d)) → declares_sort d.form ≡ Some p → d.number < count_of p es
+    numbers : (w : Word) (d : Meaning) (p : Sort) → (value_of w ds ≡ Some d) ⊎ ((same w more.0 ≡ true) × (meaning ≡ d))
+        → declares_sort d.form ≡ Some p → d.number < count_of p es
     numbers w d p (inl known) sort = let below = h.numbers w d p known sort in omega (arith, counts p)
     numbers w d p (inr last) sort = subst (λ c. declares_sort c.form ≡ Some p → c.number < count_of p es) last.1 (λ k. subst (λ q. count_of o ds < count_of q es) (same_Some o p (sym e ∙ k)) one_more) sort
 
     at_end : o ≡ sort.Resource → length s.setup.resources ≡ count_of o ds
     at_end k = h.sizes sort.Resource ∙ ap (λ q. count_of q ds) (sym k)
 
-    kinds : (w : Word) (d : Meaning) → (value_of w ds ≡ Some d) ⊎ ((same w more.0 ≡ true) × (meaning ≡ d)) → declares_sort d.form ≡ Some sort.Resource → option_map (λ r. r.kind) (slice_get (put_in a s).setup.resources d.number) ≡ Some (resource_kind d.form)
+    kinds : (w : Word) (d : Meaning) → (value_of w ds ≡ Some d) ⊎ ((same w more.0 ≡ true) × (meaning ≡ d))
+        → declares_sort d.form ≡ Some sort.Resource
+        → option_map (λ r. r.kind) (slice_get (put_in a s).setup.resources d.number) ≡ Some (resource_kind d.form)
     kinds w d (inl known) sort = kind_put a s d.number (resource_kind d.form) (h.kinds w d known sort)
     kinds w d (inr last) sorted = subst (λ c. declares_sort c.form ≡ Some sort.Resource → option_map (λ r. r.kind) (slice_get (put_in a s).setup.resources c.number) ≡ Some (resource_kind c.form)) last.1 (λ k. subst (λ n. option_map (λ r. r.kind) (slice_get (put_in a s).setup.resources n) ≡ Some (resource_kind f)) (at_end (same_Some o sort.Resource (sym e ∙ k))) (new_kind f a s told k)) sorted
 
-pub declared_line : (f : Form) (a : Added) (above : Above) (es : List (Named Meaning)) (s : ScenarioOf) → Told f a → sort_is_full above (declares_sort f) ≡ false → Grown f (declares_sort f) above.declared es → Declared above.declared s → Declared es (put_in a s)
+pub declared_line : (f : Form) (a : Added) (above : Above) (es : List (Named Meaning)) (s : ScenarioOf) → Told f a
+    → sort_is_full above (declares_sort f) ≡ false → Grown f (declares_sort f) above.declared es → Declared above.declared s
+    → Declared es (put_in a s)
 declared_line f a above es s told full more h = by (declares_sort f) refl full more
   where
     by : (o : Option Sort) → declares_sort f ≡ o → sort_is_full above o ≡ false → Grown f o above.declared es → Declared es (put_in a s)

@@ -87,7 +87,9 @@ order_by_statement : (last : Option ℤ) (o : Option Stmt) → OrderFits last la
 order_by_statement last None = refl
 order_by_statement last (Some statement) = refl
 
-order_after : (last : Option ℤ) (w : Word) → is_none (literal_within (pos 0) (pos (2 ^ 62)) w) ≡ false → falls last (literal w) ≡ false → (literal w ≡ Some (pos (natural_of w))) × ((m : ℕ) → last ≡ Some (pos m) → nat_le m (natural_of w) ≡ true)
+order_after : (last : Option ℤ) (w : Word) → is_none (literal_within (pos 0) (pos (2 ^ 62)) w) ≡ false
+    → falls last (literal w) ≡ false
+    → (literal w ≡ Some (pos (natural_of w))) × ((m : ℕ) → last ≡ Some (pos m) → nat_le m (natural_of w) ≡ true)
 order_after last w some order =
     let parts = and_parts (le_z (pos 0) (literal_of w)) (le_z (literal_of w) (pos (2 ^ 62))) (literal_in (pos 0) (pos (2 ^ 62)) w refl refl some) in
     let is : literal w ≡ Some (pos (natural_of w)) = literal_is (pos 0) (pos (2 ^ 62)) w refl refl some ∙ ap Some (sym (pos_nat_abs (literal_of w) parts.0)) in

@@ -52,5 +52,6 @@ module _ (heads : ProcessLines) (place : LineInText) (f : Form) (slots : List Op
   }
 
 -- a line that says a form and has no fault
-pub faultless : (heads : ProcessLines) (place : LineInText) (f : Form) (slots : List Operand) → fault_at heads place ≡ None → place.line.saying ≡ Says f slots → Faultless heads place f slots
+pub faultless : (heads : ProcessLines) (place : LineInText) (f : Form) (slots : List Operand) → fault_at heads place ≡ None
+    → place.line.saying ≡ Says f slots → Faultless heads place f slots
 faultless heads place f slots h says = all_passed heads place f slots says (none_pass (λ kind. applies kind heads place) kinds_in_order (subst (λ s. fault_by s heads place ≡ None) says h))

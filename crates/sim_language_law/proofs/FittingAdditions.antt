@@ -40,7 +40,9 @@ below n m h = grind (arith, nat_tests)
 natural_to : (m : ℕ) (w : Word) → le_z (pos m) greatest ≡ true → is_none (literal_within (pos 0) (pos m) w) ≡ false → nat_le (natural_of w) m ≡ true
 natural_to m w g h = natural_in m (literal_of w) (literal_in (pos 0) (pos m) w refl g h)
 
-opening_in : (c o : Word) → is_none (capacity (pos (2 ^ 62)) c) ≡ false → is_none (literal_within (pos 0) (unwrap_or (capacity (pos (2 ^ 62)) c) greatest) o) ≡ false → is_within (pos 0) (capacity_of (pos (2 ^ 62)) c) (literal_of o) ≡ true
+opening_in : (c o : Word) → is_none (capacity (pos (2 ^ 62)) c) ≡ false
+    → is_none (literal_within (pos 0) (unwrap_or (capacity (pos (2 ^ 62)) c) greatest) o) ≡ false
+    → is_within (pos 0) (capacity_of (pos (2 ^ 62)) c) (literal_of o) ≡ true
 opening_in c o capacity_good opening_good =
     let e = capacity_most (pos (2 ^ 62)) greatest c refl capacity_good in
     let few = and_parts (le_z (pos 1) (capacity_of (pos (2 ^ 62)) c)) (le_z (capacity_of (pos (2 ^ 62)) c) (pos (2 ^ 62))) (capacity_in (pos (2 ^ 62)) c refl capacity_good) in
@@ -63,12 +65,15 @@ long_enough : (xs : List Class) (n m : ℕ) (c : Class) → n ≤ m → length (
 long_enough xs n m c h = length-take-le n (xs ++ replicate m c) (omega (arith, length-append xs (replicate m c), length-replicate m c))
 
 -- as many classes as there are numbers of variables, the first that of `val`
-kind_fits_by : (params first : ℕ) (variables : List (Named Class)) → params ≤ 8 → kind_fits (record { params = params; first = first; classes = classes_of variables }) ≡ true
+kind_fits_by : (params first : ℕ) (variables : List (Named Class)) → params ≤ 8
+    → kind_fits (record { params = params; first = first; classes = classes_of variables }) ≡ true
 kind_fits_by params first variables few =
     let as_many : length (classes_of variables) ≡ 64 = ap suc (long_enough (map (λ v. v.value) variables) 63 64 class.Number (lit≤ tt)) in
     and_from _ _ (and_from _ _ (le-leb params 8 few) (eq-eqb (length (classes_of variables)) 64 as_many)) refl
 
-kind_fits_alone : (place : LineInText) (n : Word) (ws : List Word) → nat_lt 9 (length (slot_of Declares n ∷ map (slot_of Parameter) ws)) ≡ false → kind_fits (kind_of place (slot_of Declares n ∷ map (slot_of Parameter) ws)) ≡ true
+kind_fits_alone : (place : LineInText) (n : Word) (ws : List Word)
+    → nat_lt 9 (length (slot_of Declares n ∷ map (slot_of Parameter) ws)) ≡ false
+    → kind_fits (kind_of place (slot_of Declares n ∷ map (slot_of Parameter) ws)) ≡ true
 kind_fits_alone place n ws few = kind_fits_by (length (given_by (map (slot_of Parameter) ws))) place.above.statements place.variables (rw length_parameters (as_few ws few))
   where
     as_few : (vs : List Word) → nat_lt 9 (suc (length (map (slot_of Parameter) vs))) ≡ false → length vs ≤ 8

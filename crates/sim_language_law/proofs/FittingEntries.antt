@@ -50,25 +50,29 @@ entries_nothing final = record { all = omega arith; arrivals = omega arith; jour
 
 -- ---- counts
 
-more_counted : (test : Form → Bool) (above : List TextLine) (ws : List Word) (f : Form) (slots : List Operand) (b : Bool) → b ≡ test f → count_above test (line ws (Says f slots) ∷ above) ≡ count_above test above + one_if b
+more_counted : (test : Form → Bool) (above : List TextLine) (ws : List Word) (f : Form) (slots : List Operand) (b : Bool)
+    → b ≡ test f → count_above test (line ws (Says f slots) ∷ above) ≡ count_above test above + one_if b
 more_counted test above ws f slots b e = by (test f) (sym e)
   where
     by : (c : Bool) → c ≡ b → (if c then count_above test above + 1 else count_above test above) ≡ count_above test above + one_if b
     by true same = rw (← same) refl
     by false same = rw (← same) (omega arith)
 
-entry_below : (above : List TextLine) (f : Form) (slots : List Operand) → form_is_full (above_of above) f slots ≡ false → is_entry f ≡ true → count_above is_entry above < 65536
+entry_below : (above : List TextLine) (f : Form) (slots : List Operand) → form_is_full (above_of above) f slots ≡ false
+    → is_entry f ≡ true → count_above is_entry above < 65536
 entry_below above form.After slots full h = leb-false 65536 (count_above is_entry above) full
 entry_below above form.Post slots full h = leb-false 65536 (count_above is_entry above) full
 entry_below above f slots full h = absurd (true≢false (sym h))
 
-poster_below : (above : List TextLine) (f : Form) (slots : List Operand) → form_is_full (above_of above) f slots ≡ false → is_poster f ≡ true → count_above is_poster above < 16
+poster_below : (above : List TextLine) (f : Form) (slots : List Operand) → form_is_full (above_of above) f slots ≡ false
+    → is_poster f ≡ true → count_above is_poster above < 16
 poster_below above form.Poster slots full h = leb-false 16 (count_above is_poster above) full
 poster_below above f slots full h = absurd (true≢false (sym h))
 
 -- ---- lists
 
-never_falls_push : (front : List Arrival) (b a : Arrival) → never_falls (front ++ b ∷ []) ≡ true → nat_le b.after a.after ≡ true → never_falls ((front ++ b ∷ []) ++ a ∷ []) ≡ true
+never_falls_push : (front : List Arrival) (b a : Arrival) → never_falls (front ++ b ∷ []) ≡ true
+    → nat_le b.after a.after ≡ true → never_falls ((front ++ b ∷ []) ++ a ∷ []) ≡ true
 never_falls_push [] b a h e = rw e refl
 never_falls_push (x ∷ []) b a h e = and_from _ _ (and_parts (nat_le x.after b.after) true h).0 (rw e refl)
 never_falls_push (x ∷ y ∷ front) b a h e = let parts = and_parts (nat_le x.after y.after) (never_falls (y ∷ (front ++ b ∷ []))) h in and_from (nat_le x.after y.after) _ parts.0 (never_falls_push (y ∷ front) b a parts.1 e)
@@ -79,17 +83,20 @@ poster_more s n m posts h fits =
     let few = leb-true (length posts) n parts.0 in
     and_from _ _ (le-leb (length posts) m (omega arith)) parts.1
 
-poster_push : (s : ScenarioOf) (n : ℕ) (post : Post) (posts : List Post) → post_fits s post ≡ true → poster_fits s n posts ≡ true → poster_fits s (n + 1) (posts ++ post ∷ []) ≡ true
+poster_push : (s : ScenarioOf) (n : ℕ) (post : Post) (posts : List Post) → post_fits s post ≡ true
+    → poster_fits s n posts ≡ true → poster_fits s (n + 1) (posts ++ post ∷ []) ≡ true
 poster_push s n post posts one fits =
     let parts = and_parts (nat_le (length posts) n) (list_all (post_fits s) posts) fits in
     let few = leb-true (length posts) n parts.0 in
     and_from _ _ (le-leb (length (posts ++ post ∷ [])) (n + 1) (omega (arith, length_push posts post))) (list_all_push (post_fits s) posts post parts.1 one)
 
-pub more_posts : (s : ScenarioOf) (n m : ℕ) (posters : List (List Post)) → n ≤ m → list_all (poster_fits s n) posters ≡ true → list_all (poster_fits s m) posters ≡ true
+pub more_posts : (s : ScenarioOf) (n m : ℕ) (posters : List (List Post)) → n ≤ m → list_all (poster_fits s n) posters ≡ true
+    → list_all (poster_fits s m) posters ≡ true
 more_posts s n m [] h all = refl
 more_posts s n m (posts ∷ posters) h all = let parts = and_parts (poster_fits s n posts) (list_all (poster_fits s n) posters) all in and_from _ _ (poster_more s n m posts h parts.0) (more_posts s n m posters h parts.1)
 
-one_post : (s : ScenarioOf) (n : ℕ) (post : Post) (posters : List (List Post)) → post_fits s post ≡ true → list_all (poster_fits s n) posters ≡ true → list_all (poster_fits s (n + 1)) (onto_last post posters) ≡ true
+one_post : (s : ScenarioOf) (n : ℕ) (post : Post) (posters : List (List Post)) → post_fits s post ≡ true
+    → list_all (poster_fits s n) posters ≡ true → list_all (poster_fits s (n + 1)) (onto_last post posters) ≡ true
 one_post s n post [] fits all = refl
 one_post s n post (posts ∷ []) fits all = and_from _ _ (poster_push s n post posts fits (and_parts (poster_fits s n posts) true all).0) refl
 one_post s n post (posts ∷ more ∷ rest) fits all = let parts = and_parts (poster_fits s n posts) (list_all (poster_fits s n) (more ∷ rest)) all in and_from _ _ (poster_more s n (n + 1) posts (omega arith) parts.0) (one_post s n post (more ∷ rest) fits parts.1)
@@ -105,11 +112,13 @@ arrivals_put : (a : Added) (s : ScenarioOf) (n : ℕ) → length s.journal ≤ n
 arrivals_put (AnArrival arrival) s n h = omega (arith, length_push s.journal arrival)
 arrivals_put a s n h = omega arith
 
-journal_put : (final : ScenarioOf) (a : Added) (s : ScenarioOf) → FitsAlone a → PortThere (length final.setup.ports) a → list_all (arrival_fits final) s.journal ≡ true → list_all (arrival_fits final) (put_in a s).journal ≡ true
+journal_put : (final : ScenarioOf) (a : Added) (s : ScenarioOf) → FitsAlone a → PortThere (length final.setup.ports) a
+    → list_all (arrival_fits final) s.journal ≡ true → list_all (arrival_fits final) (put_in a s).journal ≡ true
 journal_put final (AnArrival a) s fits there h = list_all_push (arrival_fits final) s.journal a h (and_from _ _ (and_from _ _ (and_from _ _ fits.0 fits.1) fits.2) there)
 journal_put final a s fits there h = h
 
-falls_put : (last next : Option ℤ) (a : Added) (s : ScenarioOf) → OrderFits last next a → EndsAt last s.journal → never_falls s.journal ≡ true → never_falls (put_in a s).journal ≡ true
+falls_put : (last next : Option ℤ) (a : Added) (s : ScenarioOf) → OrderFits last next a → EndsAt last s.journal
+    → never_falls s.journal ≡ true → never_falls (put_in a s).journal ≡ true
 falls_put None next (AnArrival a) s fits ends h = rw ends refl
 falls_put (Some z) next (AnArrival a) s fits ends h =
     let before : never_falls (ends.0 ++ ends.1 ∷ []) ≡ true = subst (λ journal. never_falls journal ≡ true) ends.2 h in
@@ -125,12 +134,18 @@ posters_put APoster s n h = omega (arith, length_push s.posters [])
 posters_put (APost post) s n h = omega (arith, length-onto_last post s.posters)
 posters_put a s n h = omega arith
 
-posts_put : (final : ScenarioOf) (a : Added) (s : ScenarioOf) (n : ℕ) → PortThere (length final.setup.ports) a → list_all (poster_fits final n) s.posters ≡ true → list_all (poster_fits final (n + one_if (adds_entry a))) (put_in a s).posters ≡ true
+posts_put : (final : ScenarioOf) (a : Added) (s : ScenarioOf) (n : ℕ) → PortThere (length final.setup.ports) a
+    → list_all (poster_fits final n) s.posters ≡ true
+    → list_all (poster_fits final (n + one_if (adds_entry a))) (put_in a s).posters ≡ true
 posts_put final (APost post) s n there h = one_post final n post s.posters there h
 posts_put final APoster s n there h = list_all_push (poster_fits final (n + 0)) s.posters [] (more_posts final n (n + 0) s.posters (omega arith) h) (and_from _ _ (le-leb 0 (n + 0) (omega arith)) refl)
 posts_put final a s n there h = more_posts final n (n + one_if (adds_entry a)) s.posters (omega arith) h
 
-pub entries_line : (above : List TextLine) (ws : List Word) (f : Form) (slots : List Operand) (a : Added) (final s : ScenarioOf) → Told f a → form_is_full (above_of above) f slots ≡ false → FitsAlone a → PortThere (length final.setup.ports) a → OrderFits (after_above above) (after_then (Says f slots) (after_above above)) a → Entries above final s → Entries (line ws (Says f slots) ∷ above) final (put_in a s)
+pub entries_line : (above : List TextLine) (ws : List Word) (f : Form) (slots : List Operand) (a : Added)
+    (final s : ScenarioOf) → Told f a → form_is_full (above_of above) f slots ≡ false → FitsAlone a
+    → PortThere (length final.setup.ports) a
+    → OrderFits (after_above above) (after_then (Says f slots) (after_above above)) a → Entries above final s
+    → Entries (line ws (Says f slots) ∷ above) final (put_in a s)
 entries_line above ws f slots a final s told full fits there order h =
     let more = more_counted is_entry above ws f slots (adds_entry a) told.entries in
     let posters = more_counted is_poster above ws f slots (adds_poster a) told.posters in

@@ -63,7 +63,8 @@ variable_is vs w i h below =
     ap (λ n. if nat_lt n 64 then n else 0) number ∙ (rw (lt-ltb (suc i) 64 (omega arith)) refl)
 
 -- a variable has its class by its number
-pub variable_fits : (k : Kind) (vs : List (Named Class)) (w : Word) (c : Class) → k.classes ≡ classes_of vs → length vs ≤ 63 → value_of w vs ≡ Some c → VariableFits k (variable vs w) c
+pub variable_fits : (k : Kind) (vs : List (Named Class)) (w : Word) (c : Class) → k.classes ≡ classes_of vs → length vs ≤ 63
+    → value_of w vs ≡ Some c → VariableFits k (variable vs w) c
 variable_fits k vs w c classes few h =
     let at = place_value w vs c h in
     let within : at.0 < length vs = omega (arith, slice_get_within (map (λ v. v.value) vs) at.0 c at.2, length-map vs (λ (v : Named Class). v.value)) in
@@ -102,7 +103,9 @@ module _ (whole : WholeText) (final : ScenarioOf) (k : Kind) (place : LineInText
       → (c : Class) × (value_of slot.word place.variables ≡ Some c) × (role_takes slot.role c ≡ true)
   set_class slot good h = by (value_of slot.word place.variables) refl (rw h at good.unset) (rw h at good.clash)
     where
-      by : (o : Option Class) → value_of slot.word place.variables ≡ o → is_unset place.variables slot ≡ false → clashes place.variables slot ≡ false → (c : Class) × (value_of slot.word place.variables ≡ Some c) × (role_takes slot.role c ≡ true)
+      by : (o : Option Class) → value_of slot.word place.variables ≡ o → is_unset place.variables slot ≡ false
+          → clashes place.variables slot ≡ false
+          → (c : Class) × (value_of slot.word place.variables ≡ Some c) × (role_takes slot.role c ≡ true)
       by None e unset clash = absurd (true≢false (rw e at unset))
       by (Some c) e unset clash = (c, e, not-false (role_takes slot.role c) (rw e at clash))
 
@@ -121,7 +124,8 @@ module _ (whole : WholeText) (final : ScenarioOf) (k : Kind) (place : LineInText
   value_by true w good = refl
   value_by false w good = by (same w (codes "now")) refl (same w (codes "val")) refl
     where
-      by : (n : Bool) → same w (codes "now") ≡ n → (v : Bool) → same w (codes "val") ≡ v → number_fits k (number_of place.variables (record { role = Value; word = w })) ≡ true
+      by : (n : Bool) → same w (codes "now") ≡ n → (v : Bool) → same w (codes "val") ≡ v
+          → number_fits k (number_of place.variables (record { role = Value; word = w })) ≡ true
       by true e v f = rw e refl
       by false e true f = rw (e, f) (val_fits k place.variables inside.classes)
       by false e false f =
@@ -165,7 +169,9 @@ module _ (whole : WholeText) (final : ScenarioOf) (k : Kind) (place : LineInText
       → event_fits final k reference (event_of place w) ≡ true
   refer_fit reference w good = by (is_me w) refl (is_event place.above.declared w) refl (takes_me reference) refl (takes_named reference) refl
     where
-      by : (m : Bool) → is_me w ≡ m → (e : Bool) → is_event place.above.declared w ≡ e → (tm : Bool) → takes_me reference ≡ tm → (tn : Bool) → takes_named reference ≡ tn → event_fits final k reference (event_of place w) ≡ true
+      by : (m : Bool) → is_me w ≡ m → (e : Bool) → is_event place.above.declared w ≡ e → (tm : Bool)
+          → takes_me reference ≡ tm → (tn : Bool) → takes_named reference ≡ tn
+          → event_fits final k reference (event_of place w) ≡ true
       by true i e j true f tn g = rw i f
       by true i e j false f tn g =
           let named : not (is_name whole.version w) ≡ false = rw f at good.name in absurd (true≢false (rw (me_no_name whole.version w i) at named))

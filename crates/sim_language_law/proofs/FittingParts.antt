@@ -43,20 +43,24 @@ use Rattle.sim_language_law.proofs.FittingOperands.{InProcess, same_class_is, sa
 
 -- ---- what a kind of resource takes
 
-request_by : (f : Form) (r : Resource) (n : ℕ) (p : Num) (preempt : Bool) → r.kind ≡ resource_kind f → takes_request f ≡ Some n → (n ≡ 0 → is_nothing p ≡ true) → (n ≤ 1 → preempt ≡ true) → request_fits p preempt (Some r) ≡ true
+request_by : (f : Form) (r : Resource) (n : ℕ) (p : Num) (preempt : Bool) → r.kind ≡ resource_kind f
+    → takes_request f ≡ Some n → (n ≡ 0 → is_nothing p ≡ true) → (n ≤ 1 → preempt ≡ true)
+    → request_fits p preempt (Some r) ≡ true
 request_by form.Resource r n p preempt kind h none all = let zero_more = same_Some 0 n h in rw kind (and_from _ _ (none (sym zero_more)) (all (omega arith)))
 request_by form.Priority r n p preempt kind h none all = let one_more = same_Some 1 n h in rw kind (all (omega arith))
 request_by form.Preemptive r n p preempt kind h none all = rw kind refl
 request_by f r n p preempt kind h none all = absurd (none-some n h)
 
-put_by : (f : Form) (r : Resource) (n : ℕ) (p : Num) → r.kind ≡ resource_kind f → takes_put f ≡ Some n → (n ≡ 1 → is_nothing p ≡ true) → put_fits p (Some r) ≡ true
+put_by : (f : Form) (r : Resource) (n : ℕ) (p : Num) → r.kind ≡ resource_kind f → takes_put f ≡ Some n
+    → (n ≡ 1 → is_nothing p ≡ true) → put_fits p (Some r) ≡ true
 put_by form.Container r n p kind h none = rw kind (none (sym (same_Some 1 n h)))
 put_by form.Store r n p kind h none = rw kind (none (sym (same_Some 1 n h)))
 put_by form.FStore r n p kind h none = rw kind (none (sym (same_Some 1 n h)))
 put_by form.PStore r n p kind h none = rw kind refl
 put_by f r n p kind h none = absurd (none-some n h)
 
-get_by : (f : Form) (r : Resource) (n : ℕ) (lo hi : Num) → r.kind ≡ resource_kind f → takes_get f ≡ Some n → (n ≡ 0 → is_nothing lo ≡ true) → (n ≤ 1 → is_nothing hi ≡ true) → get_fits lo hi (Some r) ≡ true
+get_by : (f : Form) (r : Resource) (n : ℕ) (lo hi : Num) → r.kind ≡ resource_kind f → takes_get f ≡ Some n
+    → (n ≡ 0 → is_nothing lo ≡ true) → (n ≤ 1 → is_nothing hi ≡ true) → get_fits lo hi (Some r) ≡ true
 get_by form.Container r n lo hi kind h none all = let one_more = same_Some 1 n h in rw kind (all (omega arith))
 get_by form.Store r n lo hi kind h none all = let zero_more = same_Some 0 n h in rw kind (and_from _ _ (none (sym zero_more)) (all (omega arith)))
 get_by form.PStore r n lo hi kind h none all = let zero_more = same_Some 0 n h in rw kind (and_from _ _ (none (sym zero_more)) (all (omega arith)))
@@ -86,7 +90,8 @@ module _ (whole : WholeText) (final : ScenarioOf) (k : Kind) (place : LineInText
 
   -- ---- resources
 
-  kind_there : (rs : List Resource) (i : ℕ) (kind : ResourceKind) → option_map (λ r. r.kind) (slice_get rs i) ≡ Some kind → (r : Resource) × (slice_get rs i ≡ Some r) × (r.kind ≡ kind)
+  kind_there : (rs : List Resource) (i : ℕ) (kind : ResourceKind) → option_map (λ r. r.kind) (slice_get rs i) ≡ Some kind
+      → (r : Resource) × (slice_get rs i ≡ Some r) × (r.kind ≡ kind)
   kind_there rs i kind h = by (slice_get rs i) refl h
     where
       by : (o : Option Resource) → slice_get rs i ≡ o → option_map (λ r. r.kind) o ≡ Some kind → (r : Resource) × (slice_get rs i ≡ Some r) × (r.kind ≡ kind)
@@ -107,7 +112,9 @@ module _ (whole : WholeText) (final : ScenarioOf) (k : Kind) (place : LineInText
   resource_below w good = let there = resource_there w good in lt-ltb _ _ (slice_get_within final.setup.resources (number_declared place.above.declared w) there.1 there.3)
 
   -- a form that the resource's kind takes
-  taken : (takes : Form → Option ℕ) (r : Operand) (rest : List Operand) (d : Meaning) → takes_not takes place.above (r ∷ rest) ≡ false → value_of r.word place.above.declared ≡ Some d → takes d.form ≡ Some (length rest)
+  taken : (takes : Form → Option ℕ) (r : Operand) (rest : List Operand) (d : Meaning)
+      → takes_not takes place.above (r ∷ rest) ≡ false → value_of r.word place.above.declared ≡ Some d
+      → takes d.form ≡ Some (length rest)
   taken takes r rest d h e = by (takes d.form) refl (rw e at h)
     where
       by : (o : Option ℕ) → takes d.form ≡ o → is_not (length rest) (option_and_then (λ c. takes c.form) (Some d)) ≡ false → takes d.form ≡ Some (length rest)
@@ -137,7 +144,10 @@ module _ (whole : WholeText) (final : ScenarioOf) (k : Kind) (place : LineInText
 
   -- ---- arguments and members
 
-  number_argument : (b : Bool) (w : Word) → number_fits k (number_of place.variables (record { role = if b then any_literal else Value; word = w })) ≡ true → argument_fits final k class.Number (argument_of place (record { role = if b then any_literal else Value; word = w })) ≡ true
+  number_argument : (b : Bool) (w : Word)
+      → number_fits k (number_of place.variables (record { role = if b then any_literal else Value; word = w })) ≡ true
+      → argument_fits final k class.Number (argument_of place (record { role = if b then any_literal else Value; word = w }))
+      ≡ true
   number_argument true w h = h
   number_argument false w h = h
 

@@ -40,7 +40,8 @@ seed_put : (a : Added) (s : ScenarioOf) → FitsAlone a → nat_lt s.seed (2 ^ 6
 seed_put (TheSeed n) s fits h = fits
 seed_put a s fits h = h
 
-resources_put : (a : Added) (s : ScenarioOf) → FitsAlone a → list_all resource_fits s.setup.resources ≡ true → list_all resource_fits (put_in a s).setup.resources ≡ true
+resources_put : (a : Added) (s : ScenarioOf) → FitsAlone a → list_all resource_fits s.setup.resources ≡ true
+    → list_all resource_fits (put_in a s).setup.resources ≡ true
 resources_put (AResource kind c o) s fits h = list_all_push resource_fits s.setup.resources (record { kind = kind; capacity = c; opening = o }) h fits
 resources_put a s fits h = h
 

@@ -41,6 +41,7 @@ declared_is heads ds o w other h = by (value_of w ds) refl h
     as_head true e = rw (← same_Some sort.Process o e) refl
     as_head false e = absurd (none-some o e)
 
-    by : (found : Option Meaning) → value_of w ds ≡ found → sort_by found (is_named w heads) ≡ Some o → (d : Meaning) × (value_of w ds ≡ Some d) × (declares_sort d.form ≡ Some o)
+    by : (found : Option Meaning) → value_of w ds ≡ found → sort_by found (is_named w heads) ≡ Some o
+        → (d : Meaning) × (value_of w ds ≡ Some d) × (declares_sort d.form ≡ Some o)
     by None e sorted = absurd (true≢false (sym (as_head (is_named w heads) sorted) ∙ other))
     by (Some d) e sorted = (d, e, sorted)

@@ -82,7 +82,9 @@ kind_at (k ∷ ks) zero cs fits h =
     omega arith
 kind_at (k ∷ ks) (suc i) cs fits h = kind_at ks i cs (and_parts (kind_fits k) (list_all kind_fits ks) fits).1 h
 
-pub kinds_fit_by : (heads : ProcessLines) (t : ScenarioOf) → map parameter_classes t.kinds ≡ map (λ h. h.value) heads → list_all kind_fits t.kinds ≡ true → AllByRecursion (λ h. list_all is_parameter_class h.value ≡ true) heads → KindsFit heads t
+pub kinds_fit_by : (heads : ProcessLines) (t : ScenarioOf) → map parameter_classes t.kinds ≡ map (λ h. h.value) heads
+    → list_all kind_fits t.kinds ≡ true → AllByRecursion (λ h. list_all is_parameter_class h.value ≡ true) heads
+    → KindsFit heads t
 kinds_fit_by heads t same_classes fits plain = record {
   found = found;
   few = λ w cs h. kind_at t.kinds (kind_number heads w) cs fits (found w cs h);

@@ -24,7 +24,8 @@ use Rattle.sim_language_law.proofs.Additions.{added, by_statement}
 
 -- ---- a statement
 
-pub statement_adds : (heads : ProcessLines) (place : LineInText) (f : Form) (slots : List Operand) (s : ScenarioOf) → is_statement f ≡ true → add heads place f slots s ≡ with_statement s (statement heads place f slots)
+pub statement_adds : (heads : ProcessLines) (place : LineInText) (f : Form) (slots : List Operand) (s : ScenarioOf)
+    → is_statement f ≡ true → add heads place f slots s ≡ with_statement s (statement heads place f slots)
 statement_adds heads place form.Process slots s h = absurd (false≢true h)
 statement_adds heads place f slots s h = cc
 
@@ -64,7 +65,8 @@ blocks_stay heads place form.End (slot ∷ slots) n blocks s at h = absurd (none
 blocks_stay heads place f slots n blocks s at h = inl (_, refl)
 
 -- fewer than 32 blocks are open where one is opened
-pub room_for_block : (above : Above) (f : Form) (slots : List Operand) → form_is_full above f slots ≡ false → (opens_block f && nat_le 32 (length (blocks_of above))) ≡ false
+pub room_for_block : (above : Above) (f : Form) (slots : List Operand) → form_is_full above f slots ≡ false
+    → (opens_block f && nat_le 32 (length (blocks_of above))) ≡ false
 room_for_block above form.Process slots h = refl
 room_for_block above form.NewAll slots h = refl
 room_for_block above form.NewAny slots h = refl
@@ -76,15 +78,19 @@ room_for_block above f slots h = h
 -- ---- neither a statement nor a process
 
 -- only a process line changes the variables
-pub same_variables : (f : Form) (slots : List Operand) (below : List TextLine) (others : List (Named Class)) → is_process f ≡ false → variables_then (Says f slots) below others ≡ others
+pub same_variables : (f : Form) (slots : List Operand) (below : List TextLine) (others : List (Named Class))
+    → is_process f ≡ false → variables_then (Says f slots) below others ≡ others
 same_variables form.Process slots below others h = absurd (true≢false h)
 same_variables f slots below others h = refl
 
-pub same_blocks : (inside : ℕ) (f : Form) (slots : List Operand) (blocks : Option (List Block)) → (is_statement f || is_process f) ≡ false → blocks_behind inside f slots blocks ≡ blocks
+pub same_blocks : (inside : ℕ) (f : Form) (slots : List Operand) (blocks : Option (List Block))
+    → (is_statement f || is_process f) ≡ false → blocks_behind inside f slots blocks ≡ blocks
 same_blocks inside form.Process slots blocks h = absurd (true≢false h)
 same_blocks inside f slots blocks h = cc
 
-pub same_code : (heads : ProcessLines) (place : LineInText) (f : Form) (slots : List Operand) (s : ScenarioOf) → (is_statement f || is_process f) ≡ false → ((add heads place f slots s).code ≡ s.code) × ((add heads place f slots s).kinds ≡ s.kinds)
+pub same_code : (heads : ProcessLines) (place : LineInText) (f : Form) (slots : List Operand) (s : ScenarioOf)
+    → (is_statement f || is_process f) ≡ false
+    → ((add heads place f slots s).code ≡ s.code) × ((add heads place f slots s).kinds ≡ s.kinds)
 same_code heads place form.UntilTime (t ∷ []) s h = (refl, refl)
 same_code heads place form.UntilEvent (n ∷ []) s h = (refl, refl)
 same_code heads place form.Seed (n ∷ []) s h = (refl, refl)

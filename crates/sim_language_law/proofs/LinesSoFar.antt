@@ -89,12 +89,14 @@ abbrev pub IsQuiet : Saying → Type 0
 IsQuiet (Says f slots) = ⊥
 IsQuiet other = Unit {0}
 
-entries_quiet : (above : List TextLine) (ws : List Word) (saying : Saying) (final s : ScenarioOf) → IsQuiet saying → Entries above final s → Entries (line ws saying ∷ above) final s
+entries_quiet : (above : List TextLine) (ws : List Word) (saying : Saying) (final s : ScenarioOf) → IsQuiet saying
+    → Entries above final s → Entries (line ws saying ∷ above) final s
 entries_quiet above ws Blank final s quiet h = record { all = h.all; arrivals = h.arrivals; journal = h.journal; falls = h.falls; last = h.last; few = h.few; posters = h.posters; posts = h.posts }
 entries_quiet above ws (Wrong kind) final s quiet h = record { all = h.all; arrivals = h.arrivals; journal = h.journal; falls = h.falls; last = h.last; few = h.few; posters = h.posters; posts = h.posts }
 entries_quiet above ws (Says f slots) final s quiet h = absurd quiet
 
-heads_same : (above : List TextLine) (l : TextLine) (s : ScenarioOf) → heads_above (l ∷ above) ≡ heads_above above → declared (l ∷ above) ≡ declared above → ProcessHeads above s → ProcessHeads (l ∷ above) s
+heads_same : (above : List TextLine) (l : TextLine) (s : ScenarioOf) → heads_above (l ∷ above) ≡ heads_above above
+    → declared (l ∷ above) ≡ declared above → ProcessHeads above s → ProcessHeads (l ∷ above) s
 heads_same above l s heads ds h = record {
   apart = subst (λ hs. Apart [] hs) (sym heads) h.apart;
   named = λ w e. subst (λ more. is_named w more ≡ true) (sym ds) (h.named w (subst (λ hs. is_named w hs ≡ true) heads e));
@@ -102,7 +104,8 @@ heads_same above l s heads ds h = record {
   classes = h.classes ∙ ap (map (λ head. head.value)) (sym heads);
 }
 
-heads_quiet : (above : List TextLine) (ws : List Word) (saying : Saying) (s : ScenarioOf) → IsQuiet saying → ProcessHeads above s → ProcessHeads (line ws saying ∷ above) s
+heads_quiet : (above : List TextLine) (ws : List Word) (saying : Saying) (s : ScenarioOf) → IsQuiet saying
+    → ProcessHeads above s → ProcessHeads (line ws saying ∷ above) s
 heads_quiet above ws Blank s quiet h = heads_same above (line ws Blank) s (append-nil (heads_above above)) refl h
 heads_quiet above ws (Wrong kind) s quiet h = heads_same above (line ws (Wrong kind)) s (append-nil (heads_above above)) refl h
 heads_quiet above ws (Says f slots) s quiet h = absurd quiet
@@ -123,7 +126,8 @@ pub record SoFar (final : ScenarioOf) (n : ℕ) (above : List TextLine) (s : Sce
 pub so_far_nothing : (final : ScenarioOf) → SoFar final 1 [] nothing_said
 so_far_nothing final = record { declared = declared_nothing; alone = alone_nothing; entries = entries_nothing final; heads = heads_nothing }
 
-pub so_far_quiet : (final : ScenarioOf) (n : ℕ) (above : List TextLine) (ws : List Word) (saying : Saying) (s : ScenarioOf) → IsQuiet saying → SoFar final n above s → SoFar final (n + 1) (line ws saying ∷ above) s
+pub so_far_quiet : (final : ScenarioOf) (n : ℕ) (above : List TextLine) (ws : List Word) (saying : Saying) (s : ScenarioOf)
+    → IsQuiet saying → SoFar final n above s → SoFar final (n + 1) (line ws saying ∷ above) s
 so_far_quiet final n above ws saying s quiet h = record {
   declared = subst (λ ds. Declared ds s) (sym (declared_quiet above ws saying quiet)) h.declared;
   alone = alone_later n s h.alone;

@@ -11,16 +11,19 @@ use Rattle.sim_language.specs.FittingStatements.{statement_fits, up_to_end, scri
 use Rattle.sim_language_law.proofs.CodeOfKinds.{fits_from}
 
 -- a statement fits as its link does, and whatever statements the scenario has
-link_fits : (s : ScenarioOf) (code : List Stmt) (k : Kind) (st : Stmt) (cs : List Closing) → statement_fits (record s { code = code }) k (link st cs) ≡ statement_fits s k st
+link_fits : (s : ScenarioOf) (code : List Stmt) (k : Kind) (st : Stmt) (cs : List Closing)
+    → statement_fits (record s { code = code }) k (link st cs) ≡ statement_fits s k st
 link_fits s code k (stmt.Loop past) cs = refl
 link_fits s code k st cs = refl
 
-linked_fits : (p q : Stmt → Bool) (n : ℕ) (code : List Stmt) → ((st : Stmt) (cs : List Closing) → p (link st cs) ≡ q st) → list_all p (up_to_end (linked n code)) ≡ list_all q (up_to_end code)
+linked_fits : (p q : Stmt → Bool) (n : ℕ) (code : List Stmt) → ((st : Stmt) (cs : List Closing) → p (link st cs) ≡ q st)
+    → list_all p (up_to_end (linked n code)) ≡ list_all q (up_to_end code)
 linked_fits p q n [] each = refl
 linked_fits p q n (stmt.EndProcess ∷ code) each = ap₂ ◌&&◌ (each stmt.EndProcess []) refl
 linked_fits p q n (st ∷ code) each = ap₂ ◌&&◌ (each st (closings (suc n) code)) (linked_fits p q (suc n) code each)
 
-behind_fits : (p q : Stmt → Bool) (i n : ℕ) (code : List Stmt) → ((st : Stmt) (cs : List Closing) → p (link st cs) ≡ q st) → list_all p (up_to_end (drop i (linked n code))) ≡ list_all q (up_to_end (drop i code))
+behind_fits : (p q : Stmt → Bool) (i n : ℕ) (code : List Stmt) → ((st : Stmt) (cs : List Closing) → p (link st cs) ≡ q st)
+    → list_all p (up_to_end (drop i (linked n code))) ≡ list_all q (up_to_end (drop i code))
 behind_fits p q zero n code each = linked_fits p q n code each
 behind_fits p q (suc i) n [] each = refl
 behind_fits p q (suc i) n (st ∷ code) each = behind_fits p q i (suc n) code each

@@ -22,28 +22,33 @@ within : (low high : ℤ) (o : Option ℤ) (d : ℤ) → is_none (between low hi
 within low high None d h = absurd (true≢false h)
 within low high (Some z) d h = by (is_within low high z) refl h
   where
-    by : (b : Bool) → is_within low high z ≡ b → is_none (if b then Some z else None) ≡ false → is_within low high (unwrap_or (if b then Some z else None) d) ≡ true
+    by : (b : Bool) → is_within low high z ≡ b → is_none (if b then Some z else None) ≡ false
+        → is_within low high (unwrap_or (if b then Some z else None) d) ≡ true
     by true e some = e
     by false e some = absurd (true≢false some)
 
 -- a number of the range is one of 64 bits
-as_literal : (low high : ℤ) (o : Option ℤ) → le_z least low ≡ true → le_z high greatest ≡ true → is_none (between low high o) ≡ false → is_within low high (unwrap_or (between least greatest o) (pos 0)) ≡ true
+as_literal : (low high : ℤ) (o : Option ℤ) → le_z least low ≡ true → le_z high greatest ≡ true
+    → is_none (between low high o) ≡ false → is_within low high (unwrap_or (between least greatest o) (pos 0)) ≡ true
 as_literal low high None l g h = absurd (true≢false h)
 as_literal low high (Some z) l g h = by (is_within low high z) refl h
   where
-    by : (b : Bool) → is_within low high z ≡ b → is_none (if b then Some z else None) ≡ false → is_within low high (unwrap_or (if is_within least greatest z then Some z else None) (pos 0)) ≡ true
+    by : (b : Bool) → is_within low high z ≡ b → is_none (if b then Some z else None) ≡ false
+        → is_within low high (unwrap_or (if is_within least greatest z then Some z else None) (pos 0)) ≡ true
     by true e some =
         let parts = and_parts (le_z low z) (le_z z high) e in
         rw (le_z_trans least low z l parts.0, le_z_trans z high greatest parts.1 g) e
     by false e some = absurd (true≢false some)
 
-pub literal_in : (low high : ℤ) (w : Word) → le_z least low ≡ true → le_z high greatest ≡ true → is_none (literal_within low high w) ≡ false → is_within low high (literal_of w) ≡ true
+pub literal_in : (low high : ℤ) (w : Word) → le_z least low ≡ true → le_z high greatest ≡ true
+    → is_none (literal_within low high w) ≡ false → is_within low high (literal_of w) ≡ true
 literal_in low high w l g h = as_literal low high (signed w) l g h
 
 pub capacity_in : (most : ℤ) (w : Word) → le_z (pos 1) most ≡ true → is_none (capacity most w) ≡ false → is_within (pos 1) most (capacity_of most w) ≡ true
 capacity_in most w l h = by (same w (codes "inf")) h
   where
-    by : (b : Bool) → is_none (if b then Some most else literal_within (pos 1) most w) ≡ false → is_within (pos 1) most (unwrap_or (if b then Some most else literal_within (pos 1) most w) (pos 0)) ≡ true
+    by : (b : Bool) → is_none (if b then Some most else literal_within (pos 1) most w) ≡ false
+        → is_within (pos 1) most (unwrap_or (if b then Some most else literal_within (pos 1) most w) (pos 0)) ≡ true
     by true some = rw (l, le_z_refl most) refl
     by false some = within (pos 1) most (signed w) (pos 0) some
 
@@ -62,17 +67,21 @@ natural_in m z h = by z (and_parts (le_z (pos 0) z) (le_z z (pos m)) h)
     by y parts = grind (arith, ints, parts.0, parts.1)
 
 -- such a word is a literal
-literal_there : (low high : ℤ) (o : Option ℤ) → le_z least low ≡ true → le_z high greatest ≡ true → is_none (between low high o) ≡ false → between least greatest o ≡ Some (unwrap_or (between least greatest o) (pos 0))
+literal_there : (low high : ℤ) (o : Option ℤ) → le_z least low ≡ true → le_z high greatest ≡ true
+    → is_none (between low high o) ≡ false → between least greatest o ≡ Some (unwrap_or (between least greatest o) (pos 0))
 literal_there low high None l g h = absurd (true≢false h)
 literal_there low high (Some z) l g h = by (is_within low high z) refl h
   where
-    by : (b : Bool) → is_within low high z ≡ b → is_none (if b then Some z else None) ≡ false → (if is_within least greatest z then Some z else None) ≡ Some (unwrap_or (if is_within least greatest z then Some z else None) (pos 0))
+    by : (b : Bool) → is_within low high z ≡ b → is_none (if b then Some z else None) ≡ false
+        → (if is_within least greatest z then Some z else None)
+        ≡ Some (unwrap_or (if is_within least greatest z then Some z else None) (pos 0))
     by true e some =
         let parts = and_parts (le_z low z) (le_z z high) e in
         rw (le_z_trans least low z l parts.0, le_z_trans z high greatest parts.1 g) refl
     by false e some = absurd (true≢false some)
 
-pub literal_is : (low high : ℤ) (w : Word) → le_z least low ≡ true → le_z high greatest ≡ true → is_none (literal_within low high w) ≡ false → literal w ≡ Some (literal_of w)
+pub literal_is : (low high : ℤ) (w : Word) → le_z least low ≡ true → le_z high greatest ≡ true
+    → is_none (literal_within low high w) ≡ false → literal w ≡ Some (literal_of w)
 literal_is low high w l g h = literal_there low high (signed w) l g h
 
 pub pos_nat_abs : (z : ℤ) → le_z (pos 0) z ≡ true → pos (nat_abs z) ≡ z

@@ -30,10 +30,16 @@ pub record Makes (heads : ProcessLines) (place : LineInText) (n : ℕ) (blocks :
   pub ends : is_end_process made ≡ is_none (blocks_behind (suc n) f slots (Some blocks))
 
 module _ (heads : ProcessLines) (place : LineInText) (n : ℕ) (blocks : List Block) where
-  by_parts : {f : Form} {slots : List Operand} → (s : Stmt) → statement heads place f slots ≡ Some s → may_stand s (frames_of place.variables blocks) ≡ true → frames_then n s (frames_of place.variables blocks) ≡ frames_at place.variables (blocks_behind (suc n) f slots (Some blocks)) → is_end_process s ≡ is_none (blocks_behind (suc n) f slots (Some blocks)) → Makes heads place n blocks f slots
+  by_parts : {f : Form} {slots : List Operand} → (s : Stmt) → statement heads place f slots ≡ Some s
+      → may_stand s (frames_of place.variables blocks) ≡ true
+      → frames_then n s (frames_of place.variables blocks)
+      ≡ frames_at place.variables (blocks_behind (suc n) f slots (Some blocks))
+      → is_end_process s ≡ is_none (blocks_behind (suc n) f slots (Some blocks)) → Makes heads place n blocks f slots
   by_parts s is may behind ends = record { made = s; is = is; may = may; behind = behind; ends = ends }
 
-  pub makes : (f : Form) (slots : List Operand) → (is_statement f && may_have (shape f) (length slots)) ≡ true → misplaced place.above f slots ≡ false → place.above.blocks ≡ Some blocks → GivesNew place.variables blocks f slots → Makes heads place n blocks f slots
+  pub makes : (f : Form) (slots : List Operand) → (is_statement f && may_have (shape f) (length slots)) ≡ true
+      → misplaced place.above f slots ≡ false → place.above.blocks ≡ Some blocks → GivesNew place.variables blocks f slots
+      → Makes heads place n blocks f slots
   makes form.Let (x ∷ a ∷ []) fit placed here new = by_parts _ refl refl refl refl
   makes form.Let (x ∷ a ∷ op ∷ b ∷ []) fit placed here new = by_parts _ refl refl refl refl
   makes form.Count (x ∷ r ∷ []) fit placed here new = by_parts _ refl refl refl refl

@@ -18,7 +18,9 @@ pub value_of_kept : {A : Type 0} (w : Word) (ns ms : List (Named A)) (v : A) →
 value_of_kept w [] ms v h = absurd (none-some v h)
 value_of_kept w (n ∷ ns) ms v h = by (same w n.name) h (value_of_kept w ns ms v)
   where
-    by : (b : Bool) → (if b then Some n.value else value_of w ns) ≡ Some v → (value_of w ns ≡ Some v → value_of w (ns ++ ms) ≡ Some v) → (if b then Some n.value else value_of w (ns ++ ms)) ≡ Some v
+    by : (b : Bool) → (if b then Some n.value else value_of w ns) ≡ Some v
+        → (value_of w ns ≡ Some v → value_of w (ns ++ ms) ≡ Some v)
+        → (if b then Some n.value else value_of w (ns ++ ms)) ≡ Some v
     by true e rest = e
     by false e rest = rest e
 
@@ -27,12 +29,15 @@ pub value_of_behind : {A : Type 0} (w : Word) (ns ms : List (Named A)) → value
 value_of_behind w [] ms h = refl
 value_of_behind w (n ∷ ns) ms h = by (same w n.name) h (value_of_behind w ns ms)
   where
-    by : (b : Bool) → (if b then Some n.value else value_of w ns) ≡ None → (value_of w ns ≡ None → value_of w (ns ++ ms) ≡ value_of w ms) → (if b then Some n.value else value_of w (ns ++ ms)) ≡ value_of w ms
+    by : (b : Bool) → (if b then Some n.value else value_of w ns) ≡ None
+        → (value_of w ns ≡ None → value_of w (ns ++ ms) ≡ value_of w ms)
+        → (if b then Some n.value else value_of w (ns ++ ms)) ≡ value_of w ms
     by true e rest = absurd (none-some n.value (sym e))
     by false e rest = rest e
 
 -- a thing of the name is one of the first, or the last
-pub value_of_push : {A : Type 0} (w : Word) (ns : List (Named A)) (n : Named A) (v : A) → value_of w (ns ++ n ∷ []) ≡ Some v → (value_of w ns ≡ Some v) ⊎ ((same w n.name ≡ true) × (n.value ≡ v))
+pub value_of_push : {A : Type 0} (w : Word) (ns : List (Named A)) (n : Named A) (v : A) → value_of w (ns ++ n ∷ []) ≡ Some v
+    → (value_of w ns ≡ Some v) ⊎ ((same w n.name ≡ true) × (n.value ≡ v))
 value_of_push w ns n v h = by (value_of w ns) refl
   where
     last : (b : Bool) → same w n.name ≡ b → (if b then Some n.value else None) ≡ Some v → (same w n.name ≡ true) × (n.value ≡ v)
@@ -66,10 +71,13 @@ named_last w (m ∷ ns) n h = by (same w m.name) (named_last w ns n h)
     by true rest = refl
     by false rest = rest
 
-pub named_push : {A : Type 0} (w : Word) (ns : List (Named A)) (n : Named A) → is_named w (ns ++ n ∷ []) ≡ true → (is_named w ns ≡ true) ⊎ (same w n.name ≡ true)
+pub named_push : {A : Type 0} (w : Word) (ns : List (Named A)) (n : Named A) → is_named w (ns ++ n ∷ []) ≡ true
+    → (is_named w ns ≡ true) ⊎ (same w n.name ≡ true)
 named_push w ns n h = by (value_of_push w ns n (named_value w (ns ++ n ∷ []) h).0 (named_value w (ns ++ n ∷ []) h).1)
   where
-    by : (value_of w ns ≡ Some (named_value w (ns ++ n ∷ []) h).0) ⊎ ((same w n.name ≡ true) × (n.value ≡ (named_value w (ns ++ n ∷ []) h).0)) → (is_named w ns ≡ true) ⊎ (same w n.name ≡ true)
+    by : (value_of w ns ≡ Some (named_value w (ns ++ n ∷ []) h).0)
+        ⊎ ((same w n.name ≡ true) × (n.value ≡ (named_value w (ns ++ n ∷ []) h).0))
+        → (is_named w ns ≡ true) ⊎ (same w n.name ≡ true)
     by (inl old) = inl (ap is_some old)
     by (inr new) = inr new.0
 
@@ -88,7 +96,10 @@ pub place_same : {A : Type 0} (v w : Word) (ns : List (Named A)) (i : ℕ) → p
 place_same v w [] i h g = absurd (none-some i h)
 place_same v w (n ∷ ns) i h g = by i (same v n.name) refl (same w n.name) refl h g (place_same v w ns)
   where
-    by : (j : ℕ) (b : Bool) → same v n.name ≡ b → (c : Bool) → same w n.name ≡ c → (if b then Some 0 else option_map suc (place_of v ns)) ≡ Some j → (if c then Some 0 else option_map suc (place_of w ns)) ≡ Some j → ((k : ℕ) → place_of v ns ≡ Some k → place_of w ns ≡ Some k → v ≡ w) → v ≡ w
+    by : (j : ℕ) (b : Bool) → same v n.name ≡ b → (c : Bool) → same w n.name ≡ c
+        → (if b then Some 0 else option_map suc (place_of v ns)) ≡ Some j
+        → (if c then Some 0 else option_map suc (place_of w ns)) ≡ Some j
+        → ((k : ℕ) → place_of v ns ≡ Some k → place_of w ns ≡ Some k → v ≡ w) → v ≡ w
     by j true e true f h g rest = same_is v n.name e ∙ sym (same_is w n.name f)
     by zero true e false f h g rest = absurd (false≢true (never_first (place_of w ns) g))
     by (suc k) true e false f h g rest = let none = same_Some 0 (suc k) h in absurd (omega (arith, none))
@@ -97,10 +108,14 @@ place_same v w (n ∷ ns) i h g = by i (same v n.name) refl (same w n.name) refl
     by (suc k) false e false f h g rest = rest k (later_is (place_of v ns) k h) (later_is (place_of w ns) k g)
 
 -- what has a name stands at its place
-pub place_value : {A : Type 0} (w : Word) (ns : List (Named A)) (v : A) → value_of w ns ≡ Some v → (i : ℕ) × (place_of w ns ≡ Some i) × (slice_get (map (λ n. n.value) ns) i ≡ Some v)
+pub place_value : {A : Type 0} (w : Word) (ns : List (Named A)) (v : A) → value_of w ns ≡ Some v
+    → (i : ℕ) × (place_of w ns ≡ Some i) × (slice_get (map (λ n. n.value) ns) i ≡ Some v)
 place_value w [] v h = absurd (none-some v h)
 place_value w (n ∷ ns) v h = by (same w n.name) refl h (place_value w ns v)
   where
-    by : (b : Bool) → same w n.name ≡ b → (if b then Some n.value else value_of w ns) ≡ Some v → (value_of w ns ≡ Some v → (i : ℕ) × (place_of w ns ≡ Some i) × (slice_get (map (λ m. m.value) ns) i ≡ Some v)) → (i : ℕ) × ((if b then Some 0 else option_map suc (place_of w ns)) ≡ Some i) × (slice_get (map (λ m. m.value) (n ∷ ns)) i ≡ Some v)
+    by : (b : Bool) → same w n.name ≡ b → (if b then Some n.value else value_of w ns) ≡ Some v
+        → (value_of w ns ≡ Some v → (i : ℕ) × (place_of w ns ≡ Some i) × (slice_get (map (λ m. m.value) ns) i ≡ Some v))
+        → (i : ℕ) × ((if b then Some 0 else option_map suc (place_of w ns)) ≡ Some i)
+        × (slice_get (map (λ m. m.value) (n ∷ ns)) i ≡ Some v)
     by true e some rest = (0, refl, some)
     by false e some rest = let found = rest some in (suc found.0, ap (option_map suc) found.1, found.2)

@@ -39,7 +39,10 @@ pub with_all_fresh : {A : Type 0} (known ns : List (Named A)) → with_all known
 with_all_fresh known [] = sym (append-nil known)
 with_all_fresh known (n ∷ ns) = by (is_named n.name known) (with_all_fresh known ns) (with_all_fresh (known ++ n ∷ []) ns)
   where
-    by : (b : Bool) → with_all known ns ≡ known ++ fresh known ns → with_all (known ++ n ∷ []) ns ≡ (known ++ n ∷ []) ++ fresh (known ++ n ∷ []) ns → with_all (if b then known else known ++ n ∷ []) ns ≡ known ++ (if b then fresh known ns else n ∷ fresh (known ++ n ∷ []) ns)
+    by : (b : Bool) → with_all known ns ≡ known ++ fresh known ns
+        → with_all (known ++ n ∷ []) ns ≡ (known ++ n ∷ []) ++ fresh (known ++ n ∷ []) ns
+        → with_all (if b then known else known ++ n ∷ []) ns
+        ≡ known ++ (if b then fresh known ns else n ∷ fresh (known ++ n ∷ []) ns)
     by true old new = old
     by false old new = new ∙ append_assoc known (n ∷ []) (fresh (known ++ n ∷ []) ns)
 
@@ -47,7 +50,9 @@ pub fresh_apart : {A : Type 0} (known ns : List (Named A)) → Apart known (fres
 fresh_apart known [] = tt
 fresh_apart known (n ∷ ns) = by (is_named n.name known) refl (fresh_apart known ns) (fresh_apart (known ++ n ∷ []) ns)
   where
-    by : (b : Bool) → is_named n.name known ≡ b → Apart known (fresh known ns) → Apart (known ++ n ∷ []) (fresh (known ++ n ∷ []) ns) → Apart known (if b then fresh known ns else n ∷ fresh (known ++ n ∷ []) ns)
+    by : (b : Bool) → is_named n.name known ≡ b → Apart known (fresh known ns)
+        → Apart (known ++ n ∷ []) (fresh (known ++ n ∷ []) ns)
+        → Apart known (if b then fresh known ns else n ∷ fresh (known ++ n ∷ []) ns)
     by true e old new = old
     by false e old new = (e, new)
 
@@ -55,7 +60,8 @@ pub fresh_all : {A : Type 0} (P : Named A → Type 0) (known ns : List (Named A)
 fresh_all P known [] all = tt
 fresh_all P known (n ∷ ns) all = by (is_named n.name known) (fresh_all P known ns all.1) (fresh_all P (known ++ n ∷ []) ns all.1)
   where
-    by : (b : Bool) → AllByRecursion P (fresh known ns) → AllByRecursion P (fresh (known ++ n ∷ []) ns) → AllByRecursion P (if b then fresh known ns else n ∷ fresh (known ++ n ∷ []) ns)
+    by : (b : Bool) → AllByRecursion P (fresh known ns) → AllByRecursion P (fresh (known ++ n ∷ []) ns)
+        → AllByRecursion P (if b then fresh known ns else n ∷ fresh (known ++ n ∷ []) ns)
     by true old new = old
     by false old new = (all.0, new)
 
@@ -77,7 +83,9 @@ pub all_weaker : {X : Type 0} (P Q : X → Type 0) (xs : List X) → ((x : X) �
 all_weaker P Q [] each all = tt
 all_weaker P Q (x ∷ xs) each all = (each x all.0, all_weaker P Q xs each all.1)
 
-pub repeats_apart : {A : Type 0} (known ns : List (Named A)) → AllByRecursion (λ k. is_among k.name (map (λ n. n.name) ns) ≡ false) known → repeats (map (λ n. n.name) ns) ≡ false → Apart known ns
+pub repeats_apart : {A : Type 0} (known ns : List (Named A))
+    → AllByRecursion (λ k. is_among k.name (map (λ n. n.name) ns) ≡ false) known → repeats (map (λ n. n.name) ns) ≡ false
+    → Apart known ns
 repeats_apart known [] before h = tt
 repeats_apart known (n ∷ ns) before h =
     let parts = or_parts (is_among n.name (map (λ m. m.name) ns)) (repeats (map (λ m. m.name) ns)) h in

@@ -48,7 +48,8 @@ module _ (vs : List (Named Class)) where
       by true e = omega (arith, e)
       by false e = absurd (omega (arith, e))
 
-  pub variable_apart : (w v : Word) → is_named w vs ≡ true → is_named v vs ≡ true → nat_le 64 (variable_number vs w) ≡ false → variable vs w ≡ variable vs v → w ≡ v
+  pub variable_apart : (w v : Word) → is_named w vs ≡ true → is_named v vs ≡ true → nat_le 64 (variable_number vs w) ≡ false
+      → variable vs w ≡ variable vs v → w ≡ v
   variable_apart w v named other few h =
       let a = place_is w named in
       let b = place_is v other in
@@ -60,7 +61,10 @@ module _ (vs : List (Named Class)) where
   abbrev pub AllNamed : List Block → Type 0
   AllNamed blocks = AllByRecursion (λ b. is_with b ≡ true → is_named b.variable vs ≡ true) blocks
 
-  with_apart : (f : Form) (w v : Word) (split : Bool) (inside : ℕ) → is_named w vs ≡ true → nat_le 64 (variable_number vs w) ≡ false → (is_with (block f v split inside) ≡ true → is_named v vs ≡ true) → (is_with (block f v split inside) && same w v) ≡ false → is_with_frame (variable vs w) (frame_by f split (variable vs v) inside) ≡ false
+  with_apart : (f : Form) (w v : Word) (split : Bool) (inside : ℕ) → is_named w vs ≡ true
+      → nat_le 64 (variable_number vs w) ≡ false → (is_with (block f v split inside) ≡ true → is_named v vs ≡ true)
+      → (is_with (block f v split inside) && same w v) ≡ false
+      → is_with_frame (variable vs w) (frame_by f split (variable vs v) inside) ≡ false
   with_apart form.With w v split inside named few other h = by (variable vs w == variable vs v) refl
     where
       by : (b : Bool) → (variable vs w == variable vs v) ≡ b → b ≡ false
@@ -73,7 +77,9 @@ module _ (vs : List (Named Class)) where
   with_apart f w v split inside named few other h = refl
 
   -- a name that no `with` has that is open by the lines is that of none that is open by the statements
-  pub with_stands : (w : Word) (blocks : List Block) → is_named w vs ≡ true → nat_le 64 (variable_number vs w) ≡ false → AllNamed blocks → list_any (λ b. is_with b && same w b.variable) blocks ≡ false → list_any (is_with_frame (variable vs w)) (frames_of vs blocks) ≡ false
+  pub with_stands : (w : Word) (blocks : List Block) → is_named w vs ≡ true → nat_le 64 (variable_number vs w) ≡ false
+      → AllNamed blocks → list_any (λ b. is_with b && same w b.variable) blocks ≡ false
+      → list_any (is_with_frame (variable vs w)) (frames_of vs blocks) ≡ false
   with_stands w [] named few all h = refl
   with_stands w (b ∷ blocks) named few all h =
       let parts = or_parts (is_with b && same w b.variable) _ h in
@@ -96,7 +102,9 @@ GivesOne place slots = unset place slots ≡ false → gives_too_many place.vari
 gives_one : (place : LineInText) (slots : List Operand) → Fits form.With slots → GivesOne place slots
 gives_one place slots is = by_shape is.context [] (shape form.With) is.words slots (GivesOne place) is.shape (λ w. rule_all is.context w (drop 1 (shape form.With)) (λ more. GivesOne place (slot_of (Gives class.Request) w ∷ more)) (λ more set few. (some_of (value_of w place.variables) (or_parts (is_unset place.variables (slot_of (Gives class.Request) w)) _ set).0, (or_parts (nat_le 64 (variable_number place.variables w)) _ few).0)))
 
-pub gives_new : (heads : ProcessLines) (place : LineInText) (blocks : List Block) (f : Form) (slots : List Operand) → Fits f slots → Faultless heads place f slots → place.above.blocks ≡ Some blocks → AllNamed place.variables blocks → GivesNew place.variables blocks f slots
+pub gives_new : (heads : ProcessLines) (place : LineInText) (blocks : List Block) (f : Form) (slots : List Operand)
+    → Fits f slots → Faultless heads place f slots → place.above.blocks ≡ Some blocks → AllNamed place.variables blocks
+    → GivesNew place.variables blocks f slots
 gives_new heads place blocks form.With slots is free here all =
     let one = gives_one place slots is free.unset (or_parts _ (gives_too_many place.variables slots) free.many).1 in
     let apart : list_any (λ b. is_with b && same (first_word slots) b.variable) blocks ≡ false = rw here at (or_parts _ (gives_again place.above form.With slots) free.duplicate).1 in
@@ -104,7 +112,9 @@ gives_new heads place blocks form.With slots is free here all =
 gives_new heads place blocks f slots is free here all = tt
 
 -- the same holds of the blocks that are open behind the line
-pub named_behind : (vs : List (Named Class)) (inside : ℕ) (f : Form) (slots : List Operand) (blocks : List Block) → GivesNew vs blocks f slots → AllNamed vs blocks → AllNamed vs (unwrap_or (blocks_behind inside f slots (Some blocks)) [])
+pub named_behind : (vs : List (Named Class)) (inside : ℕ) (f : Form) (slots : List Operand) (blocks : List Block)
+    → GivesNew vs blocks f slots → AllNamed vs blocks
+    → AllNamed vs (unwrap_or (blocks_behind inside f slots (Some blocks)) [])
 named_behind vs inside form.Process slots blocks new all = tt
 named_behind vs inside form.End slots [] new all = tt
 named_behind vs inside form.End slots (b ∷ blocks) new all = all.1

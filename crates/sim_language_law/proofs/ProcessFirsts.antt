@@ -10,14 +10,20 @@ abbrev pub next_first : Bool → ℕ → List ℕ
 next_first ends n = if ends then n ∷ [] else []
 
 -- one statement more
-firsts_after-push : (n : ℕ) (code : List Stmt) (s : Stmt) → firsts_after n (code ++ s ∷ []) ≡ firsts_after n code ++ next_first (is_end_process s) (suc (n + length code))
+firsts_after-push : (n : ℕ) (code : List Stmt) (s : Stmt)
+    → firsts_after n (code ++ s ∷ []) ≡ firsts_after n code ++ next_first (is_end_process s) (suc (n + length code))
 firsts_after-push n [] s = let same : n + 0 ≡ n = omega arith in rw same refl
 firsts_after-push n (t ∷ code) s = by (is_end_process t) (rw further (firsts_after-push (suc n) code s))
   where
     further : n + suc (length code) ≡ suc n + length code
     further = omega arith
 
-    by : (b : Bool) → firsts_after (suc n) (code ++ s ∷ []) ≡ firsts_after (suc n) code ++ next_first (is_end_process s) (suc (n + suc (length code))) → (if b then suc n ∷ firsts_after (suc n) (code ++ s ∷ []) else firsts_after (suc n) (code ++ s ∷ [])) ≡ (if b then suc n ∷ firsts_after (suc n) code else firsts_after (suc n) code) ++ next_first (is_end_process s) (suc (n + suc (length code)))
+    by : (b : Bool)
+        → firsts_after (suc n) (code ++ s ∷ []) ≡ firsts_after (suc n) code ++ next_first (is_end_process s)
+        (suc (n + suc (length code)))
+        → (if b then suc n ∷ firsts_after (suc n) (code ++ s ∷ []) else firsts_after (suc n) (code ++ s ∷ []))
+        ≡ (if b then suc n ∷ firsts_after (suc n) code else firsts_after (suc n) code) ++ next_first (is_end_process s)
+        (suc (n + suc (length code)))
     by true rest = ap (λ ns. suc n ∷ ns) rest
     by false rest = rest
 

@@ -53,7 +53,9 @@ heads_passed above (l ∷ ls) = heads_passed (l ∷ above) ls ∙ append_assoc (
 parameters_first : (given more : List (Named Class)) → repeats (map (λ v. v.name) given) ≡ false → with_all [] (given ++ more) ≡ given ++ fresh given more
 parameters_first given more h = with_all_append [] given more ∙ (ap (λ known. with_all known more) (with_all_apart [] given (repeats_apart [] given tt h)) ∙ with_all_fresh given more)
 
-first_classes : (given more : List (Named Class)) (params first : ℕ) → params ≡ length given → params ≤ 63 → parameter_classes (record { params = params; first = first; classes = classes_of (given ++ more) }) ≡ map (λ v. v.value) given
+first_classes : (given more : List (Named Class)) (params first : ℕ) → params ≡ length given → params ≤ 63
+    → parameter_classes (record { params = params; first = first; classes = classes_of (given ++ more) })
+    ≡ map (λ v. v.value) given
 first_classes given more params first e few =
     let all : List Class = map (λ v. v.value) (given ++ more) ++ replicate 64 class.Number in
     let split : all ≡ map (λ v. v.value) given ++ (map (λ v. v.value) more ++ replicate 64 class.Number) = ap (λ cs. cs ++ replicate 64 class.Number) (map-append (λ v. v.value) given more) ∙ append_assoc (map (λ v. v.value) given) (map (λ v. v.value) more) (replicate 64 class.Number) in
@@ -64,8 +66,11 @@ parameter_values [] = refl
 parameter_values (w ∷ ws) = ap (λ rest. parameter_class w ∷ rest) (parameter_values ws)
 
 -- a kind has the classes of the parameters of its process line
-pub kind_classes : (n : Word) (ws : List Word) (below : List TextLine) (first : ℕ) → repeats (map (λ v. v.name) (given_by (slot_of Declares n ∷ map (slot_of Parameter) ws))) ≡ false → length (given_by (slot_of Declares n ∷ map (slot_of Parameter) ws)) ≤ 8
-    → parameter_classes (record { params = length (given_by (slot_of Declares n ∷ map (slot_of Parameter) ws)); first = first; classes = classes_of (variables_of (slot_of Declares n ∷ map (slot_of Parameter) ws) below) }) ≡ map (λ p. parameter_class p.word) (map (slot_of Parameter) ws)
+pub kind_classes : (n : Word) (ws : List Word) (below : List TextLine) (first : ℕ)
+    → repeats (map (λ v. v.name) (given_by (slot_of Declares n ∷ map (slot_of Parameter) ws))) ≡ false
+    → length (given_by (slot_of Declares n ∷ map (slot_of Parameter) ws)) ≤ 8
+    → parameter_classes (record { params = length (given_by (slot_of Declares n ∷ map (slot_of Parameter) ws)); first = first; classes = classes_of (variables_of (slot_of Declares n ∷ map (slot_of Parameter) ws) below) })
+    ≡ map (λ p. parameter_class p.word) (map (slot_of Parameter) ws)
 kind_classes n ws below first apart few =
     let given : List (Named Class) = given_by (slot_of Declares n ∷ map (slot_of Parameter) ws) in
     ap (λ vs. parameter_classes (record { params = length given; first = first; classes = classes_of vs })) (parameters_first given (given_below 0 below) apart)
@@ -97,7 +102,10 @@ pub same_kinds : (f : Form) (a : Added) (s : ScenarioOf) → is_process f ≡ fa
 same_kinds f (AKind kind) s h e = absurd (true≢false (sym (declares_process f (sym e)) ∙ h))
 same_kinds f a s h e = refl
 
-pub heads_other : (above : List TextLine) (ws : List Word) (f : Form) (slots : List Operand) (a : Added) (s : ScenarioOf) → is_process f ≡ false → Told f a → Grown f (declares_sort f) (declared above) (declared (line ws (Says f slots) ∷ above)) → ProcessHeads above s → ProcessHeads (line ws (Says f slots) ∷ above) (put_in a s)
+pub heads_other : (above : List TextLine) (ws : List Word) (f : Form) (slots : List Operand) (a : Added) (s : ScenarioOf)
+    → is_process f ≡ false → Told f a
+    → Grown f (declares_sort f) (declared above) (declared (line ws (Says f slots) ∷ above)) → ProcessHeads above s
+    → ProcessHeads (line ws (Says f slots) ∷ above) (put_in a s)
 heads_other above ws f slots a s other told more h = record {
   apart = subst (λ heads. Apart [] heads) (sym same_heads) h.apart;
   named = λ w e. named w (named_value w (declared above) (h.named w (subst (λ heads. is_named w heads ≡ true) same_heads e)));
@@ -111,13 +119,18 @@ heads_other above ws f slots a s other told more h = record {
     named : (w : Word) → (d : Meaning) × (value_of w (declared above) ≡ Some d) → is_named w (declared (line ws (Says f slots) ∷ above)) ≡ true
     named w found = ap is_some (grown_kept f (declares_sort f) (declared above) _ w found.0 more found.1)
 
-    processes : (w : Word) (d : Meaning) → declares_sort d.form ≡ Some sort.Process → (value_of w (declared above) ≡ Some d) ⊎ (f ≡ d.form) → is_named w (heads_above above) ≡ true
+    processes : (w : Word) (d : Meaning) → declares_sort d.form ≡ Some sort.Process
+        → (value_of w (declared above) ≡ Some d) ⊎ (f ≡ d.form) → is_named w (heads_above above) ≡ true
     processes w d sorted (inl old) = h.processes w d old sorted
     processes w d sorted (inr new) = absurd (true≢false (sym (declares_process f (ap declares_sort new ∙ sorted)) ∙ other))
 
 -- ---- a process line
 
-pub heads_process : (above : List TextLine) (ws : List Word) (n : Word) (params : List Word) (k : Kind) (s : ScenarioOf) → is_named n (declared above) ≡ false → parameter_classes k ≡ map (λ p. parameter_class p.word) (map (slot_of Parameter) params) → ProcessHeads above s → ProcessHeads (line ws (Says form.Process (slot_of Declares n ∷ map (slot_of Parameter) params)) ∷ above) (put_in (AKind k) s)
+pub heads_process : (above : List TextLine) (ws : List Word) (n : Word) (params : List Word) (k : Kind) (s : ScenarioOf)
+    → is_named n (declared above) ≡ false
+    → parameter_classes k ≡ map (λ p. parameter_class p.word) (map (slot_of Parameter) params) → ProcessHeads above s
+    → ProcessHeads (line ws (Says form.Process (slot_of Declares n ∷ map (slot_of Parameter) params)) ∷ above)
+    (put_in (AKind k) s)
 heads_process above ws n params k s new classes h = record {
   apart = apart_push [] (heads_above above) head h.apart (false_from_ne_true (is_named n (heads_above above)) (λ e. absurd (true≢false (sym (h.named n e) ∙ new))));
   named = λ w e. subst (λ ds. is_named w ds ≡ true) (sym one) (named w (named_push w (heads_above above) head e));
@@ -138,6 +151,8 @@ heads_process above ws n params k s new classes h = record {
     named w (inl old) = named_kept w (declared above) (meaning ∷ []) (h.named w old)
     named w (inr last) = named_last w (declared above) meaning last
 
-    processes : (w : Word) (d : Meaning) → declares_sort d.form ≡ Some sort.Process → (value_of w (declared above) ≡ Some d) ⊎ ((same w n ≡ true) × (meaning.value ≡ d)) → is_named w (heads_above above ++ head ∷ []) ≡ true
+    processes : (w : Word) (d : Meaning) → declares_sort d.form ≡ Some sort.Process
+        → (value_of w (declared above) ≡ Some d) ⊎ ((same w n ≡ true) × (meaning.value ≡ d))
+        → is_named w (heads_above above ++ head ∷ []) ≡ true
     processes w d sorted (inl old) = named_kept w (heads_above above) (head ∷ []) (h.processes w d old sorted)
     processes w d sorted (inr last) = named_last w (heads_above above) head last.0

@@ -40,15 +40,20 @@ pub record VariablesFit (vs : List (Named Class)) (ds : List (Named Meaning)) : 
 
 -- ---- how many variables
 
-place_of_new : {A : Type 0} (w : Word) (ns ms : List (Named A)) (n : Named A) → is_named w ns ≡ false → same w n.name ≡ true → place_of w (ns ++ n ∷ ms) ≡ Some (length ns)
+place_of_new : {A : Type 0} (w : Word) (ns ms : List (Named A)) (n : Named A) → is_named w ns ≡ false → same w n.name ≡ true
+    → place_of w (ns ++ n ∷ ms) ≡ Some (length ns)
 place_of_new w [] ms n new last = rw last refl
 place_of_new w (m ∷ ns) ms n new last = by (same w m.name) new (place_of_new w ns ms n)
   where
-    by : (b : Bool) → Rattle.std.specs.Prelude.is_some (if b then Some m.value else value_of w ns) ≡ false → (is_named w ns ≡ false → same w n.name ≡ true → place_of w (ns ++ n ∷ ms) ≡ Some (length ns)) → (if b then Some 0 else option_map suc (place_of w (ns ++ n ∷ ms))) ≡ Some (suc (length ns))
+    by : (b : Bool) → Rattle.std.specs.Prelude.is_some (if b then Some m.value else value_of w ns) ≡ false
+        → (is_named w ns ≡ false → same w n.name ≡ true → place_of w (ns ++ n ∷ ms) ≡ Some (length ns))
+        → (if b then Some 0 else option_map suc (place_of w (ns ++ n ∷ ms))) ≡ Some (suc (length ns))
     by true some rest = absurd (true≢false some)
     by false none rest = ap (option_map suc) (rest none last)
 
-few_by_numbers : (front back : List (Named Class)) → Apart front back → AllByRecursion (λ v. variable_number (front ++ back) v.name < 64) back → length front ≤ 63 → length (front ++ back) ≤ 63
+few_by_numbers : (front back : List (Named Class)) → Apart front back
+    → AllByRecursion (λ v. variable_number (front ++ back) v.name < 64) back → length front ≤ 63
+    → length (front ++ back) ≤ 63
 few_by_numbers front [] apart below few = subst (λ vs. length vs ≤ 63) (sym (append-nil front)) few
 few_by_numbers front (v ∷ back) apart below few =
     let place = place_of_new v.name front back v apart.0 (same_self v.name) in
@@ -77,7 +82,8 @@ events_before f o ds es w more h = by (value_of w ds) refl
     by (Some d) e = rw e (rw (grown_kept f o ds es w d more e) at h)
 
 -- and the other way round, where the line declares no event
-pub events_behind : (f : Form) (ds es : List (Named Meaning)) (w : Word) → Grown f (declares_sort f) ds es → is_of_sort sort.Event (declares_sort f) ≡ false → is_event ds w ≡ false → is_event es w ≡ false
+pub events_behind : (f : Form) (ds es : List (Named Meaning)) (w : Word) → Grown f (declares_sort f) ds es
+    → is_of_sort sort.Event (declares_sort f) ≡ false → is_event ds w ≡ false → is_event es w ≡ false
 events_behind f ds es w more other h = by (value_of w es) refl
   where
     cases : (d : Meaning) → (value_of w ds ≡ Some d) ⊎ (f ≡ d.form) → is_of_sort sort.Event (declares_sort d.form) ≡ false
@@ -94,7 +100,9 @@ abbrev pub GoodName : List (Named Class) → List (Named Meaning) → Named Clas
 GoodName vs ds v = (variable_number vs v.name < 64) × (is_event ds v.name ≡ false)
 
 -- a line gives variables of such names
-line_good : (ds : List (Named Meaning)) (vs given : List (Named Class)) → AllByRecursion (λ v. nat_le 64 (variable_number vs v.name) ≡ false) given → AllByRecursion (λ v. is_event ds v.name ≡ false) given → AllByRecursion (GoodName vs ds) given
+line_good : (ds : List (Named Meaning)) (vs given : List (Named Class))
+    → AllByRecursion (λ v. nat_le 64 (variable_number vs v.name) ≡ false) given
+    → AllByRecursion (λ v. is_event ds v.name ≡ false) given → AllByRecursion (GoodName vs ds) given
 line_good ds vs [] numbers events = tt
 line_good ds vs (v ∷ given) numbers events = ((leb-false 64 (variable_number vs v.name) numbers.0, events.0), line_good ds vs given numbers.1 events.1)
 
@@ -102,7 +110,9 @@ goes_on : (deep : ℕ) (f : Form) → ends_process deep f ≡ false → is_proce
 goes_on zero f h = (or_parts (is_process f) (is_end f) h).0
 goes_on (suc deep) f h = h
 
-pub variables_other : (above : List TextLine) (ws : List Word) (f : Form) (slots : List Operand) (below : List TextLine) → is_process f ≡ false → variables_at (line ws (Says f slots) ∷ above) below ≡ variables_at above (line ws (Says f slots) ∷ below)
+pub variables_other : (above : List TextLine) (ws : List Word) (f : Form) (slots : List Operand) (below : List TextLine)
+    → is_process f ≡ false
+    → variables_at (line ws (Says f slots) ∷ above) below ≡ variables_at above (line ws (Says f slots) ∷ below)
 variables_other above ws form.Process slots below h = absurd (true≢false h)
 variables_other above ws f slots below h = refl
 
@@ -114,13 +124,16 @@ line_given : (whole : WholeText) (n : ℕ) (above : List TextLine) (ws : List Wo
 line_given whole n above ws f slots below vs clean same =
     line_good (declared above) vs (given_by slots) (none_of (λ v. nat_le 64 (variable_number vs v.name)) (given_by slots) (subst (λ us. gives_too_many us slots ≡ false) same clean.variables)) (none_of (λ v. is_event (declared above) v.name) (given_by slots) clean.hides)
 
-weaker_names : (vs : List (Named Class)) (f : Form) (o : Option Sort) (ds es : List (Named Meaning)) (given : List (Named Class)) → Grown f o ds es → AllByRecursion (GoodName vs es) given → AllByRecursion (GoodName vs ds) given
+weaker_names : (vs : List (Named Class)) (f : Form) (o : Option Sort) (ds es : List (Named Meaning))
+    (given : List (Named Class)) → Grown f o ds es → AllByRecursion (GoodName vs es) given
+    → AllByRecursion (GoodName vs ds) given
 weaker_names vs f o ds es given more all = all_weaker (GoodName vs es) (GoodName vs ds) given (λ v good. (good.0, events_before f o ds es v.name more good.1)) all
 
 module _ (whole : WholeText) (end : Option Fault) where
   -- where the line does not end the process
-  given_then : (n : ℕ) (above : List TextLine) (deep : ℕ) (ws : List Word) (f : Form) (slots : List Operand) (below : List TextLine) (vs : List (Named Class))
-      → FitsAmong whole f slots → first_fault whole.heads (places n above (line ws (Says f slots) ∷ below)) end ≡ None
+  given_then : (n : ℕ) (above : List TextLine) (deep : ℕ) (ws : List Word) (f : Form) (slots : List Operand)
+      (below : List TextLine) (vs : List (Named Class)) → FitsAmong whole f slots
+      → first_fault whole.heads (places n above (line ws (Says f slots) ∷ below)) end ≡ None
       → variables_at above (line ws (Says f slots) ∷ below) ≡ vs
       → ((d : ℕ) → variables_at (line ws (Says f slots) ∷ above) below ≡ vs → AllByRecursion (GoodName vs (declared (line ws (Says f slots) ∷ above))) (given_below d below))
       → AllByRecursion (GoodName vs (declared above)) (given_below deep (line ws (Says f slots) ∷ below))
@@ -129,7 +142,9 @@ module _ (whole : WholeText) (end : Option Fault) where
       here : CleanLine whole (place_at n above (line ws (Says f slots)) below) f slots
       here = first_clean whole end n above ws f slots below fits clean
 
-      by : (b : Bool) → ends_process deep f ≡ b → AllByRecursion (GoodName vs (declared above)) (if b then [] else given_by slots ++ given_below (deep_behind deep f) below)
+      by : (b : Bool) → ends_process deep f ≡ b
+          → AllByRecursion (GoodName vs (declared above))
+          (if b then [] else given_by slots ++ given_below (deep_behind deep f) below)
       by true e = tt
       by false e =
           let stays = variables_other above ws f slots below (goes_on deep f e) ∙ same in
@@ -144,7 +159,8 @@ module _ (whole : WholeText) (end : Option Fault) where
   given_good (l ∷ below) n above deep vs among none same =
       by l.words l.saying among.0 none same (λ d later. given_good below (n + 1) (l ∷ above) d vs among.1 (others_clean whole.heads end n above l below none) later)
     where
-      by : (ws : List Word) (saying : Saying) → Among whole saying → first_fault whole.heads (places n above (line ws saying ∷ below)) end ≡ None
+      by : (ws : List Word) (saying : Saying) → Among whole saying
+          → first_fault whole.heads (places n above (line ws saying ∷ below)) end ≡ None
           → variables_at above (line ws saying ∷ below) ≡ vs
           → ((d : ℕ) → variables_at (line ws saying ∷ above) below ≡ vs → AllByRecursion (GoodName vs (declared (line ws saying ∷ above))) (given_below d below))
           → AllByRecursion (GoodName vs (declared above)) (given_below deep (line ws saying ∷ below))

@@ -58,7 +58,9 @@ abbrev pub Standing : Option (List Block) → List Kind → List Stmt → List (
 Standing None ks code vs ds = list_all (is_closed code) ks ≡ true
 Standing (Some blocks) ks code vs ds = OpenProcess ks code vs ds
 
-standing_same : (o p : Option (List Block)) (ks js : List Kind) (code next : List Stmt) (vs us : List (Named Class)) (ds es : List (Named Meaning)) → o ≡ p → ks ≡ js → code ≡ next → vs ≡ us → ds ≡ es → Standing o ks code vs ds → Standing p js next us es
+standing_same : (o p : Option (List Block)) (ks js : List Kind) (code next : List Stmt) (vs us : List (Named Class))
+    (ds es : List (Named Meaning)) → o ≡ p → ks ≡ js → code ≡ next → vs ≡ us → ds ≡ es → Standing o ks code vs ds
+    → Standing p js next us es
 standing_same o p ks js code next vs us ds es a b c d e h = subst (λ q. Standing q js next us es) a (subst (λ l. Standing o l next us es) b (subst (λ l. Standing o ks l us es) c (subst (λ l. Standing o ks code l es) d (subst (λ l. Standing o ks code vs l) e h))))
 
 -- ---- one statement more
@@ -87,7 +89,9 @@ module _ (final : ScenarioOf) (ks : List Kind) (code : List Stmt) (st : Stmt) (v
   has_ended : is_end_process st ≡ true → list_all (is_closed (code ++ st ∷ [])) ks ≡ true
   has_ended h = subst (λ all. list_all (is_closed (code ++ st ∷ [])) all ≡ true) (sym process.kinds) (list_all_push (is_closed (code ++ st ∷ [])) process.front process.kind closed_more (now_closed code st process.kind process.within h))
 
-  standing_more : (o : Option (List Block)) → ((more : List Block) × (o ≡ Some more)) ⊎ ((o ≡ None) × (is_end_process st ≡ true)) → Standing o ks (code ++ st ∷ []) vs ds
+  standing_more : (o : Option (List Block))
+      → ((more : List Block) × (o ≡ Some more)) ⊎ ((o ≡ None) × (is_end_process st ≡ true))
+      → Standing o ks (code ++ st ∷ []) vs ds
   standing_more o (inl stays) = subst (λ p. Standing p ks (code ++ st ∷ []) vs ds) (sym stays.1) goes_on
   standing_more o (inr ends) = subst (λ p. Standing p ks (code ++ st ∷ []) vs ds) (sym ends.0) (has_ended ends.1)
 
@@ -98,10 +102,13 @@ pub record Processes (final : ScenarioOf) (above below : List TextLine) (s : Sce
   pub fits : list_all (fits_from final s.code) s.kinds ≡ true
   pub standing : Standing (open_blocks above) s.kinds s.code (variables_at above below) (declared above)
 
-pub processes_blank : (final : ScenarioOf) (above : List TextLine) (ws : List Word) (below : List TextLine) (s : ScenarioOf) → Processes final above (line ws Blank ∷ below) s → Processes final (line ws Blank ∷ above) below s
+pub processes_blank : (final : ScenarioOf) (above : List TextLine) (ws : List Word) (below : List TextLine) (s : ScenarioOf)
+    → Processes final above (line ws Blank ∷ below) s → Processes final (line ws Blank ∷ above) below s
 processes_blank final above ws below s h = record { code = h.code; fits = h.fits; standing = h.standing }
 
-pub processes_wrong : (final : ScenarioOf) (above : List TextLine) (ws : List Word) (kind : FaultKind) (below : List TextLine) (s : ScenarioOf) → Processes final above (line ws (Wrong kind) ∷ below) s → Processes final (line ws (Wrong kind) ∷ above) below s
+pub processes_wrong : (final : ScenarioOf) (above : List TextLine) (ws : List Word) (kind : FaultKind)
+    (below : List TextLine) (s : ScenarioOf) → Processes final above (line ws (Wrong kind) ∷ below) s
+    → Processes final (line ws (Wrong kind) ∷ above) below s
 processes_wrong final above ws kind below s h = record { code = h.code; fits = h.fits; standing = h.standing }
 
 is_there : {A : Type 0} (o : Option A) → is_some o ≡ true → (x : A) × (o ≡ Some x)
@@ -189,6 +196,9 @@ module _ (whole : WholeText) (final : ScenarioOf) (n : ℕ) (above : List TextLi
       still_open : (o : Option (List Block)) → open_blocks above ≡ o → o ≡ open_blocks (here ∷ above)
       still_open o e = sym e ∙ sym (same_blocks (statements (here ∷ above)) f slots (open_blocks above) (or_from _ _ no_statement no_process))
 
-      by : (o : Option (List Block)) → open_blocks above ≡ o → Standing o s.kinds s.code (variables_at above (here ∷ below)) (declared above) → Standing (open_blocks (here ∷ above)) (put_in a s).kinds (put_in a s).code (variables_at (here ∷ above) below) (declared (here ∷ above))
+      by : (o : Option (List Block)) → open_blocks above ≡ o
+          → Standing o s.kinds s.code (variables_at above (here ∷ below)) (declared above)
+          → Standing (open_blocks (here ∷ above)) (put_in a s).kinds (put_in a s).code (variables_at (here ∷ above) below)
+          (declared (here ∷ above))
       by None e standing = standing_same None _ s.kinds (put_in a s).kinds s.code (put_in a s).code (variables_at (here ∷ above) below) _ (declared (here ∷ above)) _ (still_open None e) (sym same_processes) (sym same_statements) refl refl standing
       by (Some blocks) e standing = standing_same (Some blocks) _ s.kinds (put_in a s).kinds s.code (put_in a s).code (variables_at above (here ∷ below)) _ (declared above) _ (still_open (Some blocks) e) (sym same_processes) (sym same_statements) (sym (variables_other above ws f slots below no_process)) (sym (same_declared clean no_process (ap is_some e))) standing

@@ -40,7 +40,8 @@ if_found items true found fits = fits
 if_found items false found fits = not_found items
 
 -- one operand in front
-one_before : (items more : List Item) (slot : Operand) (found : Option (List Operand)) → ((n : ℕ) → may_have more (suc n) ≡ may_have items n) → FitLength items found → FitLength more (before_all slot found)
+one_before : (items more : List Item) (slot : Operand) (found : Option (List Operand))
+    → ((n : ℕ) → may_have more (suc n) ≡ may_have items n) → FitLength items found → FitLength more (before_all slot found)
 one_before items more slot None longer fits = not_found more
 one_before items more slot (Some rest) longer fits = λ slots h. subst (λ some. may_have more (length some) ≡ true) (same_Some (slot ∷ rest) slots h) (rw (longer (length rest)) (fits rest refl))
 

@@ -34,7 +34,9 @@ pub record Stands (n : ℕ) (variables : List (Named Class)) (blocks : Option (L
   pub begun : firsts code ≡ firsts_of kinds ++ next_first (is_none blocks) n
 
 -- the same by other names
-pub stands_like : (m n : ℕ) (v w : List (Named Class)) (b c : Option (List Block)) (code more : List Stmt) (kinds others : List Kind) → m ≡ n → v ≡ w → b ≡ c → code ≡ more → kinds ≡ others → Stands m v b code kinds → Stands n w c more others
+pub stands_like : (m n : ℕ) (v w : List (Named Class)) (b c : Option (List Block)) (code more : List Stmt)
+    (kinds others : List Kind) → m ≡ n → v ≡ w → b ≡ c → code ≡ more → kinds ≡ others → Stands m v b code kinds
+    → Stands n w c more others
 stands_like m n v w b c code more kinds others counts variables blocks codes heads p = rw (← counts, ← variables, ← blocks, ← codes, ← heads) p
 
 -- before the first line
@@ -42,7 +44,8 @@ pub stands_none : (variables : List (Named Class)) → Stands 0 variables None [
 stands_none variables = record { counted = refl; leaves = leaves_none; few = refl; named = tt; ended = λ h. refl; begun = refl }
 
 -- a process begins
-pub stands_process : (n : ℕ) (before variables : List (Named Class)) (code : List Stmt) (kinds : List Kind) (k : Kind) → k.first ≡ n → Stands n before None code kinds → Stands n variables (Some []) code (kinds ++ k ∷ [])
+pub stands_process : (n : ℕ) (before variables : List (Named Class)) (code : List Stmt) (kinds : List Kind) (k : Kind)
+    → k.first ≡ n → Stands n before None code kinds → Stands n variables (Some []) code (kinds ++ k ∷ [])
 stands_process n before variables code kinds k first p = record {
   counted = p.counted;
   leaves = p.leaves;
@@ -62,7 +65,9 @@ one_less : (n : ℕ) → nat_le (suc n) 32 ≡ true → nat_le n 32 ≡ true
 one_less n few = le-leb n 32 (omega (arith, leb-true (suc n) 32 few))
 
 -- behind the line at most 32 blocks are open
-few_behind : (inside : ℕ) (f : Form) (slots : List Operand) (blocks : List Block) → nat_le (length blocks) 32 ≡ true → (opens_block f && nat_le 32 (length blocks)) ≡ false → nat_le (length (unwrap_or (blocks_behind inside f slots (Some blocks)) [])) 32 ≡ true
+few_behind : (inside : ℕ) (f : Form) (slots : List Operand) (blocks : List Block) → nat_le (length blocks) 32 ≡ true
+    → (opens_block f && nat_le 32 (length blocks)) ≡ false
+    → nat_le (length (unwrap_or (blocks_behind inside f slots (Some blocks)) [])) 32 ≡ true
 few_behind inside form.Process slots blocks few room = refl
 few_behind inside form.End slots [] few room = refl
 few_behind inside form.End slots (b ∷ blocks) few room = one_less (length blocks) few
@@ -78,7 +83,11 @@ few_behind inside form.Try slots blocks few room = one_more (length blocks) room
 few_behind inside f slots blocks few room = few
 
 -- the line makes one statement more
-pub stands_statement : (heads : ProcessLines) (place : LineInText) (n : ℕ) (blocks : List Block) (f : Form) (slots : List Operand) (code : List Stmt) (kinds : List Kind) → (m : Makes heads place n blocks f slots) → GivesNew place.variables blocks f slots → (opens_block f && nat_le 32 (length blocks)) ≡ false → Stands n place.variables (Some blocks) code kinds → Stands (suc n) place.variables (blocks_behind (suc n) f slots (Some blocks)) (code ++ m.made ∷ []) kinds
+pub stands_statement : (heads : ProcessLines) (place : LineInText) (n : ℕ) (blocks : List Block) (f : Form)
+    (slots : List Operand) (code : List Stmt) (kinds : List Kind) → (m : Makes heads place n blocks f slots)
+    → GivesNew place.variables blocks f slots → (opens_block f && nat_le 32 (length blocks)) ≡ false
+    → Stands n place.variables (Some blocks) code kinds
+    → Stands (suc n) place.variables (blocks_behind (suc n) f slots (Some blocks)) (code ++ m.made ∷ []) kinds
 stands_statement heads place n blocks f slots code kinds m new room p = record {
   counted = counted;
   leaves = subst (λ frames. Leaves (suc n) frames (code ++ m.made ∷ [])) m.behind (leaves_more n (frames_of place.variables blocks) code m.made p.leaves m.may framed);

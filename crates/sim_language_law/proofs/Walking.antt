@@ -39,10 +39,13 @@ module _ (heads : ProcessLines) (P : ℕ → List TextLine → List TextLine →
   walk-nil : (n : ℕ) (above : List TextLine) (s : ScenarioOf) (end : Option Fault) → end ≡ None → P n above [] s → Ends n above [] s end
   walk-nil n above s end clean p = let same : n + 0 ≡ n = omega arith in record { holds = rw same p; none = clean }
 
-  further : (n : ℕ) (above : List TextLine) (l : TextLine) (below : List TextLine) (s t : ScenarioOf) (end : Option Fault) → t ≡ add_said heads (place_at n above l below) l.saying s → Ends (n + 1) (l ∷ above) below t end → Ends n above (l ∷ below) s end
+  further : (n : ℕ) (above : List TextLine) (l : TextLine) (below : List TextLine) (s t : ScenarioOf) (end : Option Fault)
+      → t ≡ add_said heads (place_at n above l below) l.saying s → Ends (n + 1) (l ∷ above) below t end
+      → Ends n above (l ∷ below) s end
   further n above l below s t end e ends = let same : n + 1 + length below ≡ n + suc (length below) = omega arith in record { holds = subst (λ m. P m (passed (l ∷ above) below) [] (with_lines heads s (places n above (l ∷ below)))) same (subst (λ u. P (n + 1 + length below) (passed (l ∷ above) below) [] (with_lines heads u (places (n + 1) (l ∷ above) below))) e ends.holds); none = ends.none }
 
-  pub walk : Kept → (below : List TextLine) (n : ℕ) (above : List TextLine) (s : ScenarioOf) (end : Option Fault) → first_fault heads (places n above below) end ≡ None → P n above below s → Ends n above below s end
+  pub walk : Kept → (below : List TextLine) (n : ℕ) (above : List TextLine) (s : ScenarioOf) (end : Option Fault)
+      → first_fault heads (places n above below) end ≡ None → P n above below s → Ends n above below s end
   walk kept [] n above s end clean p = walk-nil n above s end clean p
   walk kept (l ∷ below) n above s end clean p =
       let both : (fault_at heads (place_at n above l below) ≡ None) × (first_fault heads (places (n + 1) (l ∷ above) below) end ≡ None) = none_here (fault_at heads (place_at n above l below)) n (first_fault heads (places (n + 1) (l ∷ above) below) end) clean in

@@ -99,7 +99,8 @@ pub record GivesClass (kind : Kind) (asked : Op) (to : ℕ) : Type 0 where
   pub not_number : (e : EventId) → may_follow asked (signal.Made e) ≡ true → is_class (class_of kind to) class.Number ≡ false
   pub number : (n : ℤ) → may_follow asked (signal.Number n) ≡ true → class_of kind to ≡ class.Number
 
-pub gives_class : (x : ScenarioOf) (kind : Kind) (s : Stmt) (asked : Op) (to : ℕ) → given_by s ≡ Some to → is_asked_by s asked ≡ true → statement_fits x kind s ≡ true → GivesClass kind asked to
+pub gives_class : (x : ScenarioOf) (kind : Kind) (s : Stmt) (asked : Op) (to : ℕ) → given_by s ≡ Some to
+    → is_asked_by s asked ≡ true → statement_fits x kind s ≡ true → GivesClass kind asked to
 gives_class x kind s asked to is by fits =
     let given = is_given kind to (class_given s) (given_fits x kind s to is fits) in
     let told = answers s asked by in

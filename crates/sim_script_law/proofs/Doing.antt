@@ -50,7 +50,8 @@ module _ (x : ScenarioOf) (kind : Kind) (opens : List Open) (t : Script) (time :
   not_breaking breaking = absurd (false≢true (sym (ap is_breaking runs) ∙ breaking))
 
   -- what the statement asks for
-  may : (s : Stmt) → statement_fits x kind s ≡ true → ScopesAllow next (scopes_of t) s → may_ask (facts_of x) t.me (places_of t.classes t.variables) (scopes_of t) (do_stmt time next s).0 ≡ true
+  may : (s : Stmt) → statement_fits x kind s ≡ true → ScopesAllow next (scopes_of t) s
+      → may_ask (facts_of x) t.me (places_of t.classes t.variables) (scopes_of t) (do_stmt time next s).0 ≡ true
   may s fits allow = statement_may_ask x kind next time s (scopes_of t) h.classes (sym (ap length h.classes) ∙ h.long) h.variables fits allow
 
   -- an operation whose answer goes nowhere, and the script then
@@ -87,7 +88,9 @@ module _ (x : ScenarioOf) (kind : Kind) (opens : List Open) (t : Script) (time :
   stays = nothing_stored x kind t.classes t.variables
 
   -- the script goes on with the next statement
-  goes_on : (asked : Op) → may_ask (facts_of x) t.me (places_of t.classes t.variables) (scopes_of t) asked ≡ true → Walks x kind (t.place + 1) opens → scopes_asked (scopes_of t) asked ≡ scopes_of t → is_enter (Some asked) ≡ false → is_answered asked ≡ false → Asks x kind t asked next
+  goes_on : (asked : Op) → may_ask (facts_of x) t.me (places_of t.classes t.variables) (scopes_of t) asked ≡ true
+      → Walks x kind (t.place + 1) opens → scopes_asked (scopes_of t) asked ≡ scopes_of t → is_enter (Some asked) ≡ false
+      → is_answered asked ≡ false → Asks x kind t asked next
   goes_on asked allowed on scopes no_request no_answer = asks asked t.variables t.frames (t.place + 1) t.mode opens allowed stays (sym scopes) h.few h.framed (λ a b. on) not_breaking no_request no_answer
 
   -- the statement is then the last
@@ -95,7 +98,10 @@ module _ (x : ScenarioOf) (kind : Kind) (opens : List Open) (t : Script) (time :
   last_is s is = ap (stmt_at x.code) (one_back t.place) ∙ is
 
   -- and an operation whose answer goes into a variable of the statement
-  answers : (s : Stmt) (asked : Op) → stmt_at x.code t.place ≡ s → may_ask (facts_of x) t.me (places_of t.classes t.variables) (scopes_of t) asked ≡ true → statement_fits x kind s ≡ true → is_asked_by s asked ≡ true → Walks x kind (t.place + 1) opens → scopes_asked (scopes_of t) asked ≡ scopes_of t → is_enter (Some asked) ≡ false → Asks x kind t asked next
+  answers : (s : Stmt) (asked : Op) → stmt_at x.code t.place ≡ s
+      → may_ask (facts_of x) t.me (places_of t.classes t.variables) (scopes_of t) asked ≡ true
+      → statement_fits x kind s ≡ true → is_asked_by s asked ≡ true → Walks x kind (t.place + 1) opens
+      → scopes_asked (scopes_of t) asked ≡ scopes_of t → is_enter (Some asked) ≡ false → Asks x kind t asked next
   answers s asked is allowed fits by on scopes no_request =
       record {
         may = allowed;
@@ -128,11 +134,14 @@ module _ (x : ScenarioOf) (kind : Kind) (opens : List Open) (t : Script) (time :
   lets to (Error n) given on = throws (record { kind = 4; value = pos n })
 
   -- it goes on elsewhere, with these blocks open and its frames as they are
-  jumps : (place : ℕ) (os : List Open) → length os ≤ 32 → Framed x kind t.variables os t.frames → Walks x kind place os → Asks x kind t op.Nop (set_place place next)
+  jumps : (place : ℕ) (os : List Open) → length os ≤ 32 → Framed x kind t.variables os t.frames → Walks x kind place os
+      → Asks x kind t op.Nop (set_place place next)
   jumps place os few framed walks = asks op.Nop t.variables t.frames place t.mode os refl stays refl few framed (λ a b. walks) (λ breaking. absurd (false≢true (sym (ap is_breaking runs) ∙ breaking))) refl refl
 
   -- it goes on elsewhere with other frames, but the same scopes
-  goes_to : (place : ℕ) (fs : List Frame) (os : List Open) → requests_in fs ≡ requests_in t.frames → length os ≤ 32 → Framed x kind t.variables os fs → Walks x kind place os → Asks x kind t op.Nop (record t { place = place; frames = fs })
+  goes_to : (place : ℕ) (fs : List Frame) (os : List Open) → requests_in fs ≡ requests_in t.frames → length os ≤ 32
+      → Framed x kind t.variables os fs → Walks x kind place os
+      → Asks x kind t op.Nop (record t { place = place; frames = fs })
   goes_to place fs os same few framed walks = asks op.Nop t.variables fs place t.mode os refl stays (ap reverse same) few framed (λ a b. walks) (λ breaking. absurd (false≢true (sym (ap is_breaking runs) ∙ breaking))) refl refl
 
   -- there are fewer scopes than open blocks
@@ -147,14 +156,17 @@ module _ (x : ScenarioOf) (kind : Kind) (opens : List Open) (t : Script) (time :
       let inside : Walks x kind (suc t.place) (OpenLoop (suc t.place) past ∷ opens) = one_on x kind t.place _ on in
       goes_to (t.place + 1) (InLoop past ∷ t.frames) (OpenLoop (suc t.place) past ∷ opens) refl (st.few refl) (refl, inside, loop_exit x kind (t.place + 1) (suc t.place) past opens on, h.framed) on
 
-  enters_repeat : (times : Num) (past : ℕ) → Steps x kind t.place opens (stmt.Repeat times past) → Asks x kind t op.Nop (do_stmt time next (stmt.Repeat times past)).1
+  enters_repeat : (times : Num) (past : ℕ) → Steps x kind t.place opens (stmt.Repeat times past)
+      → Asks x kind t op.Nop (do_stmt time next (stmt.Repeat times past)).1
   enters_repeat times past st =
       let on : Walks x kind (t.place + 1) (OpenRepeat (suc t.place) past ∷ opens) = st.on refl in
       let inside : Walks x kind (suc t.place) (OpenRepeat (suc t.place) past ∷ opens) = one_on x kind t.place _ on in
       let behind : Walks x kind past opens = repeat_exit x kind (t.place + 1) (suc t.place) past opens on in
       by on inside behind (int_lt (value_of_num time next times) (pos 1))
     where
-      by : Walks x kind (t.place + 1) (OpenRepeat (suc t.place) past ∷ opens) → Walks x kind (suc t.place) (OpenRepeat (suc t.place) past ∷ opens) → Walks x kind past opens → (b : Bool) → Asks x kind t op.Nop (if b then set_place past next else push_frame (InRepeat (value_of_num time next times) past) next)
+      by : Walks x kind (t.place + 1) (OpenRepeat (suc t.place) past ∷ opens)
+          → Walks x kind (suc t.place) (OpenRepeat (suc t.place) past ∷ opens) → Walks x kind past opens → (b : Bool)
+          → Asks x kind t op.Nop (if b then set_place past next else push_frame (InRepeat (value_of_num time next times) past) next)
       by on inside behind true = jumps past opens h.few h.framed behind
       by on inside behind false = goes_to (t.place + 1) (InRepeat (value_of_num time next times) past ∷ t.frames) (OpenRepeat (suc t.place) past ∷ opens) refl (st.few refl) (refl, inside, behind, h.framed) on
 
@@ -168,18 +180,23 @@ module _ (x : ScenarioOf) (kind : Kind) (opens : List Open) (t : Script) (time :
       let on : Walks x kind (t.place + 1) (OpenIf other ∷ opens) = st.on refl in
       by on (if_exit x kind (t.place + 1) other opens on) (is_equal (value_of_num time next test) (pos 0))
     where
-      by : Walks x kind (t.place + 1) (OpenIf other ∷ opens) → (Walks x kind other opens) ⊎ ((past : ℕ) × Walks x kind other (OpenElse past ∷ opens)) → (b : Bool) → Asks x kind t op.Nop (if b then set_place other next else next)
+      by : Walks x kind (t.place + 1) (OpenIf other ∷ opens)
+          → (Walks x kind other opens) ⊎ ((past : ℕ) × Walks x kind other (OpenElse past ∷ opens)) → (b : Bool)
+          → Asks x kind t op.Nop (if b then set_place other next else next)
       by on exit false = jumps (t.place + 1) (OpenIf other ∷ opens) (st.few refl) h.framed on
       by on (inl behind) true = jumps other opens h.few h.framed behind
       by on (inr (past, behind)) true = jumps other (OpenElse past ∷ opens) (st.few refl) h.framed behind
 
   -- what stands at an `else` or a `catch` that is reached goes on past the block
-  passes_else : (past : ℕ) (os : List Open) → Steps x kind t.place os (stmt.Else past) → length os ≤ 32 → Framed x kind t.variables os t.frames → Asks x kind t op.Nop (set_place past next)
+  passes_else : (past : ℕ) (os : List Open) → Steps x kind t.place os (stmt.Else past) → length os ≤ 32
+      → Framed x kind t.variables os t.frames → Asks x kind t op.Nop (set_place past next)
   passes_else past (OpenIf other ∷ os) st few framed = jumps past os (omega (arith, few)) framed (else_exit x kind (t.place + 1) past os (st.on refl))
   passes_else past [] st few framed = absurd (false≢true st.stands)
   passes_else past (_ ∷ os) st few framed = absurd (false≢true st.stands)
 
-  passes_catch : (to value past : ℕ) (os : List Open) (fs : List Frame) → t.frames ≡ fs → Steps x kind t.place os (stmt.Catch to value past) → length os ≤ 32 → Framed x kind t.variables os fs → Asks x kind t op.Nop (set_place past (set_frames (tail_of fs) next))
+  passes_catch : (to value past : ℕ) (os : List Open) (fs : List Frame) → t.frames ≡ fs
+      → Steps x kind t.place os (stmt.Catch to value past) → length os ≤ 32 → Framed x kind t.variables os fs
+      → Asks x kind t op.Nop (set_place past (set_frames (tail_of fs) next))
   passes_catch to value past (OpenTry catch ∷ os) (InTry place ∷ fs) at st few framed = goes_to past fs os (sym (ap requests_in at)) (omega (arith, few)) framed.2 (catch_exit x kind (t.place + 1) past os (st.on refl))
   passes_catch to value past (OpenTry catch ∷ os) _ at st few framed = absurd (false≢true framed)
   passes_catch to value past [] fs at st few framed = absurd (false≢true st.stands)
@@ -193,7 +210,9 @@ module _ (x : ScenarioOf) (kind : Kind) (opens : List Open) (t : Script) (time :
   from_there : (os : List Open) (first inside : ℕ) → first ≡ inside → Walks x kind inside os → Walks x kind first os
   from_there os first inside same walks = let P : ℕ → Type 0 = λ m. Walks x kind m os in subst P (sym same) walks
 
-  repeats_loop : (first : ℕ) (os : List Open) (fs : List Frame) → t.frames ≡ fs → Steps x kind t.place os (stmt.EndLoop first) → length os ≤ 32 → Framed x kind t.variables os fs → Asks x kind t op.Nop (set_place first next)
+  repeats_loop : (first : ℕ) (os : List Open) (fs : List Frame) → t.frames ≡ fs
+      → Steps x kind t.place os (stmt.EndLoop first) → length os ≤ 32 → Framed x kind t.variables os fs
+      → Asks x kind t op.Nop (set_place first next)
   repeats_loop first (OpenLoop inside past ∷ os) (InLoop place ∷ fs) at st few framed =
       let same : first ≡ inside = eqb-true first inside (and_parts (first == inside) _ st.stands).0 in
       jumps first (OpenLoop inside past ∷ os) few (still_framed (OpenLoop inside past ∷ os) (InLoop place ∷ fs) at framed) (from_there (OpenLoop inside past ∷ os) first inside same framed.1)
@@ -201,7 +220,9 @@ module _ (x : ScenarioOf) (kind : Kind) (opens : List Open) (t : Script) (time :
   repeats_loop first [] fs at st few framed = absurd (false≢true st.stands)
   repeats_loop first (_ ∷ os) fs at st few framed = absurd (false≢true st.stands)
 
-  counts_down : (first : ℕ) (os : List Open) (fs : List Frame) → t.frames ≡ fs → Steps x kind t.place os (stmt.EndRepeat first) → length os ≤ 32 → Framed x kind t.variables os fs → Asks x kind t op.Nop (end_repeat first fs next)
+  counts_down : (first : ℕ) (os : List Open) (fs : List Frame) → t.frames ≡ fs
+      → Steps x kind t.place os (stmt.EndRepeat first) → length os ≤ 32 → Framed x kind t.variables os fs
+      → Asks x kind t op.Nop (end_repeat first fs next)
   counts_down first (OpenRepeat inside past ∷ os) (InRepeat count place ∷ fs) at st few framed = by (int_lt (pos 1) count)
     where
       by : (b : Bool) → Asks x kind t op.Nop (if b then set_place first (set_frames (InRepeat (count -ℤ pos 1) place ∷ fs) next) else set_frames fs next)
@@ -213,7 +234,8 @@ module _ (x : ScenarioOf) (kind : Kind) (opens : List Open) (t : Script) (time :
   counts_down first [] fs at st few framed = absurd (false≢true st.stands)
   counts_down first (_ ∷ os) fs at st few framed = absurd (false≢true st.stands)
 
-  leaves_with : (os : List Open) (fs : List Frame) → t.frames ≡ fs → Steps x kind t.place os stmt.EndWith → length os ≤ 32 → Framed x kind t.variables os fs → Asks x kind t op.Leave (set_frames (tail_of fs) next)
+  leaves_with : (os : List Open) (fs : List Frame) → t.frames ≡ fs → Steps x kind t.place os stmt.EndWith → length os ≤ 32
+      → Framed x kind t.variables os fs → Asks x kind t op.Leave (set_frames (tail_of fs) next)
   leaves_with (OpenWith v ∷ os) (InScope e ∷ fs) at st few framed =
       let some : nat_lt 0 (length (scopes_of t)) ≡ true = rw at (some_scope e (requests_in fs)) in
       let closed : reverse (requests_in fs) ≡ scopes_asked (scopes_of t) op.Leave = rw at (innermost_closed e (requests_in fs)) in
@@ -252,7 +274,9 @@ module _ (x : ScenarioOf) (kind : Kind) (opens : List Open) (t : Script) (time :
       let held : list_any (is_same (event_in next v)) (scopes_of t) ≡ true = list_any-reverse (is_same (event_in next v)) (requests_in t.frames) ∙ held_is_open x kind t v opens t.frames (sym (release_within t.place v opens) ∙ st.stands) h.framed in
       goes_on (op.Release (event_in next v)) (may (stmt.Release v) st.fits held) (st.on refl) refl refl refl
 
-  requests : (to res : ℕ) (priority : Num) (preempts : Bool) → stmt_at x.code t.place ≡ stmt.With to res priority preempts → Steps x kind t.place opens (stmt.With to res priority preempts) → Asks x kind t (op.Enter res (value_of_num time next priority) preempts) next
+  requests : (to res : ℕ) (priority : Num) (preempts : Bool) → stmt_at x.code t.place ≡ stmt.With to res priority preempts
+      → Steps x kind t.place opens (stmt.With to res priority preempts)
+      → Asks x kind t (op.Enter res (value_of_num time next priority) preempts) next
   requests to res priority preempts is st =
       let few : length opens < 32 = omega (arith, st.few refl) in
       let allowed : length (scopes_of t) < 32 = omega (arith, few, few_scopes) in

@@ -39,7 +39,8 @@ requests_are_few (InRepeat count at ∷ fs) = omega (arith, requests_are_few fs)
 -- ---- a variable that no open `with` has
 
 -- another variable gets a value: the scope's is as before
-scope_stays : (x : ScenarioOf) (kind : Kind) (vs : List ℤ) (to : ℕ) (value : ℤ) (v : ℕ) (e : EventId) (os : List Open) → (to == v) ≡ false → IsScope x kind vs v e os → IsScope x kind (set vs to value) v e os
+scope_stays : (x : ScenarioOf) (kind : Kind) (vs : List ℤ) (to : ℕ) (value : ℤ) (v : ℕ) (e : EventId) (os : List Open)
+    → (to == v) ≡ false → IsScope x kind vs v e os → IsScope x kind (set vs to value) v e os
 scope_stays x kind vs to value v e os other h =
     record {
       place = h.place;
@@ -57,7 +58,8 @@ no_others : (a b : Bool) → (a || b) ≡ false → (a ≡ false) × (b ≡ fals
 no_others false b h = (refl, h)
 no_others true b h = absurd (true≢false h)
 
-pub framed_set : (x : ScenarioOf) (kind : Kind) (vs : List ℤ) (to : ℕ) (value : ℤ) (os : List Open) (fs : List Frame) → is_held to os ≡ false → Framed x kind vs os fs → Framed x kind (set vs to value) os fs
+pub framed_set : (x : ScenarioOf) (kind : Kind) (vs : List ℤ) (to : ℕ) (value : ℤ) (os : List Open) (fs : List Frame)
+    → is_held to os ≡ false → Framed x kind vs os fs → Framed x kind (set vs to value) os fs
 framed_set x kind vs to value [] [] none h = h
 framed_set x kind vs to value (OpenWith v ∷ os) (InScope e ∷ fs) none h =
     let others = no_others (to == v) (is_held to os) none in
@@ -71,7 +73,8 @@ framed_set x kind vs to value (OpenCatch past ∷ os) fs none h = framed_set x k
 framed_set x kind vs to value _ _ none h = absurd (false≢true h)
 
 -- a variable of another class than requests is that of no open `with`
-pub other_class_not_held : (x : ScenarioOf) (kind : Kind) (vs : List ℤ) (to : ℕ) (os : List Open) (fs : List Frame) → is_class class.Request (class_of kind to) ≡ false → Framed x kind vs os fs → is_held to os ≡ false
+pub other_class_not_held : (x : ScenarioOf) (kind : Kind) (vs : List ℤ) (to : ℕ) (os : List Open) (fs : List Frame)
+    → is_class class.Request (class_of kind to) ≡ false → Framed x kind vs os fs → is_held to os ≡ false
 other_class_not_held x kind vs to [] [] other h = refl
 other_class_not_held x kind vs to (OpenWith v ∷ os) (InScope e ∷ fs) other h = by (to == v) refl (other_class_not_held x kind vs to os fs other h.1)
   where
@@ -94,11 +97,14 @@ same_event : (b : Script) (v w : ℕ) (e : EventId) → v ≡ w → nat_abs (get
 same_event b v w e same held = eq-eqb _ _ (ap (λ (n : ℕ). nat_abs (get_or b.variables n (pos 0))) same ∙ held)
 
 -- it holds one of the requests
-pub held_is_open : (x : ScenarioOf) (kind : Kind) (b : Script) (v : ℕ) (os : List Open) (fs : List Frame) → is_held v os ≡ true → Framed x kind b.variables os fs → list_any (is_same (event_in b v)) (requests_in fs) ≡ true
+pub held_is_open : (x : ScenarioOf) (kind : Kind) (b : Script) (v : ℕ) (os : List Open) (fs : List Frame)
+    → is_held v os ≡ true → Framed x kind b.variables os fs → list_any (is_same (event_in b v)) (requests_in fs) ≡ true
 held_is_open x kind b v [] [] some h = absurd (false≢true some)
 held_is_open x kind b v (OpenWith w ∷ os) (InScope e ∷ fs) some h = by (v == w) refl some (λ rest. held_is_open x kind b v os fs rest h.1)
   where
-    by : (t : Bool) → (v == w) ≡ t → (t || is_held v os) ≡ true → (is_held v os ≡ true → list_any (is_same (event_in b v)) (requests_in fs) ≡ true) → (is_same (event_in b v) e || list_any (is_same (event_in b v)) (requests_in fs)) ≡ true
+    by : (t : Bool) → (v == w) ≡ t → (t || is_held v os) ≡ true
+        → (is_held v os ≡ true → list_any (is_same (event_in b v)) (requests_in fs) ≡ true)
+        → (is_same (event_in b v) e || list_any (is_same (event_in b v)) (requests_in fs)) ≡ true
     by true same some rest = or_left (is_same (event_in b v) e) _ (same_event b v w e (eqb-true v w same) h.0.held)
     by false other some rest = or_right (is_same (event_in b v) e) _ (rest some)
 held_is_open x kind b v (OpenTry catch ∷ os) (InTry at ∷ fs) some h = held_is_open x kind b v os fs some h.2

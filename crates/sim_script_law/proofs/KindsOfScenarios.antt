@@ -51,7 +51,8 @@ passes_at test [] k y is h = absurd (none-some y is)
 passes_at test (x ∷ xs) zero y is h = ap (λ z. test (unwrap_or z x)) (sym is) ∙ (and_parts (test x) (list_all test xs) h).0
 passes_at test (x ∷ xs) (suc k) y is h = passes_at test xs k y is (and_parts (test x) (list_all test xs) h).1
 
-first_among : (kinds : List Kind) (fs : List ℕ) (k : ℕ) (kind : Kind) → slice_get kinds k ≡ Some kind → pointwise (λ m n. m == n) (map (λ k. k.first) kinds) (take (length kinds) fs) ≡ true → kind.first ≡ get_or fs k 0
+first_among : (kinds : List Kind) (fs : List ℕ) (k : ℕ) (kind : Kind) → slice_get kinds k ≡ Some kind
+    → pointwise (λ m n. m == n) (map (λ k. k.first) kinds) (take (length kinds) fs) ≡ true → kind.first ≡ get_or fs k 0
 first_among [] fs k kind is h = absurd (none-some kind is)
 first_among (m ∷ kinds) [] k kind is h = absurd (false≢true h)
 first_among (m ∷ kinds) (f ∷ fs) zero kind is h = ap (λ z. (unwrap_or z m).first) (sym is) ∙ eqb-true m.first f (and_parts (m.first == f) _ h).0
@@ -74,15 +75,18 @@ abbrev BeginsWell : List Stmt → ℕ → Type 0
 BeginsWell code n = stand_well n [] (drop n code) ≡ true
 
 -- one statement before those of which it is known
-begins_before : (whole code : List Stmt) (n : ℕ) (opens : List Open) (s : Stmt) (b : Bool) → is_end_process s ≡ b → stands_within n opens s ≡ true → stand_well (suc n) (open_then n opens s) code ≡ true → drop (suc n) whole ≡ code
+begins_before : (whole code : List Stmt) (n : ℕ) (opens : List Open) (s : Stmt) (b : Bool) → is_end_process s ≡ b
+    → stands_within n opens s ≡ true → stand_well (suc n) (open_then n opens s) code ≡ true → drop (suc n) whole ≡ code
     → ((i : ℕ) → suc i < length (firsts_after (suc n) code) → BeginsWell whole (get_or (firsts_after (suc n) code) i 0))
-    → (i : ℕ) → suc i < length (if b then suc n ∷ firsts_after (suc n) code else firsts_after (suc n) code) → BeginsWell whole (get_or (if b then suc n ∷ firsts_after (suc n) code else firsts_after (suc n) code) i 0)
+    → (i : ℕ) → suc i < length (if b then suc n ∷ firsts_after (suc n) code else firsts_after (suc n) code)
+    → BeginsWell whole (get_or (if b then suc n ∷ firsts_after (suc n) code else firsts_after (suc n) code) i 0)
 begins_before whole code n opens s true ends stands behind next later zero lt = rw next (rw (none_open n opens s ends stands) at behind)
 begins_before whole code n opens s true ends stands behind next later (suc i) lt = later i (omega arith)
 begins_before whole code n opens s false ends stands behind next later i lt = later i lt
 
 -- each process but the one behind the last begins well
-begins_well : (whole code : List Stmt) (n : ℕ) (opens : List Open) → drop n whole ≡ code → stand_well n opens code ≡ true → (i : ℕ) → suc i < length (firsts_after n code) → BeginsWell whole (get_or (firsts_after n code) i 0)
+begins_well : (whole code : List Stmt) (n : ℕ) (opens : List Open) → drop n whole ≡ code → stand_well n opens code ≡ true
+    → (i : ℕ) → suc i < length (firsts_after n code) → BeginsWell whole (get_or (firsts_after n code) i 0)
 begins_well whole [] n opens from h i lt = absurd (omega arith)
 begins_well whole (s ∷ []) n opens from h i lt = absurd (by (is_end_process s) lt)
   where
@@ -102,7 +106,8 @@ first_stands (s ∷ code) (suc k) fits lt = begins_well (s ∷ code) (s ∷ code
 
 -- ---- a kind
 
-val_is_number : (params first : ℕ) (classes : List Class) → kind_fits (record { params = params; first = first; classes = classes }) ≡ true → begins_with_number classes ≡ true
+val_is_number : (params first : ℕ) (classes : List Class)
+    → kind_fits (record { params = params; first = first; classes = classes }) ≡ true → begins_with_number classes ≡ true
 val_is_number params first (class.Number ∷ classes) h = refl
 val_is_number params first [] h = (and_parts (nat_le params 8 && (0 == 64)) false h).1
 val_is_number params first (_ ∷ classes) h = (and_parts (nat_le params 8 && (suc (length classes) == 64)) false h).1

@@ -48,7 +48,9 @@ pub given_number : (kind : Kind) (v : ℕ) → gives kind v class.Number ≡ tru
 given_number kind v h = same_class-is class.Number (class_of kind v) (and_parts (nat_le 1 v && nat_lt v 64) (is_class class.Number (class_of kind v)) h).1
 
 -- the variables of a catch line are numbers
-caught : (x : ScenarioOf) (kind : Kind) (b : Script) (to value past : ℕ) (t : Throw) → b.classes ≡ kind.classes → statement_fits x kind (stmt.Catch to value past) ≡ true → Numbers x kind b.classes b.variables (catch_by (stmt.Catch to value past) t b).variables
+caught : (x : ScenarioOf) (kind : Kind) (b : Script) (to value past : ℕ) (t : Throw) → b.classes ≡ kind.classes
+    → statement_fits x kind (stmt.Catch to value past) ≡ true
+    → Numbers x kind b.classes b.variables (catch_by (stmt.Catch to value past) t b).variables
 caught x kind b to value past t is fits =
     let both = and_parts (gives kind to class.Number) (gives kind value class.Number) fits in
     numbers_stored x kind b.classes b.variables (set b.variables to (pos t.kind)) (set (set b.variables to (pos t.kind)) value t.value)
@@ -59,7 +61,9 @@ caught x kind b to value past t is fits =
 
 module _ (x : ScenarioOf) (kind : Kind) (t : Script) (classes : t.classes ≡ kind.classes) (starts : may_start t.classes t.variables ≡ true) where
   -- it leaves further blocks in the next poll
-  leaves_on : (m : Mode) (f : Frame) (fs : List Frame) (os : List Open) → t.mode ≡ m → is_running m ≡ false → t.frames ≡ f ∷ fs → requests_in (f ∷ fs) ≡ requests_in fs → length os ≤ 32 → Framed x kind t.variables os fs → (is_breaking m ≡ true → list_any is_open_loop os ≡ true) → Asks x kind t op.Nop (set_frames fs t)
+  leaves_on : (m : Mode) (f : Frame) (fs : List Frame) (os : List Open) → t.mode ≡ m → is_running m ≡ false
+      → t.frames ≡ f ∷ fs → requests_in (f ∷ fs) ≡ requests_in fs → length os ≤ 32 → Framed x kind t.variables os fs
+      → (is_breaking m ≡ true → list_any is_open_loop os ≡ true) → Asks x kind t op.Nop (set_frames fs t)
   leaves_on m f fs os is other at same few framed breaks =
       record {
         may = refl;
@@ -79,7 +83,9 @@ module _ (x : ScenarioOf) (kind : Kind) (t : Script) (classes : t.classes ≡ ki
       }
 
   -- it runs on from this place
-  runs_on : (place : ℕ) (vs : List ℤ) (f : Frame) (fs : List Frame) (os : List Open) → t.frames ≡ f ∷ fs → requests_in (f ∷ fs) ≡ requests_in fs → length os ≤ 32 → Numbers x kind t.classes t.variables vs → Framed x kind t.variables os fs → Walks x kind place os
+  runs_on : (place : ℕ) (vs : List ℤ) (f : Frame) (fs : List Frame) (os : List Open) → t.frames ≡ f ∷ fs
+      → requests_in (f ∷ fs) ≡ requests_in fs → length os ≤ 32 → Numbers x kind t.classes t.variables vs
+      → Framed x kind t.variables os fs → Walks x kind place os
       → Asks x kind t op.Nop (record t { variables = vs; frames = fs; place = place; mode = Running })
   runs_on place vs f fs os at same few stored framed walks =
       record {
@@ -100,7 +106,9 @@ module _ (x : ScenarioOf) (kind : Kind) (t : Script) (classes : t.classes ≡ ki
       }
 
   -- it leaves a scope
-  leaves_scope : (m : Mode) (e : EventId) (fs : List Frame) (os : List Open) → t.mode ≡ m → is_running m ≡ false → t.frames ≡ InScope e ∷ fs → length os ≤ 32 → Framed x kind t.variables os fs → (is_breaking m ≡ true → list_any is_open_loop os ≡ true) → Asks x kind t op.Leave (set_frames fs t)
+  leaves_scope : (m : Mode) (e : EventId) (fs : List Frame) (os : List Open) → t.mode ≡ m → is_running m ≡ false
+      → t.frames ≡ InScope e ∷ fs → length os ≤ 32 → Framed x kind t.variables os fs
+      → (is_breaking m ≡ true → list_any is_open_loop os ≡ true) → Asks x kind t op.Leave (set_frames fs t)
   leaves_scope m e fs os is other at few framed breaks =
       record {
         may = rw at (some_scope e (requests_in fs));
@@ -120,7 +128,10 @@ module _ (x : ScenarioOf) (kind : Kind) (t : Script) (classes : t.classes ≡ ki
       }
 
   -- it has no block left, and ends
-  ended : (asked : Op) → is_breaking t.mode ≡ false → t.frames ≡ [] → may_ask (facts_of x) t.me (places_of t.classes t.variables) (scopes_of t) asked ≡ true → scopes_asked (scopes_of t) asked ≡ scopes_of t → has_ended (Some asked) ≡ true → is_enter (Some asked) ≡ false → is_answered asked ≡ false → Asks x kind t asked t
+  ended : (asked : Op) → is_breaking t.mode ≡ false → t.frames ≡ []
+      → may_ask (facts_of x) t.me (places_of t.classes t.variables) (scopes_of t) asked ≡ true
+      → scopes_asked (scopes_of t) asked ≡ scopes_of t → has_ended (Some asked) ≡ true → is_enter (Some asked) ≡ false
+      → is_answered asked ≡ false → Asks x kind t asked t
   ended asked ends at may scopes over no_request no_answer =
       record {
         may = may;
@@ -140,7 +151,9 @@ module _ (x : ScenarioOf) (kind : Kind) (t : Script) (classes : t.classes ≡ ki
       }
 
   -- the catch line of a try catches what is thrown
-  catches : (thrown : Throw) (catch : ℕ) (fs : List Frame) (os : List Open) → t.frames ≡ InTry catch ∷ fs → length os ≤ 32 → Walks x kind catch (OpenTry catch ∷ os) → Framed x kind t.variables os fs → Asks x kind t op.Nop (leave_try x.code catch (Throwing thrown) (set_frames fs t))
+  catches : (thrown : Throw) (catch : ℕ) (fs : List Frame) (os : List Open) → t.frames ≡ InTry catch ∷ fs → length os ≤ 32
+      → Walks x kind catch (OpenTry catch ∷ os) → Framed x kind t.variables os fs
+      → Asks x kind t op.Nop (leave_try x.code catch (Throwing thrown) (set_frames fs t))
   catches thrown catch fs os at few walks framed =
       let exit = try_exit x kind catch catch os walks in
       let there : Steps x kind catch (OpenTry catch ∷ os) (stmt.Catch exit.to exit.value exit.past) = rw exit.is at (steps x kind catch (OpenTry catch ∷ os) walks) in
@@ -150,14 +163,20 @@ module _ (x : ScenarioOf) (kind : Kind) (t : Script) (classes : t.classes ≡ ki
   end_in : (m : Mode) → t.mode ≡ m → Asks x kind t (end_by_mode m) t → Asks x kind t (end_by_mode t.mode) t
   end_in m is h = let P : Mode → Type 0 = λ k. Asks x kind t (end_by_mode k) t in subst P (sym is) h
 
-  try_in : (m : Mode) (place : ℕ) (fs : List Frame) → t.mode ≡ m → Asks x kind t op.Nop (leave_try x.code place m (set_frames fs t)) → Asks x kind t op.Nop (leave_try x.code place t.mode (set_frames fs t))
+  try_in : (m : Mode) (place : ℕ) (fs : List Frame) → t.mode ≡ m
+      → Asks x kind t op.Nop (leave_try x.code place m (set_frames fs t))
+      → Asks x kind t op.Nop (leave_try x.code place t.mode (set_frames fs t))
   try_in m place fs is h = let P : Mode → Type 0 = λ k. Asks x kind t op.Nop (leave_try x.code place k (set_frames fs t)) in subst P (sym is) h
 
-  loop_in : (m : Mode) (place : ℕ) (fs : List Frame) → t.mode ≡ m → Asks x kind t op.Nop (leave_loop place m (set_frames fs t)) → Asks x kind t op.Nop (leave_loop place t.mode (set_frames fs t))
+  loop_in : (m : Mode) (place : ℕ) (fs : List Frame) → t.mode ≡ m
+      → Asks x kind t op.Nop (leave_loop place m (set_frames fs t))
+      → Asks x kind t op.Nop (leave_loop place t.mode (set_frames fs t))
   loop_in m place fs is h = let P : Mode → Type 0 = λ k. Asks x kind t op.Nop (leave_loop place k (set_frames fs t)) in subst P (sym is) h
 
   -- the innermost block, by the mode
-  pub leaves : (m : Mode) (os : List Open) (fs : List Frame) → t.mode ≡ m → is_running m ≡ false → t.frames ≡ fs → length os ≤ 32 → Framed x kind t.variables os fs → (is_breaking m ≡ true → list_any is_open_loop os ≡ true) → Asks x kind t (unwind x.code t fs).0 (unwind x.code t fs).1
+  pub leaves : (m : Mode) (os : List Open) (fs : List Frame) → t.mode ≡ m → is_running m ≡ false → t.frames ≡ fs
+      → length os ≤ 32 → Framed x kind t.variables os fs → (is_breaking m ≡ true → list_any is_open_loop os ≡ true)
+      → Asks x kind t (unwind x.code t fs).0 (unwind x.code t fs).1
   leaves Running os fs is other at few framed breaks = absurd (true≢false other)
   leaves m (OpenIf place ∷ os) fs is other at few framed breaks = leaves m os fs is other at (omega (arith, few)) framed breaks
   leaves m (OpenElse place ∷ os) fs is other at few framed breaks = leaves m os fs is other at (omega (arith, few)) framed breaks

@@ -34,7 +34,8 @@ abbrev is_no_scope : Frame → Bool
 is_no_scope (InScope request) = false
 is_no_scope frame = true
 
-scopeless : (x : ScenarioOf) (kind : Kind) (vs : List ℤ) (os : List Open) (fs : List Frame) → list_all is_built_statement x.code ≡ true → Framed x kind vs os fs → list_all is_no_scope fs ≡ true
+scopeless : (x : ScenarioOf) (kind : Kind) (vs : List ℤ) (os : List Open) (fs : List Frame)
+    → list_all is_built_statement x.code ≡ true → Framed x kind vs os fs → list_all is_no_scope fs ≡ true
 scopeless x kind vs [] [] built h = refl
 scopeless x kind vs (OpenWith v ∷ os) (InScope e ∷ fs) built h = absurd (false≢true (rw h.0.opened at (stmt_is_built x.code h.0.place built)))
 scopeless x kind vs (OpenTry catch ∷ os) (InTry place ∷ fs) built h = scopeless x kind vs os fs built h.2
@@ -98,13 +99,16 @@ leaving_asks code t (InTry catch ∷ fs) none = refl
 leaving_asks code t (InLoop past ∷ fs) none = refl
 leaving_asks code t (InRepeat count past ∷ fs) none = refl
 
-mode_asks : (code : List Stmt) (time : ℤ) (t : Script) (m : Mode) → list_all is_built_statement code ≡ true → list_all is_no_scope t.frames ≡ true → is_plain (ask code time t m).0 ≡ true
+mode_asks : (code : List Stmt) (time : ℤ) (t : Script) (m : Mode) → list_all is_built_statement code ≡ true
+    → list_all is_no_scope t.frames ≡ true → is_plain (ask code time t m).0 ≡ true
 mode_asks code time t Running built none = statement_asks time (set_place (t.place + 1) t) (stmt_at code t.place) (stmt_is_built code t.place built)
 mode_asks code time t (Throwing what) built none = leaving_asks code t t.frames none
 mode_asks code time t Breaking built none = leaving_asks code t t.frames none
 mode_asks code time t (Finishing value) built none = leaving_asks code t t.frames none
 
-pub asks_plain : (x : ScenarioOf) → IsTrue (is_built_scenario x) → (b : Script) (time : ℤ) (told : Signal) (asked : Op) (later : Script) → IsSoundScript x b → IsScriptTurn x b time told asked later → IsTrue (is_plain asked)
+pub asks_plain : (x : ScenarioOf) → IsTrue (is_built_scenario x)
+    → (b : Script) (time : ℤ) (told : Signal) (asked : Op) (later : Script) → IsSoundScript x b
+    → IsScriptTurn x b time told asked later → IsTrue (is_plain asked)
 asks_plain x built b time told asked later sound turned =
     let code = built_code x built in
     let t : Script = take_in x.code told b in

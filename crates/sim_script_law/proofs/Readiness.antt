@@ -31,7 +31,8 @@ finds_room : (fs : List Frame) → length fs < 32 → has_room fs ≡ true
 finds_room fs few = lt-ltb (length fs) 32 few
 
 -- a `with` asked for the request that was made, and its frame finds room
-room_for_scope : (x : ScenarioOf) (b : Script) (h : IsSoundScript x b) (asked : Op) (s : Stmt) → b.asked ≡ Some asked → is_asked_by s asked ≡ true → scope_finds_room b.frames s ≡ true
+room_for_scope : (x : ScenarioOf) (b : Script) (h : IsSoundScript x b) (asked : Op) (s : Stmt) → b.asked ≡ Some asked
+    → is_asked_by s asked ≡ true → scope_finds_room b.frames s ≡ true
 room_for_scope x b h (op.Enter res priority preempts) s is by = room s
   where
     few : length b.frames < 32
@@ -43,7 +44,8 @@ room_for_scope x b h (op.Enter res priority preempts) s is by = room s
 room_for_scope x b h asked (stmt.With to r p q) is by = absurd (false≢true by)
 room_for_scope x b h asked _ is by = refl
 
-pub ready_to_take : (x : ScenarioOf) (b : Script) (told : Signal) → IsSoundScript x b → may_be_told b.asked told ≡ true → tells_within_bound told ≡ true → can_take x.code told b ≡ true
+pub ready_to_take : (x : ScenarioOf) (b : Script) (told : Signal) → IsSoundScript x b → may_be_told b.asked told ≡ true
+    → tells_within_bound told ≡ true → can_take x.code told b ≡ true
 ready_to_take x b (signal.Number n) h may small = by b.asked refl may
   where
     by : (last : Option Op) → b.asked ≡ last → may_be_told last (signal.Number n) ≡ true → variables_within (last_stmt x.code b) ≡ true
@@ -87,7 +89,8 @@ ready_to_leave x kind vs [] (InTry place ∷ fs) framed = absurd (false≢true f
 ready_to_leave x kind vs (_ ∷ os) (InTry place ∷ fs) framed = absurd (false≢true framed)
 ready_to_leave x kind vs _ _ framed = refl
 
-pub ready_to_ask : (x : ScenarioOf) (b : Script) (told : Signal) → IsSoundScript x b → may_be_told b.asked told ≡ true → can_ask x.code (take_in x.code told b) ≡ true
+pub ready_to_ask : (x : ScenarioOf) (b : Script) (told : Signal) → IsSoundScript x b → may_be_told b.asked told ≡ true
+    → can_ask x.code (take_in x.code told b) ≡ true
 ready_to_ask x b told h may = by (take_in x.code told b).mode refl
   where
     taken : Takes x h.kind b told (take_in x.code told b)

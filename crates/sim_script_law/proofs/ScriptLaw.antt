@@ -26,7 +26,8 @@ use Rattle.sim_script_law.proofs.Taking.{Takes, takes}
 -- ---- a poll
 
 -- what a script that stands somewhere asks for
-pub asks : (x : ScenarioOf) (kind : Kind) (opens : List Open) (t : Script) (time : ℤ) → Stands x kind opens t → Asks x kind t (ask x.code time t t.mode).0 (ask x.code time t t.mode).1
+pub asks : (x : ScenarioOf) (kind : Kind) (opens : List Open) (t : Script) (time : ℤ) → Stands x kind opens t
+    → Asks x kind t (ask x.code time t t.mode).0 (ask x.code time t t.mode).1
 asks x kind opens t time h = by t.mode refl
   where
     by : (m : Mode) → t.mode ≡ m → Asks x kind t (ask x.code time t m).0 (ask x.code time t m).1
@@ -36,7 +37,8 @@ asks x kind opens t time h = by t.mode refl
     by (Finishing value) is = leaves x kind t h.classes h.variables (Finishing value) opens t.frames is refl refl h.few h.framed (λ breaking. h.breaks (ap is_breaking is ∙ breaking))
 
 -- the request that is asked for, whatever is remembered
-remembered : (x : ScenarioOf) (kind : Kind) (opens : List Open) (d : Script) (last : Option Op) → IsEntering x kind opens d → IsEntering x kind opens (record d { asked = last })
+remembered : (x : ScenarioOf) (kind : Kind) (opens : List Open) (d : Script) (last : Option Op) → IsEntering x kind opens d
+    → IsEntering x kind opens (record d { asked = last })
 remembered x kind opens d last h =
     record {
       variable = h.variable;
@@ -85,13 +87,16 @@ module _ (x : ScenarioOf) (b t : Script) (told : Signal) (h : IsSoundScript x b)
 
 -- ---- the law
 
-pub poll_lawful : (x : ScenarioOf) (b : Script) (time : ℤ) (told : Signal) (asked : Op) (d : Script) → IsSoundScript x b → IsTrue (may_be_told b.asked told) → IsScriptTurn x b time told asked d → IsLawfulPoll (script_facts x) script_telling b told asked d
+pub poll_lawful : (x : ScenarioOf) (b : Script) (time : ℤ) (told : Signal) (asked : Op) (d : Script) → IsSoundScript x b
+    → IsTrue (may_be_told b.asked told) → IsScriptTurn x b time told asked d
+    → IsLawfulPoll (script_facts x) script_telling b told asked d
 poll_lawful x b time told asked d h may turned =
     let taken = takes x b h told may in
     let t : Script = take_in x.code told b in
     rw (turned.0, turned.1) (polls_by_law x b t told h taken (ask x.code time t t.mode).0 (ask x.code time t t.mode).1 (asks x h.kind taken.opens t time taken.stands))
 
-pub poll_sound : (x : ScenarioOf) (b : Script) (time : ℤ) (told : Signal) (asked : Op) (d : Script) → IsSoundScript x b → IsTrue (may_be_told b.asked told) → IsScriptTurn x b time told asked d → IsSoundScript x d
+pub poll_sound : (x : ScenarioOf) (b : Script) (time : ℤ) (told : Signal) (asked : Op) (d : Script) → IsSoundScript x b
+    → IsTrue (may_be_told b.asked told) → IsScriptTurn x b time told asked d → IsSoundScript x d
 poll_sound x b time told asked d h may turned =
     let taken = takes x b h told may in
     let t : Script = take_in x.code told b in

@@ -60,7 +60,8 @@ pub record Numbers (x : ScenarioOf) (kind : Kind) (cs : List Class) (vs ws : Lis
   pub starts : may_start cs vs ≡ true → may_start cs ws ≡ true
   pub framed : (os : List Open) (fs : List Frame) → Framed x kind vs os fs → Framed x kind ws os fs
 
-pub number_stored : (x : ScenarioOf) (kind : Kind) (cs : List Class) (vs : List ℤ) (to : ℕ) (value : ℤ) → cs ≡ kind.classes → class_of kind to ≡ class.Number → Numbers x kind cs vs (set vs to value)
+pub number_stored : (x : ScenarioOf) (kind : Kind) (cs : List Class) (vs : List ℤ) (to : ℕ) (value : ℤ) → cs ≡ kind.classes
+    → class_of kind to ≡ class.Number → Numbers x kind cs vs (set vs to value)
 number_stored x kind cs vs to value is number =
     let at = sym (class_of-is kind to) ∙ number in
     let same : is_class class.Request (class_of kind to) ≡ false = rw number refl in
@@ -70,7 +71,8 @@ number_stored x kind cs vs to value is number =
       framed = λ os fs h. framed_set x kind vs to value os fs (other_class_not_held x kind vs to os fs same h) h;
     }
 
-pub numbers_stored : (x : ScenarioOf) (kind : Kind) (cs : List Class) (us vs ws : List ℤ) → Numbers x kind cs us vs → Numbers x kind cs vs ws → Numbers x kind cs us ws
+pub numbers_stored : (x : ScenarioOf) (kind : Kind) (cs : List Class) (us vs ws : List ℤ) → Numbers x kind cs us vs
+    → Numbers x kind cs vs ws → Numbers x kind cs us ws
 numbers_stored x kind cs us vs ws first then =
     record {
       places = then.places ∙ first.places;

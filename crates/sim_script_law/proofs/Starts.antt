@@ -55,10 +55,14 @@ record MayBegin (x : ScenarioOf) (k : ℕ) (args : List ℤ) : Type 0 where
 may_begin_with : (x : ScenarioOf) (k : ℕ) (args : List ℤ) → IsTrue (may_begin (script_facts x) k args) → MayBegin x k args
 may_begin_with x k args h = by (is_well_formed x) refl h
   where
-    of_kind : IsTrue (is_well_formed x) → k < length x.kinds → may_start (slice_index_or (facts_of x).params k []) args ≡ true → (kind : Kind) × IsKindAt x.kinds k kind → MayBegin x k args
+    of_kind : IsTrue (is_well_formed x) → k < length x.kinds
+        → may_start (slice_index_or (facts_of x).params k []) args ≡ true → (kind : Kind) × IsKindAt x.kinds k kind
+        → MayBegin x k args
     of_kind well_formed within starts (kind, at) = record { well_formed = well_formed; within = within; kind = kind; at = at; begins = kind_begins x k kind well_formed at.is; starts = rw (← at.params) starts }
 
-    by : (b : Bool) → is_well_formed x ≡ b → may_begin (if b then facts_of x else record { params = []; named = 0; resources = [] }) k args ≡ true → MayBegin x k args
+    by : (b : Bool) → is_well_formed x ≡ b
+        → may_begin (if b then facts_of x else record { params = []; named = 0; resources = [] }) k args ≡ true
+        → MayBegin x k args
     by false e h = absurd (omega (arith, ltb-true k 0 (and_parts (nat_lt k 0) _ h).0))
     by true e h =
         let parts = and_parts (nat_lt k (length (facts_of x).params)) _ h in
@@ -90,7 +94,8 @@ zeros_start [] = refl
 zeros_start (c ∷ cs) = zeros_start cs
 
 -- arguments that may start the parameters may start all variables, with 0 in those behind them
-filled_start : (n : ℕ) (cs : List Class) (args : List ℤ) (m : ℕ) → may_start (take n cs) args ≡ true → length args + m ≡ length cs → may_start cs (args ++ replicate m (pos 0)) ≡ true
+filled_start : (n : ℕ) (cs : List Class) (args : List ℤ) (m : ℕ) → may_start (take n cs) args ≡ true
+    → length args + m ≡ length cs → may_start cs (args ++ replicate m (pos 0)) ≡ true
 filled_start n cs [] m h long = let many : m ≡ length cs = omega (arith, long) in rw many (zeros_start cs)
 filled_start zero cs (v ∷ vs) m h long = absurd (false≢true h)
 filled_start (suc n) [] (v ∷ vs) m h long = absurd (false≢true h)
@@ -99,7 +104,9 @@ filled_start (suc n) (c ∷ cs) (negsuc i ∷ vs) m h long =
     let parts = and_parts (is_class c class.Number) (may_start (take n cs) vs) h in
     and_from (is_class c class.Number) (may_start cs (vs ++ replicate m (pos 0))) parts.0 (filled_start n cs vs m parts.1 (omega (arith, long)))
 
-variables_start : (classes : List Class) (n : ℕ) (args : List ℤ) → length classes ≡ 64 → length args ≤ 63 → begins_with_number classes ≡ true → may_start (take n (drop 1 classes)) args ≡ true → may_start classes (pos 0 ∷ args ++ replicate (63 - length args) (pos 0)) ≡ true
+variables_start : (classes : List Class) (n : ℕ) (args : List ℤ) → length classes ≡ 64 → length args ≤ 63
+    → begins_with_number classes ≡ true → may_start (take n (drop 1 classes)) args ≡ true
+    → may_start classes (pos 0 ∷ args ++ replicate (63 - length args) (pos 0)) ≡ true
 variables_start [] n args long few val starts = absurd (false≢true val)
 variables_start (c ∷ cs) n args long few val starts = filled_start n cs args (63 - length args) starts (omega (arith, long, few))
 
@@ -124,7 +131,8 @@ sound_where x k args id may =
       asked = λ last is answered. absurd (none-some last is);
     }
 
-pub start_sound : (x : ScenarioOf) (k : ℕ) (args : List ℤ) (id : ProcId) → IsTrue (may_begin (script_facts x) k args) → IsSoundScript x (start_of script_body x k args id)
+pub start_sound : (x : ScenarioOf) (k : ℕ) (args : List ℤ) (id : ProcId) → IsTrue (may_begin (script_facts x) k args)
+    → IsSoundScript x (start_of script_body x k args id)
 start_sound x k args id h = sound_where x k args id (may_begin_with x k args h)
 
 -- ---- its places
@@ -144,7 +152,8 @@ zeros_hold_none holds (c ∷ cs) zero = refl
 zeros_hold_none holds (c ∷ cs) (suc n) = by (is_class c class.Number) (zeros_hold_none holds cs n)
   where
     by : (b : Bool) → list_all (λ p. is_zero p.event || holds p) (places_of cs (replicate n (pos 0))) ≡ true
-        → (((if b then 0 else 0) == 0) || holds (record { class = c; event = record { 0 = if b then 0 else 0 } })) && list_all (λ p. is_zero p.event || holds p) (places_of cs (replicate n (pos 0))) ≡ true
+        → (((if b then 0 else 0) == 0) || holds (record { class = c; event = record { 0 = if b then 0 else 0 } })) && list_all (λ p. is_zero p.event || holds p)
+        (places_of cs (replicate n (pos 0))) ≡ true
     by true ih = ih
     by false ih = ih
 
@@ -160,10 +169,14 @@ abbrev begins_well : List Class → List ℤ → Place → Bool
 begins_well ps args x = is_zero x.event || holds_argument ps args x
 
 -- the place of an argument holds it, or event 0 where it is a number
-argument_held : (c : Class) (n : ℕ) (ps : List Class) (vs : List ℤ) → begins_well (c ∷ ps) (pos n ∷ vs) (record { class = c; event = record { 0 = if is_class c class.Number then 0 else n } }) ≡ true
+argument_held : (c : Class) (n : ℕ) (ps : List Class) (vs : List ℤ)
+    → begins_well (c ∷ ps) (pos n ∷ vs)
+    (record { class = c; event = record { 0 = if is_class c class.Number then 0 else n } }) ≡ true
 argument_held c n ps vs = by (is_class c class.Number) (is_class c c) (own_class c)
   where
-    by : (number same : Bool) → same ≡ true → (((if number then 0 else n) == 0) || (not number && same && ((if number then 0 else n) == n) || holds_argument ps vs (record { class = c; event = record { 0 = if number then 0 else n } }))) ≡ true
+    by : (number same : Bool) → same ≡ true
+        → (((if number then 0 else n) == 0) || (not number && same && ((if number then 0 else n) == n) || holds_argument ps vs (record { class = c; event = record { 0 = if number then 0 else n } })))
+        ≡ true
     by true same s = refl
     by false same s = rw (s, eq-eqb n n refl) (or_right (n == 0) true refl)
 
@@ -177,7 +190,8 @@ later_held c (pos n) ps vs x h = by (or_cases (is_zero x.event) _ h)
 later_held c (negsuc n) ps vs x h = h
 
 -- each place holds event 0 or an argument
-arguments_held : (n : ℕ) (cs : List Class) (args : List ℤ) (m : ℕ) → may_start (take n cs) args ≡ true → list_all (begins_well (take n cs) args) (places_of cs (args ++ replicate m (pos 0))) ≡ true
+arguments_held : (n : ℕ) (cs : List Class) (args : List ℤ) (m : ℕ) → may_start (take n cs) args ≡ true
+    → list_all (begins_well (take n cs) args) (places_of cs (args ++ replicate m (pos 0))) ≡ true
 arguments_held n [] args m h = refl
 arguments_held n (c ∷ cs) [] m h = zeros_hold_none (holds_argument (take n (c ∷ cs)) []) (c ∷ cs) m
 arguments_held zero (c ∷ cs) (v ∷ vs) m h = absurd (false≢true h)
@@ -189,15 +203,20 @@ arguments_held (suc n) (class.Number ∷ cs) (negsuc i ∷ vs) m h =
 arguments_held (suc n) (_ ∷ cs) (negsuc i ∷ vs) m h = absurd (false≢true h)
 
 -- behind a number the places are those of the arguments
-places_begun : (classes : List Class) (n : ℕ) (args : List ℤ) (m : ℕ) → begins_with_number classes ≡ true → may_start (take n (drop 1 classes)) args ≡ true → list_all (λ x. is_zero x.event || holds_argument (take n (drop 1 classes)) args x) (places_of classes (pos 0 ∷ args ++ replicate m (pos 0))) ≡ true
+places_begun : (classes : List Class) (n : ℕ) (args : List ℤ) (m : ℕ) → begins_with_number classes ≡ true
+    → may_start (take n (drop 1 classes)) args ≡ true
+    → list_all (λ x. is_zero x.event || holds_argument (take n (drop 1 classes)) args x)
+    (places_of classes (pos 0 ∷ args ++ replicate m (pos 0))) ≡ true
 places_begun (class.Number ∷ cs) n args m val starts = arguments_held n cs args m starts
 places_begun [] n args m val starts = refl
 places_begun (_ ∷ cs) n args m val starts = absurd (false≢true val)
 
-lawful_where : (x : ScenarioOf) (k : ℕ) (args : List ℤ) (id : ProcId) → MayBegin x k args → IsLawfulStart (facts_of x) script_telling k args id (start_of script_body x k args id)
+lawful_where : (x : ScenarioOf) (k : ℕ) (args : List ℤ) (id : ProcId) → MayBegin x k args
+    → IsLawfulStart (facts_of x) script_telling k args id (start_of script_body x k args id)
 lawful_where x k args id may = record { own = refl; places = rw (may.at.classes, may.at.params) (places_begun may.kind.classes may.kind.params args (63 - length args) may.begins.val may.starts); scopes = refl; last = refl }
 
-pub start_lawful : (x : ScenarioOf) (k : ℕ) (args : List ℤ) (id : ProcId) → IsTrue (may_begin (script_facts x) k args) → IsLawfulStart (script_facts x) script_telling k args id (start_of script_body x k args id)
+pub start_lawful : (x : ScenarioOf) (k : ℕ) (args : List ℤ) (id : ProcId) → IsTrue (may_begin (script_facts x) k args)
+    → IsLawfulStart (script_facts x) script_telling k args id (start_of script_body x k args id)
 start_lawful x k args id h =
     let may = may_begin_with x k args h in
     rw (facts_are x may.well_formed) (lawful_where x k args id may)

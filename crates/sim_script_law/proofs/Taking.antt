@@ -96,7 +96,11 @@ module _ (x : ScenarioOf) (b : Script) (h : IsSoundScript x b) where
   kind = h.kind
 
   -- its variables are others, but none of an open `with`; all else is as it was
-  tells : (told : Signal) (vs : List ℤ) → Goes b.asked → places_kept b.asked told (places_of b.classes b.variables) (places_of b.classes vs) ≡ true → changed_places (places_of b.classes b.variables) (places_of b.classes vs) ≤ 1 → may_start b.classes vs ≡ true → Framed x h.kind vs h.opens b.frames → scopes_of b ≡ scopes_told (scopes_of b) b.asked told → Takes x h.kind b told (record b { variables = vs })
+  tells : (told : Signal) (vs : List ℤ) → Goes b.asked
+      → places_kept b.asked told (places_of b.classes b.variables) (places_of b.classes vs) ≡ true
+      → changed_places (places_of b.classes b.variables) (places_of b.classes vs) ≤ 1 → may_start b.classes vs ≡ true
+      → Framed x h.kind vs h.opens b.frames → scopes_of b ≡ scopes_told (scopes_of b) b.asked told
+      → Takes x h.kind b told (record b { variables = vs })
   tells told vs on kept one starts framed scopes =
       record {
         own = refl;
@@ -119,7 +123,8 @@ module _ (x : ScenarioOf) (b : Script) (h : IsSoundScript x b) where
       }
 
   -- numbers among its variables are others
-  tells_number : (told : Signal) (vs : List ℤ) → Goes b.asked → Numbers x h.kind b.classes b.variables vs → scopes_of b ≡ scopes_told (scopes_of b) b.asked told → Takes x h.kind b told (record b { variables = vs })
+  tells_number : (told : Signal) (vs : List ℤ) → Goes b.asked → Numbers x h.kind b.classes b.variables vs
+      → scopes_of b ≡ scopes_told (scopes_of b) b.asked told → Takes x h.kind b told (record b { variables = vs })
   tells_number told vs on stored scopes =
       tells told vs on (rw stored.places (places_kept-same b.asked told (places_of b.classes b.variables))) (rw (stored.places, changed_places-same (places_of b.classes b.variables)) (omega arith)) (stored.starts h.variables) (stored.framed h.opens b.frames h.framed) scopes
 
@@ -158,7 +163,8 @@ module _ (x : ScenarioOf) (b : Script) (h : IsSoundScript x b) where
       by (class.Number ∷ cs) val = refl
       by (_ ∷ cs) val = absurd (false≢true val)
 
-  told_number : (n : ℤ) (last : Option Op) → b.asked ≡ last → may_be_told last (signal.Number n) ≡ true → Takes x h.kind b (signal.Number n) (store (given_by (last_stmt x.code b)) n b)
+  told_number : (n : ℤ) (last : Option Op) → b.asked ≡ last → may_be_told last (signal.Number n) ≡ true
+      → Takes x h.kind b (signal.Number n) (store (given_by (last_stmt x.code b)) n b)
   told_number n None is may = absurd (false≢true may)
   told_number n (Some asked) is may = by (given_by (last_stmt x.code b)) refl
     where
@@ -175,7 +181,10 @@ module _ (x : ScenarioOf) (b : Script) (h : IsSoundScript x b) where
           tells_number (signal.Number n) (set b.variables to n) on (number_stored x h.kind b.classes b.variables to n h.classes (gives.number n may)) refl
 
   -- an event was made that is no request
-  told_event : (e : EventId) (asked : Op) → b.asked ≡ Some asked → may_follow asked (signal.Made e) ≡ true → is_enter (Some asked) ≡ false → Takes x h.kind b (signal.Made e) (open_with (last_stmt x.code b) e (store (given_by (last_stmt x.code b)) (pos e.0) b))
+  told_event : (e : EventId) (asked : Op) → b.asked ≡ Some asked → may_follow asked (signal.Made e) ≡ true
+      → is_enter (Some asked) ≡ false
+      → Takes x h.kind b (signal.Made e)
+      (open_with (last_stmt x.code b) e (store (given_by (last_stmt x.code b)) (pos e.0) b))
   told_event e asked is may other = subst (λ (t : Script). Takes x h.kind b (signal.Made e) t) (sym (opens_none (last_stmt x.code b) asked e (store (given_by (last_stmt x.code b)) (pos e.0) b) there.by other)) (by (given_by (last_stmt x.code b)) refl)
     where
       there : IsAskedThere x h.kind asked (last_stmt x.code b)
@@ -196,13 +205,18 @@ module _ (x : ScenarioOf) (b : Script) (h : IsSoundScript x b) where
           tells (signal.Made e) (set b.variables to (pos e.0)) on (places_kept-made b.asked e b.classes b.variables to made) (changed_places-stored b.classes b.variables to (pos e.0)) (may_start-event b.classes b.variables to e.0 h.variables) (framed_set x h.kind b.variables to (pos e.0) h.opens b.frames none h.framed) scopes
 
   -- a request was made: its scope is open
-  told_request : (e : EventId) (res : ℕ) (priority : ℤ) (preempts : Bool) → b.asked ≡ Some (op.Enter res priority preempts) → Takes x h.kind b (signal.Made e) (open_with (last_stmt x.code b) e (store (given_by (last_stmt x.code b)) (pos e.0) b))
+  told_request : (e : EventId) (res : ℕ) (priority : ℤ) (preempts : Bool) → b.asked ≡ Some (op.Enter res priority preempts)
+      → Takes x h.kind b (signal.Made e)
+      (open_with (last_stmt x.code b) e (store (given_by (last_stmt x.code b)) (pos e.0) b))
   told_request e res priority preempts is =
       let en : IsEntering x h.kind h.opens b = h.enters (rw is refl) in
       let s : Stmt = stmt.With en.variable en.resource en.priority en.preempts in
       subst (λ (s : Stmt). Takes x h.kind b (signal.Made e) (open_with s e (store (given_by s) (pos e.0) b))) (sym en.asked_by) (by en (rw en.asked_by at (h.asked (op.Enter res priority preempts) is refl)))
     where
-      by : (en : IsEntering x h.kind h.opens b) → IsAskedThere x h.kind (op.Enter res priority preempts) (stmt.With en.variable en.resource en.priority en.preempts) → Takes x h.kind b (signal.Made e) (push_frame (InScope e) (set_variable en.variable (pos e.0) b))
+      by : (en : IsEntering x h.kind h.opens b)
+          → IsAskedThere x h.kind (op.Enter res priority preempts)
+          (stmt.With en.variable en.resource en.priority en.preempts)
+          → Takes x h.kind b (signal.Made e) (push_frame (InScope e) (set_variable en.variable (pos e.0) b))
       by en there =
           let gives = gives_class x h.kind (stmt.With en.variable en.resource en.priority en.preempts) (op.Enter res priority preempts) en.variable refl there.by there.fits in
           let made : makes_class b.asked (slice_index_or b.classes en.variable class.Number) ≡ true = rw (is, h.classes, ← class_of-is h.kind en.variable) (gives.made e refl) in
@@ -249,7 +263,9 @@ module _ (x : ScenarioOf) (b : Script) (h : IsSoundScript x b) where
   takes (signal.Number n) may = told_number n b.asked refl may
   takes (signal.Made e) may = by b.asked refl may
     where
-      by : (last : Option Op) → b.asked ≡ last → may_be_told last (signal.Made e) ≡ true → Takes x h.kind b (signal.Made e) (open_with (last_stmt x.code b) e (store (given_by (last_stmt x.code b)) (pos e.0) b))
+      by : (last : Option Op) → b.asked ≡ last → may_be_told last (signal.Made e) ≡ true
+          → Takes x h.kind b (signal.Made e)
+          (open_with (last_stmt x.code b) e (store (given_by (last_stmt x.code b)) (pos e.0) b))
       by None is may = absurd (false≢true may)
       by (Some (op.Enter res priority preempts)) is may = told_request e res priority preempts is
       by (Some asked) is may = told_event e asked is may refl

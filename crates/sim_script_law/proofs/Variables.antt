@@ -76,7 +76,8 @@ may_start-length [] (v ∷ vs) h = absurd (false≢true h)
 may_start-length (c ∷ cs) [] h = absurd (false≢true h)
 may_start-length (c ∷ cs) (v ∷ vs) h = omega (arith, may_start-length cs vs (may_start-rest c cs v vs h))
 
-pub may_start-number : (cs : List Class) (vs : List ℤ) (at : ℕ) (v : ℤ) → slice_index_or cs at class.Number ≡ class.Number → may_start cs vs ≡ true → may_start cs (slice_set vs at v) ≡ true
+pub may_start-number : (cs : List Class) (vs : List ℤ) (at : ℕ) (v : ℤ) → slice_index_or cs at class.Number ≡ class.Number
+    → may_start cs vs ≡ true → may_start cs (slice_set vs at v) ≡ true
 may_start-number [] [] at v number h = refl
 may_start-number [] (w ∷ vs) at v number h = absurd (false≢true h)
 may_start-number (c ∷ cs) [] at v number h = absurd (false≢true h)
@@ -100,7 +101,8 @@ may_start-event (c ∷ cs) (negsuc m ∷ vs) (suc at) n h =
 -- ---- places
 
 -- a number that is stored changes no place
-pub places_of-number : (cs : List Class) (vs : List ℤ) (at : ℕ) (v : ℤ) → slice_index_or cs at class.Number ≡ class.Number → places_of cs (slice_set vs at v) ≡ places_of cs vs
+pub places_of-number : (cs : List Class) (vs : List ℤ) (at : ℕ) (v : ℤ) → slice_index_or cs at class.Number ≡ class.Number
+    → places_of cs (slice_set vs at v) ≡ places_of cs vs
 places_of-number [] vs at v number = refl
 places_of-number (c ∷ cs) [] at v number = refl
 places_of-number (c ∷ cs) (w ∷ vs) zero v number = rw number refl
@@ -116,7 +118,9 @@ changed_places-same [] = refl
 changed_places-same (p ∷ ps) = rw (is_same-self p.event) (changed_places-same ps)
 
 -- an event that was made and is stored in a variable of its class keeps the places
-pub places_kept-made : (last : Option Op) (e : EventId) (cs : List Class) (vs : List ℤ) (at : ℕ) → makes_class last (slice_index_or cs at class.Number) ≡ true → places_kept last (signal.Made e) (places_of cs vs) (places_of cs (slice_set vs at (pos e.0))) ≡ true
+pub places_kept-made : (last : Option Op) (e : EventId) (cs : List Class) (vs : List ℤ) (at : ℕ)
+    → makes_class last (slice_index_or cs at class.Number) ≡ true
+    → places_kept last (signal.Made e) (places_of cs vs) (places_of cs (slice_set vs at (pos e.0))) ≡ true
 places_kept-made last e [] vs at made = refl
 places_kept-made last e (c ∷ cs) [] at made = refl
 places_kept-made last e (c ∷ cs) (w ∷ vs) zero made = rw (own_class c, made_not_number last c made, is_same-self e, made) (and_from _ _ (or_right _ true refl) (places_kept-same last (signal.Made e) (places_of cs vs)))

@@ -99,7 +99,8 @@ not_at_end n [] o opens s h = goes_on n o opens s h
 not_at_end n (i ∷ inner) o opens s h = goes_on n i (inner ++ o ∷ opens) s h
 
 -- a statement inside an inner block leaves the outer ones as they are
-outer_stay : (n : ℕ) (i : Open) (inner : List Open) (o : Open) (opens : List Open) (s : Stmt) → open_then n (i ∷ inner ++ o ∷ opens) s ≡ open_then n (i ∷ inner) s ++ o ∷ opens
+outer_stay : (n : ℕ) (i : Open) (inner : List Open) (o : Open) (opens : List Open) (s : Stmt)
+    → open_then n (i ∷ inner ++ o ∷ opens) s ≡ open_then n (i ∷ inner) s ++ o ∷ opens
 outer_stay n i inner o opens (stmt.Else past) = refl
 outer_stay n i inner o opens s = refl
 
@@ -109,7 +110,9 @@ module _ (x : ScenarioOf) (kind : Kind) where
   moved at n opens same w = subst (λ m. Walks x kind m opens) (sym (eqb-true at (suc n) same)) w
 
   -- a statement in the block itself: it ends the block, or the block is still open behind it
-  of_block : (n : ℕ) (o : Open) (opens : List Open) (s : Stmt) → stmt_at x.code n ≡ s → stands_within n (o ∷ opens) s ≡ true → Walks x kind n (o ∷ opens) → Walks x kind (suc n) (open_then n (o ∷ opens) s) → ((inner : List Open) → Walks x kind (suc n) (inner ++ o ∷ opens) → Exit x kind o opens) → Exit x kind o opens
+  of_block : (n : ℕ) (o : Open) (opens : List Open) (s : Stmt) → stmt_at x.code n ≡ s → stands_within n (o ∷ opens) s ≡ true
+      → Walks x kind n (o ∷ opens) → Walks x kind (suc n) (open_then n (o ∷ opens) s)
+      → ((inner : List Open) → Walks x kind (suc n) (inner ++ o ∷ opens) → Exit x kind o opens) → Exit x kind o opens
   of_block n o opens (stmt.With to res priority preempt) is stands here on later = later (OpenWith to ∷ []) on
   of_block n o opens (stmt.Loop past) is stands here on later = later (OpenLoop (suc n) past ∷ []) on
   of_block n o opens (stmt.Repeat times past) is stands here on later = later (OpenRepeat (suc n) past ∷ []) on
@@ -134,12 +137,16 @@ module _ (x : ScenarioOf) (kind : Kind) where
   of_block n o opens s is stands here on later = later [] on
 
   -- a statement in the block or in inner ones
-  in_block : (n : ℕ) (inner : List Open) (o : Open) (opens : List Open) → Walks x kind n (inner ++ o ∷ opens) → Walks x kind (suc n) (open_then n (inner ++ o ∷ opens) (stmt_at x.code n)) → stands_within n (inner ++ o ∷ opens) (stmt_at x.code n) ≡ true → ((inner : List Open) → Walks x kind (suc n) (inner ++ o ∷ opens) → Exit x kind o opens) → Exit x kind o opens
+  in_block : (n : ℕ) (inner : List Open) (o : Open) (opens : List Open) → Walks x kind n (inner ++ o ∷ opens)
+      → Walks x kind (suc n) (open_then n (inner ++ o ∷ opens) (stmt_at x.code n))
+      → stands_within n (inner ++ o ∷ opens) (stmt_at x.code n) ≡ true
+      → ((inner : List Open) → Walks x kind (suc n) (inner ++ o ∷ opens) → Exit x kind o opens) → Exit x kind o opens
   in_block n [] o opens here on stands later = of_block n o opens (stmt_at x.code n) refl stands here on later
   in_block n (i ∷ inner) o opens here on stands later = later (open_then n (i ∷ inner) (stmt_at x.code n)) (subst (λ os. Walks x kind (suc n) os) (outer_stay n i inner o opens (stmt_at x.code n)) on)
 
   -- by the number of statements that are left
-  exits : (o : Open) (opens : List Open) (left n : ℕ) → n + left ≡ length x.code → (inner : List Open) → Walks x kind n (inner ++ o ∷ opens) → Exit x kind o opens
+  exits : (o : Open) (opens : List Open) (left n : ℕ) → n + left ≡ length x.code → (inner : List Open)
+      → Walks x kind n (inner ++ o ∷ opens) → Exit x kind o opens
   exits o opens zero n e inner w = absurd (omega (arith, e, (steps x kind n (inner ++ o ∷ opens) w).within))
   exits o opens (suc left) n e inner w =
       let s = steps x kind n (inner ++ o ∷ opens) w in
@@ -156,7 +163,8 @@ module _ (x : ScenarioOf) (kind : Kind) where
 pub loop_exit : (x : ScenarioOf) (kind : Kind) (n inside past : ℕ) (opens : List Open) → Walks x kind n (OpenLoop inside past ∷ opens) → Walks x kind past opens
 loop_exit x kind n inside past opens w = exit x kind n (OpenLoop inside past) opens w
 
-pub repeat_exit : (x : ScenarioOf) (kind : Kind) (n inside past : ℕ) (opens : List Open) → Walks x kind n (OpenRepeat inside past ∷ opens) → Walks x kind past opens
+pub repeat_exit : (x : ScenarioOf) (kind : Kind) (n inside past : ℕ) (opens : List Open)
+    → Walks x kind n (OpenRepeat inside past ∷ opens) → Walks x kind past opens
 repeat_exit x kind n inside past opens w = exit x kind n (OpenRepeat inside past) opens w
 
 pub else_exit : (x : ScenarioOf) (kind : Kind) (n past : ℕ) (opens : List Open) → Walks x kind n (OpenElse past ∷ opens) → Walks x kind past opens
@@ -168,5 +176,6 @@ catch_exit x kind n past opens w = exit x kind n (OpenCatch past) opens w
 pub try_exit : (x : ScenarioOf) (kind : Kind) (n catch : ℕ) (opens : List Open) → Walks x kind n (OpenTry catch ∷ opens) → TryExit x kind catch opens
 try_exit x kind n catch opens w = exit x kind n (OpenTry catch) opens w
 
-pub if_exit : (x : ScenarioOf) (kind : Kind) (n other : ℕ) (opens : List Open) → Walks x kind n (OpenIf other ∷ opens) → Walks x kind other opens ⊎ ((past : ℕ) × Walks x kind other (OpenElse past ∷ opens))
+pub if_exit : (x : ScenarioOf) (kind : Kind) (n other : ℕ) (opens : List Open) → Walks x kind n (OpenIf other ∷ opens)
+    → Walks x kind other opens ⊎ ((past : ℕ) × Walks x kind other (OpenElse past ∷ opens))
 if_exit x kind n other opens w = exit x kind n (OpenIf other) opens w

@@ -57,7 +57,8 @@ members x kind rs h = references x kind rs (and_parts _ (list_all (event_fits x 
 -- ---- arguments
 
 -- arguments that fit are those of a kind with such parameters
-parameters : (x : ScenarioOf) (kind : Kind) (k : ℕ) (args : List SpawnArg) → arguments_fit x kind k args ≡ true → (cs : List Class) × (pointwise (argument_fits x kind) cs args ≡ true)
+parameters : (x : ScenarioOf) (kind : Kind) (k : ℕ) (args : List SpawnArg) → arguments_fit x kind k args ≡ true
+    → (cs : List Class) × (pointwise (argument_fits x kind) cs args ≡ true)
 parameters x kind k args h = by (classes_at x k) refl
   where
     by : (o : Option (List Class)) → classes_at x k ≡ o → (cs : List Class) × (pointwise (argument_fits x kind) cs args ≡ true)
@@ -70,7 +71,8 @@ argument x kind class.Event (spawn.Ref r) h = reference x kind PlainEvent r h
 argument x kind class.Proc (spawn.Ref r) h = reference x kind AProcess r h
 argument x kind _ _ h = absurd (false≢true h)
 
-arguments : (x : ScenarioOf) (kind : Kind) (cs : List Class) (args : List SpawnArg) → pointwise (argument_fits x kind) cs args ≡ true → list_all argument_within args ≡ true
+arguments : (x : ScenarioOf) (kind : Kind) (cs : List Class) (args : List SpawnArg)
+    → pointwise (argument_fits x kind) cs args ≡ true → list_all argument_within args ≡ true
 arguments x kind [] [] h = refl
 arguments x kind [] (a ∷ args) h = absurd (false≢true h)
 arguments x kind (c ∷ cs) [] h = absurd (false≢true h)
@@ -157,14 +159,16 @@ fits_within x kind _ h = refl
 -- ---- events
 
 -- a variable that is no number holds no negative one
-not_negative : (cs : List Class) (vs : List ℤ) (v : ℕ) → may_start cs vs ≡ true → is_class (slice_index_or cs v class.Number) class.Number ≡ false → int_le (pos 0) (slice_index_or vs v (pos 0)) ≡ true
+not_negative : (cs : List Class) (vs : List ℤ) (v : ℕ) → may_start cs vs ≡ true
+    → is_class (slice_index_or cs v class.Number) class.Number ≡ false → int_le (pos 0) (slice_index_or vs v (pos 0)) ≡ true
 not_negative [] vs v may other = absurd (true≢false other)
 not_negative (c ∷ cs) [] v may other = absurd (false≢true may)
 not_negative (c ∷ cs) (pos n ∷ vs) zero may other = le-leb 0 n (omega arith)
 not_negative (c ∷ cs) (negsuc n ∷ vs) zero may other = absurd (false≢true (sym other ∙ (and_parts (is_class c class.Number) _ may).0))
 not_negative (c ∷ cs) (w ∷ vs) (suc v) may other = not_negative cs vs v (may_start-rest c cs w vs may) other
 
-event_variable : (kind : Kind) (b : Script) (v : ℕ) (c : Class) → is_class c class.Number ≡ false → b.classes ≡ kind.classes → may_start b.classes b.variables ≡ true → class_of kind v ≡ c → event_is_small b (spawn.Ref (ref.Var v)) ≡ true
+event_variable : (kind : Kind) (b : Script) (v : ℕ) (c : Class) → is_class c class.Number ≡ false → b.classes ≡ kind.classes
+    → may_start b.classes b.variables ≡ true → class_of kind v ≡ c → event_is_small b (spawn.Ref (ref.Var v)) ≡ true
 event_variable kind b v c other same may is =
     let here : slice_index_or b.classes v class.Number ≡ c = rw same (sym (class_of-is kind v) ∙ is) in
     not_negative b.classes b.variables v may (rw here other)
@@ -172,7 +176,9 @@ event_variable kind b v c other same may is =
 named_event : (b : Script) (n most : ℕ) → nat_le n most ≡ true → most ≤ 1024 → event_is_small b (spawn.Ref (ref.Named n)) ≡ true
 named_event b n most few many = lt-ltb n (2 ^ 63) (omega (arith, leb-true n most few, many))
 
-small : (x : ScenarioOf) (kind : Kind) (b : Script) (c : Class) (a : SpawnArg) → b.classes ≡ kind.classes → may_start b.classes b.variables ≡ true → x.setup.events ≤ 1024 → argument_fits x kind c a ≡ true → event_is_small b a ≡ true
+small : (x : ScenarioOf) (kind : Kind) (b : Script) (c : Class) (a : SpawnArg) → b.classes ≡ kind.classes
+    → may_start b.classes b.variables ≡ true → x.setup.events ≤ 1024 → argument_fits x kind c a ≡ true
+    → event_is_small b a ≡ true
 small x kind b c (spawn.Num n) same may few h = refl
 small x kind b class.Event (spawn.Ref (ref.Var v)) same may few h = event_variable kind b v class.Event refl same may (sym (same_class-is (class_of kind v) class.Event (and_parts (nat_lt v 64) _ h).1))
 small x kind b class.Event (spawn.Ref (ref.Named n)) same may few h = named_event b n x.setup.events (and_parts (nat_le 1 n) _ h).1 few
@@ -180,7 +186,9 @@ small x kind b class.Proc (spawn.Ref (ref.Var v)) same may few h = event_variabl
 small x kind b c (spawn.Ref ref.Me) same may few h = refl
 small x kind b _ _ same may few h = absurd (false≢true h)
 
-all_small : (x : ScenarioOf) (kind : Kind) (b : Script) (cs : List Class) (args : List SpawnArg) → b.classes ≡ kind.classes → may_start b.classes b.variables ≡ true → x.setup.events ≤ 1024 → pointwise (argument_fits x kind) cs args ≡ true → list_all (event_is_small b) args ≡ true
+all_small : (x : ScenarioOf) (kind : Kind) (b : Script) (cs : List Class) (args : List SpawnArg) → b.classes ≡ kind.classes
+    → may_start b.classes b.variables ≡ true → x.setup.events ≤ 1024 → pointwise (argument_fits x kind) cs args ≡ true
+    → list_all (event_is_small b) args ≡ true
 all_small x kind b [] [] same may few h = refl
 all_small x kind b [] (a ∷ args) same may few h = absurd (false≢true h)
 all_small x kind b (c ∷ cs) [] same may few h = absurd (false≢true h)
@@ -188,7 +196,9 @@ all_small x kind b (c ∷ cs) (a ∷ args) same may few h =
     let parts = and_parts (argument_fits x kind c a) (pointwise (argument_fits x kind) cs args) h in
     and_from (event_is_small b a) _ (small x kind b c a same may few parts.0) (all_small x kind b cs args same may few parts.1)
 
-pub fits_small : (x : ScenarioOf) (kind : Kind) (b : Script) (s : Stmt) → b.classes ≡ kind.classes → may_start b.classes b.variables ≡ true → x.setup.events ≤ 1024 → statement_fits x kind s ≡ true → events_are_small b s ≡ true
+pub fits_small : (x : ScenarioOf) (kind : Kind) (b : Script) (s : Stmt) → b.classes ≡ kind.classes
+    → may_start b.classes b.variables ≡ true → x.setup.events ≤ 1024 → statement_fits x kind s ≡ true
+    → events_are_small b s ≡ true
 fits_small x kind b (stmt.Spawn to k args) same may few h =
     let fit = parameters x kind k args (and_parts (gives_maybe kind to class.Proc) _ h).1 in
     all_small x kind b fit.0 args same may few fit.1
