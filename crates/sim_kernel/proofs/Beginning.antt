@@ -1,50 +1,29 @@
 -- A process that the code makes is the one that the machine makes.
-use Rattle.std.proofs.Common.{◌≡◌, pos, true, List, [], ◌∷◌, ◌++◌, refl, sym, ap, subst, ◌∙◌, map}
+use Rattle.std.proofs.Common.{◌≡◌, true, List, [], ◌∷◌, ◌++◌, refl, sym, ap, subst, ◌∙◌, map}
 use Rattle.std.specs.List.Sorted.{IsPermutation}
 use Rattle.std.proofs.lemmas.List.Elements.{All-cons, All-nil, All-append}
 use Rattle.std.proofs.lemmas.List.Sorted.{IsPermutation-trans, IsPermutation-cons, IsPermutation-map, IsPermutation-to_front, All-permutation}
 use Rattle.sim_types.specs.declared.event.ProcId.{ProcId}
-use Rattle.sim_types.specs.declared.event.EventId.{EventId}
 use Rattle.sim_types.specs.declared.event.EventKind.TheVariants as kind
-use Rattle.sim_types.specs.declared.event.Outcome.TheVariants as outcome
 use Rattle.sim_types.specs.declared.event.Callback.TheVariants as callback
 use Rattle.sim_types.specs.declared.setup.Start.{Start}
 use Rattle.sim_machine.specs.State.{Calendar, ProcessOf, State, Plan, Registration}
-use Rattle.sim_machine.specs.Events.{next_event, register}
-use Rattle.sim_machine.specs.Triggering.{urgent, make, schedule}
+use Rattle.sim_machine.specs.Events.{next_event}
+use Rattle.sim_machine.specs.Triggering.{make}
 use Rattle.sim_machine.specs.Processes.{make_events_of_process}
 use Rattle.sim_machine.specs.Runs.{start_process}
 use Rattle.sim_machine.specs.Bodies.{BodyOf, start_of}
 use Rattle.sim_procs.specs.RecordOf.{RecordOf}
+use Rattle.sim_happen.specs.Making.{next_process}
+use Rattle.sim_happen.proofs.SameCalendars.{same_trans, same_process_events}
 use Rattle.sim_kernel.specs.Built.{HasBuiltCallbacks, is_built_callback}
-use Rattle.sim_kernel.specs.Same.{SameCalendar}
 use Rattle.sim_kernel.specs.PartsOf.{PartsOf, RoomOf, plan_of}
 use Rattle.sim_kernel.specs.StandsFor.{StandsFor, process_of, scopes_of}
-use Rattle.sim_kernel.specs.Opening.{next_process, new_record, Begins, Starts}
-use Rattle.sim_kernel.proofs.SameCalendars.{same_trans, same_make, same_register, same_schedule, next_same}
-
--- ---- the calendar
-
--- the init event of the process that is made next, with the process's own number
-abbrev with_init : EventId → EventId → Calendar → Calendar
-with_init p init c = schedule init (outcome.Ok (pos 0)) urgent (pos 0) (register init (callback.Resume (record { 0 = p.0 })) (make kind.Init c))
-
-same_init : (p init : EventId) (a b : Calendar) → SameCalendar a b → SameCalendar (with_init p init a) (with_init p init b)
-same_init p init a b h =
-    same_schedule init (outcome.Ok (pos 0)) urgent (pos 0) _ _ (same_register init (callback.Resume (record { 0 = p.0 })) _ _ (same_make kind.Init a b h))
-
-pub same_process_events : (a b : Calendar) → SameCalendar a b → SameCalendar (make_events_of_process a) (make_events_of_process b)
-same_process_events a b h =
-    let made : SameCalendar (make kind.Process a) (make kind.Process b) = same_make kind.Process a b h in
-    let P : EventId → Type 0 = λ p. SameCalendar (make_events_of_process a) (with_init p (next_event (make kind.Process a)) (make kind.Process b)) in
-    let Q : EventId → Type 0 = λ init. SameCalendar (make_events_of_process a) (with_init (next_event b) init (make kind.Process b)) in
-    subst Q (next_same (make kind.Process a) (make kind.Process b) made)
-    (subst P (next_same a b h) (same_init (next_event a) (next_event (make kind.Process a)) (make kind.Process a) (make kind.Process b) made))
-
--- ---- the process
+use Rattle.sim_kernel.specs.Opening.{new_record, Begins, Starts}
 
 -- the processes with the new one are those of the records with the new one
-processes_joined : {B : Type 0} (x : ProcessOf B) (ps : List (ProcessOf B)) (r : RecordOf B) (old new : List (RecordOf B)) → x ≡ process_of r → IsPermutation ps (map process_of old) → IsPermutation (r ∷ old) new → IsPermutation (ps ++ x ∷ []) (map process_of new)
+processes_joined : {B : Type 0} (x : ProcessOf B) (ps : List (ProcessOf B)) (r : RecordOf B) (old new : List (RecordOf B)) → x ≡ process_of r →
+    IsPermutation ps (map process_of old) → IsPermutation (r ∷ old) new → IsPermutation (ps ++ x ∷ []) (map process_of new)
 processes_joined x ps r old new is h k =
     let P : ProcessOf _ → Type 0 = λ y. IsPermutation (ps ++ y ∷ []) (map process_of new) in
     subst P (sym is)
@@ -52,7 +31,9 @@ processes_joined x ps r old new is h k =
     (IsPermutation-trans (process_of r ∷ ps) (process_of r ∷ map process_of old) (map process_of new) (IsPermutation-cons (process_of r) ps (map process_of old) h) (IsPermutation-map process_of (r ∷ old) new k)))
 
 -- a kernel in which the process begins stands for the state in which the process is made
-begun_stands : {B Code : Type 0} (body : BodyOf B Code) (old new : PartsOf B Code) (x : Start) (s : State B) → Begins (start_of body old.code x.kind x.args (next_process old.calendar)) old new → s.scopes ≡ [] → StandsFor old s → StandsFor new (start_process (plan_of body old) s x)
+begun_stands : {B Code : Type 0} (body : BodyOf B Code) (old new : PartsOf B Code) (x : Start) (s : State B) →
+    Begins (start_of body old.code x.kind x.args (next_process old.calendar)) old new → s.scopes ≡ [] → StandsFor old s →
+    StandsFor new (start_process (plan_of body old) s x)
 begun_stands {B} {Code} body old new x s b none st =
     let g : Plan B = plan_of body old in
     let c : Calendar = s.facilities.calendar in
@@ -74,7 +55,8 @@ begun_stands {B} {Code} body old new x s b none st =
     }
 
 -- so it is where room was taken before, and the body has begun
-pub begun_starts : {B Code : Type 0} (body : BodyOf B Code) (old new : PartsOf B Code) (room : RoomOf) (x : Start) (b : B) → b ≡ body.begun old.code x.kind x.args → Begins (body.numbered b (next_process old.calendar)) (record old { room = room }) new → Starts body x old new
+pub begun_starts : {B Code : Type 0} (body : BodyOf B Code) (old new : PartsOf B Code) (room : RoomOf) (x : Start) (b : B) →
+    b ≡ body.begun old.code x.kind x.args → Begins (body.numbered b (next_process old.calendar)) (record old { room = room }) new → Starts body x old new
 begun_starts body old new room x b is h =
     let P = λ (d : _). Begins (body.numbered d (next_process old.calendar)) old new in
     let begins : Begins (start_of body old.code x.kind x.args (next_process old.calendar)) old new = subst P is (record { calendar = h.calendar; live = h.live; others = h.others }) in
@@ -83,7 +65,8 @@ begun_starts body old new room x b is h =
 -- ---- callbacks
 
 -- the callback of the init event is one that is built
-pub begun_built : {B Code : Type 0} (b : B) (old new : PartsOf B Code) (room : RoomOf) → Begins b (record old { room = room }) new → HasBuiltCallbacks old → HasBuiltCallbacks new
+pub begun_built : {B Code : Type 0} (b : B) (old new : PartsOf B Code) (room : RoomOf) → Begins b (record old { room = room }) new → HasBuiltCallbacks old →
+    HasBuiltCallbacks new
 begun_built {B} {Code} b old new room h built =
     let P : Registration → Type 0 = λ r. is_built_callback r.callback ≡ true in
     let r : Registration = record { event = next_event (make kind.Process old.calendar); callback = callback.Resume (next_process old.calendar) } in

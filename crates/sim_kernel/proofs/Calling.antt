@@ -1,28 +1,28 @@
 -- Calls of callbacks, and the settling of an event, are those of the machine.
-use Rattle.std.proofs.Common.{◌≡◌, ◌<◌, Bool, true, false, List, [], ◌∷◌, length, refl, sym, ap, subst, ◌∙◌, if◌then◌else◌}
+use Rattle.std.proofs.Common.{◌≡◌, ◌<◌, true, List, [], ◌∷◌, length, refl, sym, ap, subst, ◌∙◌, if◌then◌else◌}
 use Rattle.std.proofs.lemmas.List.{append-nil}
 use Rattle.sim_types.specs.declared.event.ProcId.{ProcId}
 use Rattle.sim_types.specs.declared.event.EventId.{EventId}
 use Rattle.sim_types.specs.declared.event.Callback.{Callback}
 use Rattle.sim_types.specs.declared.event.Callback.TheVariants as callback
 use Rattle.sim_types.specs.declared.line.End.TheVariants as end
-use Rattle.sim_machine.specs.State.{Calendar, Control, Idle, Calling, Active, Over}
-use Rattle.sim_machine.specs.Events.{event_at, is_fail, defuse}
+use Rattle.sim_machine.specs.State.{Control, Idle, Calling, Active, Over}
+use Rattle.sim_machine.specs.Events.{event_at, is_fail}
 use Rattle.sim_machine.specs.Processes.{defuse_failed}
 use Rattle.sim_machine.specs.Bodies.{BodyOf}
 use Rattle.sim_machine.specs.Standing.{left_of, is_event_of}
-use Rattle.sim_machine.specs.Steps.{signal_by, resume, settle, call}
+use Rattle.sim_machine.specs.Steps.{resume, settle, call}
 use Rattle.sim_machine_law.proofs.EventLaws.{is_same-self}
 use Rattle.sim_machine_law.proofs.KeptRegistrationsCalendar.{processed_made}
+use Rattle.sim_happen.proofs.SameCalendars.{same_defuse_failed}
+use Rattle.sim_happen.specs.CalendarOf.{told_by}
 use Rattle.sim_kernel.specs.declared.mode.Mode.{Mode}
 use Rattle.sim_kernel.specs.declared.mode.Mode.TheVariants as mode
 use Rattle.sim_kernel.specs.declared.mode.Unit.TheVariants as unit
-use Rattle.sim_kernel.specs.Same.{SameCalendar}
-use Rattle.sim_kernel.specs.CalendarOf.{is_unhandled, told_by}
-use Rattle.sim_kernel.specs.Changes.{settled_to, stopping, resuming}
+use Rattle.sim_kernel.specs.Changes.{settled_to}
 use Rattle.sim_kernel.specs.PartsOf.{PartsOf, RoomOf, control_of, IsCalling, plan_of}
 use Rattle.sim_kernel.specs.StandsFor.{StandsForSome, Moves}
-use Rattle.sim_kernel.proofs.Moving.{at_control}
+use Rattle.sim_kernel.proofs.Moving.{at_control, control_stands}
 
 -- ---- what the control says
 
@@ -46,68 +46,42 @@ event_made (Calling e left) event h = rw h (is_same-self event)
 event_made (Active e left p x) event h = absurd h
 event_made (Over why e left) event h = absurd h
 
-pub calling_made : {B Code : Type 0} (body : BodyOf B Code) (parts : PartsOf B Code) (event : EventId) → StandsForSome body parts → IsCalling event parts.control → event.0 < length parts.calendar.events
+pub calling_made : {B Code : Type 0} (body : BodyOf B Code) (parts : PartsOf B Code) (event : EventId) → StandsForSome body parts →
+    IsCalling event parts.control → event.0 < length parts.calendar.events
 calling_made body parts event h calling =
     rw h.stands.calendar.events
     (processed_made h.state.facilities.calendar event (h.lawful.registrations.processing event (event_made h.state.control event (subst (λ c. IsCalling event c) h.stands.control calling))))
 
--- ---- calendars that are the same stay so
-
-by_test : (x y : Bool) (a b c d : Calendar) → x ≡ y → SameCalendar a b → SameCalendar c d → SameCalendar (if x then a else c) (if y then b else d)
-by_test true true a b c d e p q = p
-by_test false false a b c d e p q = q
-by_test true false a b c d e p q = cc
-by_test false true a b c d e p q = cc
-
-same_defuse : (e : EventId) (a b : Calendar) → SameCalendar a b → SameCalendar (defuse e a) (defuse e b)
-same_defuse e a b h = record { time = h.time; scheduled = h.scheduled; agenda = h.agenda; events = rw h.events refl; registered = h.registered }
-
-pub same_defuse_failed : (e : EventId) (a b : Calendar) → SameCalendar a b → SameCalendar (defuse_failed e a) (defuse_failed e b)
-same_defuse_failed e a b h = by_test _ _ (defuse e a) (defuse e b) a b (rw h.events refl) (same_defuse e a b h) h
-
 -- ---- the calls
 
-pub settle_moves : {B Code : Type 0} (body : BodyOf B Code) (old : PartsOf B Code) (event : EventId) (room : RoomOf) → old.control ≡ Calling event [] → Moves body old unit.Quiet (record old { control = settled_to event old.calendar; room = room })
+pub settle_moves : {B Code : Type 0} (body : BodyOf B Code) (old : PartsOf B Code) (event : EventId) (room : RoomOf) → old.control ≡ Calling event [] →
+    Moves body old unit.Quiet (record old { control = settled_to event old.calendar; room = room })
 settle_moves body old event room calling =
     record {
       each = λ s h st. record {
         state = settle event s;
         stepped = at_control (plan_of body old) (body.turn old.code) s (settle event s) (Calling event []) (sym calling ∙ st.control) refl;
-        stands = record {
-          calendar = st.calendar;
-          processed = st.processed;
-          generator = st.generator;
-          processes = st.processes;
-          scopes = st.scopes;
-          control = rw st.calendar.events refl;
-          waiters = st.waiters;
-          ledger = st.ledger;
-        };
+        stands = control_stands old s _ _ room (rw st.calendar.events refl) st;
         lines = rw append-nil;
       };
     }
 
-pub stop_moves : {B Code : Type 0} (body : BodyOf B Code) (old : PartsOf B Code) (event : EventId) (left : List Callback) (room : RoomOf) → old.control ≡ Calling event (callback.Stop ∷ left) → Moves body old unit.Quiet (record old { control = Over (if is_fail (event_at old.calendar event).outcome then end.Crash else end.Until) event left; room = room })
+pub stop_moves : {B Code : Type 0} (body : BodyOf B Code) (old : PartsOf B Code) (event : EventId) (left : List Callback) (room : RoomOf) →
+    old.control ≡ Calling event (callback.Stop ∷ left) → Moves body old unit.Quiet
+    (record old { control = Over (if is_fail (event_at old.calendar event).outcome then end.Crash else end.Until) event left; room = room })
 stop_moves body old event left room calling =
     record {
       each = λ s h st. record {
         state = call (plan_of body old) event callback.Stop left s;
         stepped = at_control (plan_of body old) (body.turn old.code) s (call (plan_of body old) event callback.Stop left s) (Calling event (callback.Stop ∷ left)) (sym calling ∙ st.control) refl;
-        stands = record {
-          calendar = st.calendar;
-          processed = st.processed;
-          generator = st.generator;
-          processes = st.processes;
-          scopes = st.scopes;
-          control = rw st.calendar.events refl;
-          waiters = st.waiters;
-          ledger = st.ledger;
-        };
+        stands = control_stands old s _ _ room (rw st.calendar.events refl) st;
         lines = rw append-nil;
       };
     }
 
-pub resume_moves : {B Code : Type 0} (body : BodyOf B Code) (old : PartsOf B Code) (event : EventId) (p : ProcId) (left : List Callback) (room : RoomOf) → old.control ≡ Calling event (callback.Resume p ∷ left) → Moves body old unit.Quiet (record old { calendar = defuse_failed event old.calendar; control = Active event left p (signal_by (event_at old.calendar event).kind (event_at old.calendar event).outcome); room = room })
+pub resume_moves : {B Code : Type 0} (body : BodyOf B Code) (old : PartsOf B Code) (event : EventId) (p : ProcId) (left : List Callback) (room : RoomOf) →
+    old.control ≡ Calling event (callback.Resume p ∷ left) → Moves body old unit.Quiet
+    (record old { calendar = defuse_failed event old.calendar; control = Active event left p (told_by event old.calendar); room = room })
 resume_moves body old event p left room calling =
     record {
       each = λ s h st. record {

@@ -33,11 +33,11 @@ use Rattle.sim_machine_law.proofs.KeptWaitingPolls.{own_scopes}
 use Rattle.sim_machine_law.proofs.KeptProcessesParts.{is_process-self, is_process-yes}
 use Rattle.sim_machine_law.proofs.KeptProcessesChanges.{AllPairs-map}
 use Rattle.sim_procs.specs.RecordOf.{RecordOf, record_of, change_record}
+use Rattle.sim_happen.proofs.SameCalendars.{same_trans, same_schedule}
 use Rattle.sim_kernel.specs.declared.mode.Unit.TheVariants as unit
 use Rattle.sim_kernel.specs.PartsOf.{PartsOf, IsRunning, plan_of}
 use Rattle.sim_kernel.specs.StandsFor.{StandsFor, StandsForSome, Moves, process_of, scopes_of}
 use Rattle.sim_kernel.specs.Polling.{Asks, Ends}
-use Rattle.sim_kernel.proofs.SameCalendars.{same_trans, same_schedule}
 use Rattle.sim_kernel.proofs.Polls.{running_is, found_record, polled_step, body_stands}
 use Rattle.sim_kernel.proofs.Running.{KeepsLaw, process_found, running_can_be_told}
 
@@ -45,13 +45,15 @@ kept_id : {B : Type 0} (b : B) (x : ProcessOf B) (v : Bool) → (if v then recor
 kept_id b x true = refl
 kept_id b x false = refl
 
-same_ids : {B : Type 0} (p : ProcId) (b : B) (x y : ProcessOf B) → (if is_process x.id p then record x { body = b } else x).id.0 ≡ (if is_process y.id p then record y { body = b } else y).id.0 → x.id ≡ y.id
+same_ids : {B : Type 0} (p : ProcId) (b : B) (x y : ProcessOf B) →
+    (if is_process x.id p then record x { body = b } else x).id.0 ≡ (if is_process y.id p then record y { body = b } else y).id.0 → x.id ≡ y.id
 same_ids p b x y e =
     let P : ℕ → ProcId = λ n. record { 0 = n } in
     sym (kept_id b x (is_process x.id p)) ∙ (ap P e ∙ kept_id b y (is_process y.id p))
 
 -- processes have different numbers, whatever their bodies are
-distinct_bodies : {B : Type 0} (p : ProcId) (b : B) (s : State B) → AllPairs (λ x y. x.id ≢ y.id) s.processes → AllPairs (Differ (λ y. y.id.0)) (with_body p b s).processes
+distinct_bodies : {B : Type 0} (p : ProcId) (b : B) (s : State B) → AllPairs (λ x y. x.id ≢ y.id) s.processes →
+    AllPairs (Differ (λ y. y.id.0)) (with_body p b s).processes
 distinct_bodies {B} p b s h =
     let f : ProcessOf B → ProcessOf B = λ x. if is_process x.id p then record x { body = b } else x in
     AllPairs-map (Differ (λ y. y.id.0)) f s.processes (λ i j d before below. λ e. h i j d before below (same_ids p b _ _ e))
@@ -60,7 +62,8 @@ distinct_bodies {B} p b s h =
 found_id : {B : Type 0} (p : ProcId) (live : List (RecordOf B)) (r : RecordOf B) → record_of p live ≡ Some r → r.id.0 ≡ p.0
 found_id p live r h = eqb-true r.id.0 p.0 (find_passes (λ x. x.id.0 == p.0) live r h)
 
-end_stands : {B Code : Type 0} (old new : PartsOf B Code) (s : State B) (p : ProcId) (o : Outcome) → AllPairs (Differ (λ y. y.id.0)) s.processes → Ends p o old new → StandsFor old s → StandsFor new (rest (end_process p o s))
+end_stands : {B Code : Type 0} (old new : PartsOf B Code) (s : State B) (p : ProcId) (o : Outcome) → AllPairs (Differ (λ y. y.id.0)) s.processes →
+    Ends p o old new → StandsFor old s → StandsFor new (rest (end_process p o s))
 end_stands old new s p o distinct k st =
     let id : k.record_ended.id.0 ≡ p.0 = found_id p old.live k.record_ended k.ended in
     let others : IsPermutation s.processes (process_of k.record_ended ∷ map process_of new.live) =
@@ -77,7 +80,9 @@ end_stands old new s p o distinct k st =
       ledger = st.ledger;
     })
 
-pub finish_moves : {B Code : Type 0} (body : BodyOf B Code) (old mid new : PartsOf B Code) (event : EventId) (p : ProcId) (told : Signal) (value given : ℤ) → IsRunning event p told old.control → Asks body p told old (op.Finish value) mid → given ≡ value → Ends p (outcome.Ok given) mid new → Moves body old unit.Quiet new
+pub finish_moves : {B Code : Type 0} (body : BodyOf B Code) (old mid new : PartsOf B Code) (event : EventId) (p : ProcId) (told : Signal) (value given : ℤ) →
+    IsRunning event p told old.control → Asks body p told old (op.Finish value) mid → given ≡ value → Ends p (outcome.Ok given) mid new →
+    Moves body old unit.Quiet new
 finish_moves body old mid new event p told value given running a is_value k =
     record {
       each = λ s h st. record {
@@ -90,7 +95,8 @@ finish_moves body old mid new event p told value given running a is_value k =
       };
     }
 
-pub die_moves : {B Code : Type 0} (body : BodyOf B Code) (old mid new : PartsOf B Code) (event : EventId) (p : ProcId) (told : Signal) (what : Throw) → IsRunning event p told old.control → Asks body p told old (op.Die what) mid → Ends p (outcome.Fail what) mid new → Moves body old unit.Quiet new
+pub die_moves : {B Code : Type 0} (body : BodyOf B Code) (old mid new : PartsOf B Code) (event : EventId) (p : ProcId) (told : Signal) (what : Throw) →
+    IsRunning event p told old.control → Asks body p told old (op.Die what) mid → Ends p (outcome.Fail what) mid new → Moves body old unit.Quiet new
 die_moves body old mid new event p told what running a k =
     record {
       each = λ s h st. record {
@@ -105,11 +111,14 @@ die_moves body old mid new event p told what running a k =
 
 -- ---- what the ending of a process needs
 
-record_at : {B : Type 0} (p : ProcId) (change : RecordOf B → RecordOf B) (r : RecordOf B) (o q : Option (RecordOf B)) (b : Bool) → (r.id.0 == p.0) ≡ b → (change r).id ≡ r.id → o ≡ option_map change q → cond ((if b then change r else r).id.0 == p.0) (Some (if b then change r else r)) o ≡ option_map change (cond b (Some r) q)
+record_at : {B : Type 0} (p : ProcId) (change : RecordOf B → RecordOf B) (r : RecordOf B) (o q : Option (RecordOf B)) (b : Bool) → (r.id.0 == p.0) ≡ b →
+    (change r).id ≡ r.id → o ≡ option_map change q →
+    cond ((if b then change r else r).id.0 == p.0) (Some (if b then change r else r)) o ≡ option_map change (cond b (Some r) q)
 record_at p change r o q true is id h = rw (id, is) refl
 record_at p change r o q false is id h = rw is h
 
-record_changed : {B : Type 0} (p : ProcId) (change : RecordOf B → RecordOf B) → ((r : RecordOf B) → (change r).id ≡ r.id) → (live : List (RecordOf B)) → record_of p (change_record p change live) ≡ option_map change (record_of p live)
+record_changed : {B : Type 0} (p : ProcId) (change : RecordOf B → RecordOf B) → ((r : RecordOf B) → (change r).id ≡ r.id) → (live : List (RecordOf B)) →
+    record_of p (change_record p change live) ≡ option_map change (record_of p live)
 record_changed p change ids [] = refl
 record_changed p change ids (r ∷ live) =
     record_at p change r (record_of p (change_record p change live)) (record_of p live) (r.id.0 == p.0) refl (ids r) (record_changed p change ids live)
@@ -129,7 +138,8 @@ AsksWithNoScope facts asked =
 
 module _ {B Code : Type 0} (body : BodyOf B Code) (old mid : PartsOf B Code) (p : ProcId) (told : Signal) (asked : Op) where
   -- the record of the process that was polled
-  record_polled : (a : Asks body p told old asked mid) → (r : RecordOf B) × (record_of p old.live ≡ Some r) × (r.body ≡ a.before) × (record_of p mid.live ≡ Some (record r { body = a.later }))
+  record_polled : (a : Asks body p told old asked mid) →
+      (r : RecordOf B) × (record_of p old.live ≡ Some r) × (r.body ≡ a.before) × (record_of p mid.live ≡ Some (record r { body = a.later }))
   record_polled a =
       let change : RecordOf B → RecordOf B = λ x. record x { body = a.later } in
       let r = found_record (record_of p old.live) a.before a.found in
@@ -140,7 +150,9 @@ module _ {B Code : Type 0} (body : BodyOf B Code) (old mid : PartsOf B Code) (p 
   polled_alive a = rw (record_polled a).3 refl
 
   -- where its operation comes only with no open scope, it has none
-  pub ended_scopes : (event : EventId) → AsksWithNoScope (body.facts old.code) asked → KeepsLaw body old.code → StandsForSome body old → length old.calendar.events < 2 ^ 62 → IsRunning event p told old.control → Asks body p told old asked mid → IsSomeAnd (record_of p mid.live) (λ r. r.scopes ≡ [])
+  pub ended_scopes : (event : EventId) → AsksWithNoScope (body.facts old.code) asked → KeepsLaw body old.code → StandsForSome body old →
+      length old.calendar.events < 2 ^ 62 → IsRunning event p told old.control → Asks body p told old asked mid →
+      IsSomeAnd (record_of p mid.live) (λ r. r.scopes ≡ [])
   ended_scopes event ends law h few running a =
       let s = h.state in
       let tell = body.tell old.code in

@@ -1,10 +1,7 @@
-pub mod Calendars
-pub mod Signed
 pub mod Moving
 pub mod Calling
 pub mod Drawing
 pub mod Running
-pub mod SameCalendars
 pub mod Polls
 pub mod Pausing
 pub mod Ending

@@ -16,15 +16,30 @@ use Rattle.sim_machine.specs.Steps.{Turn, IsStepAt, IsStep, pop_entry}
 use Rattle.sim_machine_law.proofs.AgendaLaws.{due_least, due_among}
 use Rattle.sim_machine_law.proofs.PopLaws.{among_has}
 use Rattle.sim_machine_law.proofs.KeptTimes.{agenda_made}
-use Rattle.sim_kernel.specs.declared.calendar.Popped.{Popped}
+use Rattle.sim_happen.specs.declared.calendar.Popped.{Popped}
+use Rattle.sim_happen.specs.Popping.{Pops}
 use Rattle.sim_kernel.specs.declared.mode.Unit.TheVariants as unit
-use Rattle.sim_kernel.specs.Popping.{Pops}
 use Rattle.sim_kernel.specs.PartsOf.{PartsOf, RoomOf, plan_of}
-use Rattle.sim_kernel.specs.StandsFor.{StandsForSome, Moves}
+use Rattle.sim_kernel.specs.StandsFor.{StandsFor, StandsForSome, Moves}
 
 -- what comes next is what the control says
 pub at_control : {B : Type 0} (g : Plan B) (turn : Turn B) (s t : State B) (c : Control) → c ≡ s.control → IsStepAt g turn s t c → IsStep g turn s t
 at_control g turn s t c h step = subst (λ d. IsStepAt g turn s t d) h step
+
+-- the control and the room change, and no more
+pub control_stands : {B Code : Type 0} (old : PartsOf B Code) (s : State B) (c d : Control) (room : RoomOf) → c ≡ d → StandsFor old s →
+    StandsFor (record old { control = c; room = room }) (record s { control = d })
+control_stands old s c d room h st =
+    record {
+      calendar = st.calendar;
+      processed = st.processed;
+      generator = st.generator;
+      processes = st.processes;
+      scopes = st.scopes;
+      control = h;
+      waiters = st.waiters;
+      ledger = st.ledger;
+    }
 
 -- ---- the pop
 
@@ -51,7 +66,8 @@ none_due [] h = refl
 none_due (x ∷ xs) h = cc
 
 -- the entry that no other comes before is the one that is due, in whatever order the agenda is
-pub is_due : (xs : List Entry) (x : Entry) (ys : List Entry) → IsPermutation xs (x ∷ ys) → All (λ y. ¬ IsLess y.key x.key) ys → AllPairs (λ y z. y.key.number ≢ z.key.number) xs → due xs ≡ Some x
+pub is_due : (xs : List Entry) (x : Entry) (ys : List Entry) → IsPermutation xs (x ∷ ys) → All (λ y. ¬ IsLess y.key x.key) ys →
+    AllPairs (λ y z. y.key.number ≢ z.key.number) xs → due xs ≡ Some x
 is_due xs x ys others first distinct =
     let apart : AllPairs (λ y z. y.key.number ≢ z.key.number) (x ∷ ys) = AllPairs-IsPermutation (λ y z. y.key.number ≢ z.key.number) (λ y z d. λ e. d (sym e)) xs (x ∷ ys) others distinct in
     let differ : All (λ y. x.key.number ≢ y.key.number) ys = AllPairs-head (λ y z. y.key.number ≢ z.key.number) x ys apart in
@@ -64,7 +80,9 @@ is_due xs x ys others first distinct =
     this_one x m here (among_has (IsThisOrLater x) xs m each (due_among xs m h)))
     (λ h. let none : length xs ≡ 0 = none_due xs h in omega (arith, none, length_permutation xs (x ∷ ys) others))
 
-pub pop_moves : {B Code : Type 0} (body : BodyOf B Code) (old : PartsOf B Code) (answer : Popped) (new : Calendar) (left : List Callback) (room : RoomOf) → old.control ≡ Idle → Pops old.calendar answer new left → Moves body old (unit.Line answer.line) (record old { calendar = new; processed = old.processed + 1; control = Calling answer.event left; room = room })
+pub pop_moves : {B Code : Type 0} (body : BodyOf B Code) (old : PartsOf B Code) (answer : Popped) (new : Calendar) (left : List Callback) (room : RoomOf) →
+    old.control ≡ Idle → Pops old.calendar answer new left →
+    Moves body old (unit.Line answer.line) (record old { calendar = new; processed = old.processed + 1; control = Calling answer.event left; room = room })
 pop_moves body old answer new left room idle p =
     record {
       each = λ s h st.
@@ -93,7 +111,8 @@ pop_moves body old answer new left room idle p =
     }
 
 -- the event of each entry was made
-pub entries_made : {B Code : Type 0} (body : BodyOf B Code) (parts : PartsOf B Code) → StandsForSome body parts → All (λ x. x.event.0 < length parts.calendar.events) parts.calendar.agenda
+pub entries_made : {B Code : Type 0} (body : BodyOf B Code) (parts : PartsOf B Code) → StandsForSome body parts →
+    All (λ x. x.event.0 < length parts.calendar.events) parts.calendar.agenda
 entries_made body parts h =
     rw h.stands.calendar.events
     (All-permutation (λ x. x.event.0 < length h.state.facilities.calendar.events) h.state.facilities.calendar.agenda parts.calendar.agenda h.stands.calendar.agenda (agenda_made h.state.facilities.calendar h.lawful.times))

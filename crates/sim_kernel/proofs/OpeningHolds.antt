@@ -13,7 +13,8 @@ use Rattle.sim_kernel.proofs.Running.{KeepsLaw}
 use Rattle.sim_kernel.proofs.Stopping.{StopsBy, stop_built, stop_bounded}
 
 -- the opening state is lawful
-pub opens_lawfully : {B Code : Type 0} (body : BodyOf B Code) (parts : PartsOf B Code) → KeepsLaw body parts.code → FitsCode (body.facts parts.code) parts.setup → LawfulOf body parts (opening (plan_of body parts))
+pub opens_lawfully : {B Code : Type 0} (body : BodyOf B Code) (parts : PartsOf B Code) → KeepsLaw body parts.code →
+    FitsCode (body.facts parts.code) parts.setup → LawfulOf body parts (opening (plan_of body parts))
 opens_lawfully body parts law fits = lawful_opening (plan_of body parts) (body.tell parts.code) (body.sound parts.code) (body.turn parts.code) (body.facts parts.code) fits law
 
 -- all that run from the start were made, and no more
@@ -22,7 +23,9 @@ pub record HasStarted {B Code : Type 0} (first old : PartsOf B Code) : Type 0 wh
   pub built : HasBuiltCallbacks old
   pub events : length old.calendar.events ≡ first.setup.events + 1 + 2 * length first.setup.starts
 
-pub opening_holds : {B Code : Type 0} (body : BodyOf B Code) (first old new : PartsOf B Code) (x : Until) → ((code : Code) → KeepsLaw body code) → FitsCode (body.facts first.code) first.setup → first.processed ≡ 0 → HasStarted first old → StopsBy x old new → StandsFor new (opening (plan_of body new)) → Holds body 0 new
+pub opening_holds : {B Code : Type 0} (body : BodyOf B Code) (first old new : PartsOf B Code) (x : Until) → ((code : Code) → KeepsLaw body code) →
+    FitsCode (body.facts first.code) first.setup → first.processed ≡ 0 → HasStarted first old → StopsBy x old new →
+    StandsFor new (opening (plan_of body new)) → Holds body 0 new
 opening_holds {B} {Code} body first old new x law fits none started stops st =
     let code : new.code ≡ first.code = ap (λ (p : PartsOf B Code). p.code) stops.kept ∙ ap (λ (p : PartsOf B Code). p.code) started.kept in
     let setup : new.setup ≡ first.setup = ap (λ (p : PartsOf B Code). p.setup) stops.kept ∙ ap (λ (p : PartsOf B Code). p.setup) started.kept in

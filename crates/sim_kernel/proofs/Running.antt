@@ -29,16 +29,19 @@ use Rattle.sim_procs.specs.RecordOf.{RecordOf, record_of}
 use Rattle.sim_kernel.specs.PartsOf.{PartsOf, IsRunning}
 use Rattle.sim_kernel.specs.StandsFor.{StandsFor, StandsForSome, process_of}
 
-mapped_at : {B : Type 0} (r : RecordOf B) (o : Option (ProcessOf B)) (q : Option (RecordOf B)) (b : Bool) → o ≡ option_map process_of q → cond b (Some (process_of r)) o ≡ option_map process_of (cond b (Some r) q)
+mapped_at : {B : Type 0} (r : RecordOf B) (o : Option (ProcessOf B)) (q : Option (RecordOf B)) (b : Bool) → o ≡ option_map process_of q →
+    cond b (Some (process_of r)) o ≡ option_map process_of (cond b (Some r) q)
 mapped_at r o q true h = refl
 mapped_at r o q false h = h
 
-find_mapped : {B : Type 0} (p : ProcId) (live : List (RecordOf B)) → find (λ x. is_process x.id p) (map process_of live) ≡ option_map process_of (record_of p live)
+find_mapped : {B : Type 0} (p : ProcId) (live : List (RecordOf B)) →
+    find (λ x. is_process x.id p) (map process_of live) ≡ option_map process_of (record_of p live)
 find_mapped p [] = refl
 find_mapped p (r ∷ live) = mapped_at r (find (λ x. is_process x.id p) (map process_of live)) (record_of p live) (is_process r.id p) (find_mapped p live)
 
 -- the live process of the machine is that of the record
-pub process_found : {B Code : Type 0} (parts : PartsOf B Code) (s : State B) (p : ProcId) → AllPairs (λ x y. x.id ≢ y.id) s.processes → StandsFor parts s → process_at p s ≡ option_map process_of (record_of p parts.live)
+pub process_found : {B Code : Type 0} (parts : PartsOf B Code) (s : State B) (p : ProcId) → AllPairs (λ x y. x.id ≢ y.id) s.processes → StandsFor parts s →
+    process_at p s ≡ option_map process_of (record_of p parts.live)
 process_found parts s p distinct st =
     find-IsPermutation (λ x. x.id.0) p.0 s.processes (map process_of parts.live) st.processes (λ i j d before below. λ e. distinct i j d before below (same_process _ _ e)) ∙ find_mapped p parts.live
 
@@ -68,11 +71,13 @@ running_active event p told (Calling e left) h = absurd h
 running_active event p told (Active e left q x) h = subst (λ r. is_process q r ≡ true) h.1 (is_process-self q)
 running_active event p told (Over why e left) h = absurd h
 
-told_here : {B : Type 0} (tell : Telling B) (c : Calendar) (b : B) (x told : Signal) (y w : Bool) → y ≡ true → x ≡ told → (if y then told_fits tell c b x else w) ≡ true → told_fits tell c b told ≡ true
+told_here : {B : Type 0} (tell : Telling B) (c : Calendar) (b : B) (x told : Signal) (y w : Bool) → y ≡ true → x ≡ told →
+    (if y then told_fits tell c b x else w) ≡ true → told_fits tell c b told ≡ true
 told_here tell c b x told true w h same fits = subst (λ z. told_fits tell c b z ≡ true) same fits
 told_here tell c b x told false w h same fits = absurd (false≢true h)
 
-pub running_fits : {B : Type 0} (tell : Telling B) (d : Calendar) (event : EventId) (p : ProcId) (told : Signal) (b : B) (c : Control) → IsRunning event p told c → is_told_well tell d p b c ≡ true → told_fits tell d b told ≡ true
+pub running_fits : {B : Type 0} (tell : Telling B) (d : Calendar) (event : EventId) (p : ProcId) (told : Signal) (b : B) (c : Control) →
+    IsRunning event p told c → is_told_well tell d p b c ≡ true → told_fits tell d b told ≡ true
 running_fits tell d event p told b Idle h fits = absurd h
 running_fits tell d event p told b (Calling e left) h fits = absurd h
 running_fits tell d event p told b (Active e left q x) h fits = told_here tell d b x told (is_process q p) _ (running_active event p told (Active e left q x) h) h.2 fits
@@ -82,7 +87,8 @@ pub fits_told : {B : Type 0} (tell : Telling B) (c : Calendar) (b : B) (x : Sign
 fits_told tell c b (signal.Made e) h = (four_parts (may_be_told (tell.last b) (signal.Made e)) (was_made c e) (not (is_processed c e)) (makes_kind (tell.last b) (kind_at c e)) h).0
 fits_told tell c b _ h = h
 
-fits_bound : {B : Type 0} (tell : Telling B) (c : Calendar) (b : B) (x : Signal) → length c.events < 2 ^ 62 → told_fits tell c b x ≡ true → tells_within_bound x ≡ true
+fits_bound : {B : Type 0} (tell : Telling B) (c : Calendar) (b : B) (x : Signal) → length c.events < 2 ^ 62 → told_fits tell c b x ≡ true →
+    tells_within_bound x ≡ true
 fits_bound tell c b (signal.Made e) few h =
     let made : was_made c e ≡ true = (four_parts (may_be_told (tell.last b) (signal.Made e)) (was_made c e) (not (is_processed c e)) (makes_kind (tell.last b) (kind_at c e)) h).1 in
     let below : e.0 < length c.events = ltb-true e.0 (length c.events) made in
@@ -98,7 +104,8 @@ abbrev pub IsBodyOf : {B Code : Type 0} → PartsOf B Code → ProcId → B → 
 IsBodyOf parts p b = option_map (λ r. r.body) (record_of p parts.live) ≡ Some b
 
 -- what holds of each live process and its body holds of one that has a record
-body_has : {B Code : Type 0} (parts : PartsOf B Code) (s : State B) (p : ProcId) (b : B) (P : ProcId → B → Type 0) → AllPairs (λ x y. x.id ≢ y.id) s.processes → StandsFor parts s → IsBodyOf parts p b → All (λ x. P x.id x.body) s.processes → P p b
+body_has : {B Code : Type 0} (parts : PartsOf B Code) (s : State B) (p : ProcId) (b : B) (P : ProcId → B → Type 0) →
+    AllPairs (λ x y. x.id ≢ y.id) s.processes → StandsFor parts s → IsBodyOf parts p b → All (λ x. P x.id x.body) s.processes → P p b
 body_has {B} parts s p b P distinct st found all =
     let r = mapped_is (λ (r : RecordOf B). r.body) (record_of p parts.live) b found in
     let here : process_at p s ≡ Some (process_of r.0) = process_found parts s p distinct st ∙ ap (option_map process_of) r.1 in
@@ -107,7 +114,8 @@ body_has {B} parts s p b P distinct st found all =
 
 module _ {B Code : Type 0} (body : BodyOf B Code) (parts : PartsOf B Code) where
   -- what the process that runs is told fits
-  told_running : (event : EventId) (p : ProcId) (told : Signal) (b : B) (h : StandsForSome body parts) → IsRunning event p told parts.control → IsBodyOf parts p b → told_fits (body.tell parts.code) h.state.facilities.calendar b told ≡ true
+  told_running : (event : EventId) (p : ProcId) (told : Signal) (b : B) (h : StandsForSome body parts) → IsRunning event p told parts.control →
+      IsBodyOf parts p b → told_fits (body.tell parts.code) h.state.facilities.calendar b told ≡ true
   told_running event p told b h running found =
       let s = h.state in
       let tell = body.tell parts.code in
@@ -115,14 +123,16 @@ module _ {B Code : Type 0} (body : BodyOf B Code) (parts : PartsOf B Code) where
       running_fits tell s.facilities.calendar event p told b s.control (subst (λ c. IsRunning event p told c) h.stands.control running) fits
 
   -- it has a record
-  pub running_alive : (event : EventId) (p : ProcId) (told : Signal) → StandsForSome body parts → IsRunning event p told parts.control → IsSome (record_of p parts.live)
+  pub running_alive : (event : EventId) (p : ProcId) (told : Signal) → StandsForSome body parts → IsRunning event p told parts.control →
+      IsSome (record_of p parts.live)
   running_alive event p told h running =
       let s = h.state in
       let alive : is_alive p s ≡ true = h.lawful.processes.active p (running_active event p told s.control (subst (λ c. IsRunning event p told c) h.stands.control running)) in
       some_mapped process_of (record_of p parts.live) (subst IsSome (process_found parts s p h.lawful.processes.distinct h.stands) (any_found (λ x. is_process x.id p) s.processes alive))
 
   -- its body is sound, may be told what it is told, and an event that it is told was made
-  pub running_can_be_told : (event : EventId) (p : ProcId) (told : Signal) (b : B) → StandsForSome body parts → IsRunning event p told parts.control → IsBodyOf parts p b → length parts.calendar.events < 2 ^ 62 → CanBeTold body parts.code b told
+  pub running_can_be_told : (event : EventId) (p : ProcId) (told : Signal) (b : B) → StandsForSome body parts → IsRunning event p told parts.control →
+      IsBodyOf parts p b → length parts.calendar.events < 2 ^ 62 → CanBeTold body parts.code b told
   running_can_be_told event p told b h running found few =
       let tell = body.tell parts.code in
       let fits = told_running event p told b h running found in

@@ -1,10 +1,10 @@
 -- What is known where a process is to be started.
-use Rattle.std.proofs.Common.{◌≡◌, ℕ, ◌+◌, ◌<◌, ◌≤◌, ℤ, pos, negsuc, true, false, ◌||◌, List, [], ◌∷◌, ◌++◌, length, refl, ap, ◌∙◌, arith, Some, None, map}
-use Rattle.std.specs.Prelude.{All, ◌==◌, IsTrue, int_lt, slice_index_or, replicate}
+use Rattle.std.proofs.Common.{◌≡◌, ℕ, ◌+◌, ◌<◌, ◌≤◌, ℤ, pos, negsuc, true, false, ◌||◌, List, [], ◌∷◌, length, refl, ap, ◌∙◌, arith, Some, None, map}
+use Rattle.std.specs.Prelude.{All, ◌==◌, IsTrue, int_lt, slice_index_or}
 use Rattle.std.proofs.lemmas.Bool.{false≢true, and_parts, and_from}
 use Rattle.std.proofs.lemmas.Bool.Decides.{nat_tests}
 use Rattle.std.proofs.lemmas.Int.{ints}
-use Rattle.std.proofs.lemmas.List.{length-replicate, replicate-append-replicate}
+use Rattle.std.proofs.lemmas.List.{length-replicate}
 use Rattle.std.proofs.lemmas.List.Elements.{All-head, All-tail, All-weaker, All-cons, All-nil}
 use Rattle.std.proofs.lemmas.List.Sorted.{All-permutation, IsPermutation-map}
 use Rattle.sim_types.specs.declared.event.ProcId.{ProcId}
@@ -27,21 +27,19 @@ use Rattle.sim_machine_law.proofs.KeptRegistrations.{named_within}
 use Rattle.sim_machine_law.proofs.OpeningLaws.{start_fits_starts}
 use Rattle.sim_procs.specs.Premises.{CanBegin}
 use Rattle.sim_procs.specs.RecordOf.{RecordOf, record_of}
+use Rattle.sim_happen.specs.Making.{next_process}
 use Rattle.sim_kernel.specs.Built.{HasBuiltCallbacks, is_built_callback}
 use Rattle.sim_kernel.specs.PartsOf.{PartsOf, RoomOf}
 use Rattle.sim_kernel.specs.StandsFor.{StandsFor, process_of}
-use Rattle.sim_kernel.specs.Opening.{next_process, new_record, Begins, IsOpening}
-
--- one element more of a kind
-pub replicate_more : {X : Type 0} (x : X) (n : ℕ) → replicate n x ++ x ∷ [] ≡ replicate (n + 1) x
-replicate_more x n = replicate-append-replicate n 1 x
+use Rattle.sim_kernel.specs.Opening.{new_record, Begins, IsOpening}
 
 -- ---- what is given at the start is within the bounds
 
 below_most : (n : ℕ) → n ≤ 1024 → int_lt (pos n) (pos most_events) ≡ true
 below_most n h = grind (arith, ints, nat_tests)
 
-argument_within : (named : ℕ) (c : Class) (v : ℤ) → named ≤ 1024 → start_argument_fits named c v ≡ true → (is_class c class.Number || int_lt v (pos most_events)) ≡ true
+argument_within : (named : ℕ) (c : Class) (v : ℤ) → named ≤ 1024 → start_argument_fits named c v ≡ true →
+    (is_class c class.Number || int_lt v (pos most_events)) ≡ true
 argument_within named class.Number v few h = refl
 argument_within named class.Event (pos n) few h = below_most n (omega (arith, few, named_within n named h))
 argument_within named class.Event (negsuc n) few h = absurd (false≢true h)
@@ -95,7 +93,8 @@ of_process_events c =
     omega (arith, change_event-length (next_event d) (λ y. record y { outcome = Some (outcome.Ok (pos 0)) }) (make kind.Init d), make-length kind.Init d, make-length kind.Process c)
 
 -- and with each that is made
-pub begun_opening : {B Code : Type 0} (b : B) (old new : PartsOf B Code) (room : RoomOf) → Begins b (record old { room = room }) new → IsOpening old → IsOpening new
+pub begun_opening : {B Code : Type 0} (b : B) (old new : PartsOf B Code) (room : RoomOf) → Begins b (record old { room = room }) new → IsOpening old →
+    IsOpening new
 begun_opening {B} b old new room h k =
     let n : ℕ = length old.calendar.events in
     let more : length new.calendar.events ≡ n + 2 = ap length h.calendar.events ∙ of_process_events old.calendar in

@@ -11,7 +11,9 @@ use Rattle.sim_kernel.specs.StandsFor.{StandsFor}
 use Rattle.sim_kernel.specs.Opening.{Starts}
 
 -- a kernel keeps what it was opened with
-pub kept_on : {B Code : Type 0} (first old new : PartsOf B Code) → new ≡ record old { calendar = new.calendar; live = new.live; room = new.room } → old ≡ record first { calendar = old.calendar; live = old.live; room = old.room } → new ≡ record first { calendar = new.calendar; live = new.live; room = new.room }
+pub kept_on : {B Code : Type 0} (first old new : PartsOf B Code) → new ≡ record old { calendar = new.calendar; live = new.live; room = new.room } →
+    old ≡ record first { calendar = old.calendar; live = old.live; room = old.room } →
+    new ≡ record first { calendar = new.calendar; live = new.live; room = new.room }
 kept_on {B} {Code} first old new h k = h ∙ ap (λ (parts : PartsOf B Code). let p : PartsOf B Code = record parts { calendar = new.calendar; live = new.live; room = new.room } in p) k
 
 -- the state in which these were started
@@ -24,7 +26,10 @@ no_scopes_from g s [] h = h
 no_scopes_from g s (x ∷ xs) h = no_scopes_from g (start_process g s x) xs h
 
 -- the kernel stands for the state with the next process
-pub next_stands : {B Code : Type 0} (body : BodyOf B Code) (first old new : PartsOf B Code) (i : ℕ) (x : Start) → i < length first.setup.starts → x ≡ slice_index_or first.setup.starts i x → old ≡ record first { calendar = old.calendar; live = old.live; room = old.room } → Starts body x old new → StandsFor old (with_starts (plan_of body first) (take i first.setup.starts)) → StandsFor new (with_starts (plan_of body first) (take (i + 1) first.setup.starts))
+pub next_stands : {B Code : Type 0} (body : BodyOf B Code) (first old new : PartsOf B Code) (i : ℕ) (x : Start) → i < length first.setup.starts →
+    x ≡ slice_index_or first.setup.starts i x → old ≡ record first { calendar = old.calendar; live = old.live; room = old.room } → Starts body x old new →
+    StandsFor old (with_starts (plan_of body first) (take i first.setup.starts)) →
+    StandsFor new (with_starts (plan_of body first) (take (i + 1) first.setup.starts))
 next_stands {B} {Code} body first old new i x below is kept starts st =
     let g : Plan B = plan_of body first in
     let s : State B = with_starts g (take i first.setup.starts) in

@@ -63,7 +63,8 @@ adds_defused {B} s t e a =
     (λ h. record { registered = a.registered; left = a.left; events = a.events; processed = a.processed })
 
 -- a process is to be resumed by an event
-adds_waiting : {B : Type 0} (s t : State B) (e : EventId) (p : ProcId) → AddsLittle s t → AddsLittle s (change_process p (λ x. record x { target = e }) (on_events (register e (callback.Resume p)) t))
+adds_waiting : {B : Type 0} (s t : State B) (e : EventId) (p : ProcId) → AddsLittle s t →
+    AddsLittle s (change_process p (λ x. record x { target = e }) (on_events (register e (callback.Resume p)) t))
 adds_waiting s t e p a =
     let r : Registration = record { event = e; callback = callback.Resume p } in
     let P : Registration → Type 0 = λ q. is_built_callback q.callback ≡ true in
@@ -80,7 +81,8 @@ pop_adds s x registered = record {
 }
 
 -- the control changes, and no more
-left_same : {B : Type 0} (s t : State B) (left : List Callback) → left_of t.control ≡ left → are_built left → registers_built (calendar s) → calendar t ≡ calendar s → t.processed ≡ s.processed → AddsLittle s t
+left_same : {B : Type 0} (s t : State B) (left : List Callback) → left_of t.control ≡ left → are_built left → registers_built (calendar s) →
+    calendar t ≡ calendar s → t.processed ≡ s.processed → AddsLittle s t
 left_same s t left h built registered same processed = record {
   registered = rw same registered;
   left = rw h built;
@@ -93,7 +95,8 @@ settle_adds s e registered =
     let P : Callback → Type 0 = λ x. is_built_callback x ≡ true in
     if_cases (λ c. AddsLittle s (control_to c s)) (is_crash e s) (Over end.Crash e []) Idle (λ k. left_same s (control_to (Over end.Crash e []) s) [] refl (All-nil P) registered refl refl) (λ k. left_same s (control_to Idle s) [] refl (All-nil P) registered refl refl)
 
-call_adds : {B : Type 0} (g : Plan B) (s : State B) (e : EventId) (x : Callback) (left : List Callback) → is_built_callback x ≡ true → are_built left → registers_built (calendar s) → AddsLittle s (call g e x left s)
+call_adds : {B : Type 0} (g : Plan B) (s : State B) (e : EventId) (x : Callback) (left : List Callback) → is_built_callback x ≡ true → are_built left →
+    registers_built (calendar s) → AddsLittle s (call g e x left s)
 call_adds g s e (callback.Resume p) left here later registered =
     let a = adds_defused s (record s { control = Calling e left }) e (left_same s (record s { control = Calling e left }) left refl later registered refl refl) in
     record { registered = a.registered; left = later; events = a.events; processed = a.processed }
@@ -118,21 +121,24 @@ wait_adds : {B : Type 0} (s t : State B) (e : EventId) (p : ProcId) → AddsLitt
 wait_adds s t e p a =
     wait_cases (λ u. AddsLittle s u) e p t (λ h. adds_told s _ _ (adds_defused s t e a)) (λ h. adds_rest s _ (adds_waiting s t e p a))
 
-pause_adds : {B : Type 0} (g : Plan B) (s : State B) (p : ProcId) (b : B) (delay value : ℤ) → registers_built (calendar s) → are_built (left_of s.control) → AddsLittle s (polled g p (op.Pause delay value) b s)
+pause_adds : {B : Type 0} (g : Plan B) (s : State B) (p : ProcId) (b : B) (delay value : ℤ) → registers_built (calendar s) → are_built (left_of s.control) →
+    AddsLittle s (polled g p (op.Pause delay value) b s)
 pause_adds g s p b delay value registered left =
     let t = with_body p b s in
     let a = adds_body s p b registered left in
     timeout_cases (λ u. AddsLittle s u) delay value (λ e u. wait e p u) t (adds_told s t (signal.Raised 1) a) (adds_told s t (signal.Raised 9) a)
     (λ h k. wait_adds s _ _ p (timeout_adds s t delay value refl a))
 
-draw_adds : {B : Type 0} (g : Plan B) (s : State B) (p : ProcId) (b : B) (lo hi : ℤ) → registers_built (calendar s) → are_built (left_of s.control) → AddsLittle s (polled g p (op.Draw lo hi) b s)
+draw_adds : {B : Type 0} (g : Plan B) (s : State B) (p : ProcId) (b : B) (lo hi : ℤ) → registers_built (calendar s) → are_built (left_of s.control) →
+    AddsLittle s (polled g p (op.Draw lo hi) b s)
 draw_adds g s p b lo hi registered left =
     let t = with_body p b s in
     let a = adds_body s p b registered left in
     draw_cases (λ u. AddsLittle s u) g lo hi t (adds_told s t (signal.Raised 8) a)
     (λ h. adds_told s (record t { drawn = t.drawn + 1 }) _ (record { registered = a.registered; left = a.left; events = a.events; processed = a.processed }))
 
-end_adds : {B : Type 0} (s : State B) (p : ProcId) (b : B) (o : Outcome) → registers_built (calendar s) → are_built (left_of s.control) → AddsLittle s (rest (end_process p o (with_body p b s)))
+end_adds : {B : Type 0} (s : State B) (p : ProcId) (b : B) (o : Outcome) → registers_built (calendar s) → are_built (left_of s.control) →
+    AddsLittle s (rest (end_process p o (with_body p b s)))
 end_adds s p b o registered left =
     adds_rest s (end_process p o (with_body p b s)) (record {
       registered = registered;
@@ -141,7 +147,8 @@ end_adds s p b o registered left =
       processed = omega arith;
     })
 
-asked_adds : {B : Type 0} (g : Plan B) (s : State B) (p : ProcId) (b : B) (asked : Op) → IsTrue (is_built asked) → registers_built (calendar s) → are_built (left_of s.control) → AddsLittle s (polled g p asked b s)
+asked_adds : {B : Type 0} (g : Plan B) (s : State B) (p : ProcId) (b : B) (asked : Op) → IsTrue (is_built asked) → registers_built (calendar s) →
+    are_built (left_of s.control) → AddsLittle s (polled g p asked b s)
 asked_adds g s p b op.Nop built registered later = adds_told s (with_body p b s) signal.Done (adds_body s p b registered later)
 asked_adds g s p b (op.Pause delay value) built registered later = pause_adds g s p b delay value registered later
 asked_adds g s p b (op.Log value) built registered later =
@@ -154,7 +161,8 @@ asked_adds g s p b _ built registered later = absurd (false≢true built)
 
 -- ---- the step that comes next
 
-module _ {B Code : Type 0} (body : BodyOf B Code) (code : Code) (asks : AsksForBuilt body code) (g : Plan B) (s t : State B) (sound : All (λ x. body.sound code x.body) s.processes) where
+module _ {B Code : Type 0} (body : BodyOf B Code) (code : Code) (asks : AsksForBuilt body code) (g : Plan B) (s t : State B)
+    (sound : All (λ x. body.sound code x.body) s.processes) where
   poll_adds : (p : ProcId) (x : Signal) → registers_built (calendar s) → are_built (left_of s.control) → IsPoll g (body.turn code) p x s t → AddsLittle s t
   poll_adds p x registered left i =
       let y = i.process in

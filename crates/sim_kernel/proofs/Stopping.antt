@@ -10,30 +10,24 @@ use Rattle.sim_types.specs.declared.setup.Until.{Until}
 use Rattle.sim_types.specs.declared.setup.Until.TheVariants as until
 use Rattle.sim_machine.specs.State.{Calendar, Registration, State, Plan}
 use Rattle.sim_machine.specs.Bodies.{BodyOf}
-use Rattle.sim_machine.specs.Events.{next_event, register}
-use Rattle.sim_machine.specs.Triggering.{urgent, make, schedule}
+use Rattle.sim_machine.specs.Events.{next_event}
+use Rattle.sim_machine.specs.Triggering.{make}
 use Rattle.sim_machine.specs.Scopes.{on_events}
 use Rattle.sim_machine.specs.Runs.{blank_state, start_process, set_stop, opening}
 use Rattle.sim_machine_law.proofs.EventLaws.{change_event-length, make-length}
+use Rattle.sim_happen.specs.Same.{SameCalendar}
+use Rattle.sim_happen.proofs.SameCalendars.{same_trans, same_stop}
 use Rattle.sim_kernel.specs.Built.{HasBuiltCallbacks, IsBounded, is_built_callback, most_opened}
-use Rattle.sim_kernel.specs.Same.{SameCalendar}
 use Rattle.sim_kernel.specs.PartsOf.{PartsOf, plan_of}
 use Rattle.sim_kernel.specs.StandsFor.{StandsFor}
-use Rattle.sim_kernel.proofs.SameCalendars.{same_trans, same_make, same_register, same_schedule, next_same}
-
-pub same_stop : (x : Until) (a b : Calendar) → SameCalendar a b → SameCalendar (set_stop x a) (set_stop x b)
-same_stop until.Never a b h = h
-same_stop (until.At time) a b h =
-    let P : EventId → Type 0 = λ e. SameCalendar (set_stop (until.At time) a) (schedule e (outcome.Ok (pos 0)) urgent time (register e callback.Stop (make kind.Stop b))) in
-    subst P (next_same a b h) (same_schedule (next_event a) (outcome.Ok (pos 0)) urgent time _ _ (same_register (next_event a) callback.Stop _ _ (same_make kind.Stop a b h)))
-same_stop (until.Event e) a b h = same_register e callback.Stop a b h
 
 -- what is to stop the run is set in a calendar, and all else stays
 pub record StopsBy {B Code : Type 0} (x : Until) (old new : PartsOf B Code) : Type 0 where
   pub kept : new ≡ record old { calendar = new.calendar; room = new.room }
   pub calendar : SameCalendar new.calendar (set_stop x old.calendar)
 
-pub stop_stands : {B Code : Type 0} (x : Until) (old new : PartsOf B Code) (s : State B) → StopsBy x old new → StandsFor old s → StandsFor new (on_events (set_stop x) s)
+pub stop_stands : {B Code : Type 0} (x : Until) (old new : PartsOf B Code) (s : State B) → StopsBy x old new → StandsFor old s →
+    StandsFor new (on_events (set_stop x) s)
 stop_stands {B} {Code} x old new s h st =
     record {
       calendar = same_trans new.calendar (set_stop x old.calendar) (set_stop x s.facilities.calendar) h.calendar (same_stop x old.calendar s.facilities.calendar st.calendar);
@@ -67,7 +61,10 @@ stop_built x old new h built =
     }
 
 -- once all that run from the start are started, the kernel stands for the opening state
-pub opened_stands : {B Code : Type 0} (body : BodyOf B Code) (first old new : PartsOf B Code) (x : Until) → x ≡ first.setup.until → old ≡ record first { calendar = old.calendar; live = old.live; room = old.room } → StopsBy x old new → StandsFor old (fold (start_process (plan_of body first)) (blank_state (plan_of body first)) first.setup.starts) → StandsFor new (opening (plan_of body new))
+pub opened_stands : {B Code : Type 0} (body : BodyOf B Code) (first old new : PartsOf B Code) (x : Until) → x ≡ first.setup.until →
+    old ≡ record first { calendar = old.calendar; live = old.live; room = old.room } → StopsBy x old new →
+    StandsFor old (fold (start_process (plan_of body first)) (blank_state (plan_of body first)) first.setup.starts) →
+    StandsFor new (opening (plan_of body new))
 opened_stands {B} {Code} body first old new x is kept stops st =
     let g : Plan B = plan_of body first in
     let s : State B = fold (start_process g) (blank_state g) g.setup.starts in
@@ -85,7 +82,8 @@ stop_events (until.At time) c = omega (arith, change_event-length (next_event c)
 stop_events (until.Event e) c = omega arith
 
 -- what is to stop the run makes one event at most
-pub stop_bounded : {B Code : Type 0} (x : Until) (old new : PartsOf B Code) → StopsBy x old new → length old.calendar.events < most_opened → old.processed ≡ 0 → IsBounded 0 new
+pub stop_bounded : {B Code : Type 0} (x : Until) (old new : PartsOf B Code) → StopsBy x old new → length old.calendar.events < most_opened →
+    old.processed ≡ 0 → IsBounded 0 new
 stop_bounded {B} {Code} x old new h events processed =
     let made : length new.calendar.events ≡ length (set_stop x old.calendar).events = ap length h.calendar.events in
     let done : new.processed ≡ 0 = ap (λ (n : PartsOf B Code). n.processed) h.kept ∙ processed in

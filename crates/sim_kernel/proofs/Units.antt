@@ -13,35 +13,28 @@ use Rattle.sim_kernel.specs.StandsFor.{StandsFor, LawfulOf, StepOf, Moves}
 use Rattle.sim_kernel.specs.Built.{AsksForBuilt, HasBuiltCallbacks, IsBounded, is_built_callback, most_opened, most_made}
 use Rattle.sim_kernel.specs.Holding.{Holds}
 use Rattle.sim_kernel.specs.Stepping.{MakesStep}
+use Rattle.sim_kernel.proofs.Moving.{control_stands}
 use Rattle.sim_kernel.proofs.Running.{KeepsLaw}
 use Rattle.sim_kernel.proofs.StepAdds.{AddsLittle, step_adds}
 
 -- ---- more room changes nothing else
 
 pub roomier_stands : {B Code : Type 0} (parts : PartsOf B Code) (room : RoomOf) (s : State B) → StandsFor parts s → StandsFor (record parts { room = room }) s
-roomier_stands parts room s h =
-    record {
-      calendar = h.calendar;
-      processed = h.processed;
-      generator = h.generator;
-      processes = h.processes;
-      scopes = h.scopes;
-      control = h.control;
-      waiters = h.waiters;
-      ledger = h.ledger;
-    }
+roomier_stands parts room s h = control_stands parts s parts.control s.control room h.control h
 
 -- ---- the state after a unit is lawful, since the machine keeps what is lawful
 
 -- a state that is lawful for what a kernel was opened with stays so where that is the same
-opened_lawful : {B Code : Type 0} (body : BodyOf B Code) (old new : PartsOf B Code) (s : State B) → IsOpenedAs old new → LawfulOf body old s → LawfulOf body new s
+opened_lawful : {B Code : Type 0} (body : BodyOf B Code) (old new : PartsOf B Code) (s : State B) → IsOpenedAs old new → LawfulOf body old s →
+    LawfulOf body new s
 opened_lawful body old new s opened h = rw (opened.code, opened.setup, opened.seed) h
 
 module _ {B Code : Type 0} (body : BodyOf B Code) (old : PartsOf B Code) (fits : FitsCode (body.facts old.code) old.setup) (law : KeepsLaw body old.code) where
   stays_lawful : (s t : State B) → LawfulOf body old s → StepOf body old s t → LawfulOf body old t
   stays_lawful s t = lawful_step (plan_of body old) (body.tell old.code) (body.sound old.code) (body.turn old.code) (body.facts old.code) s t fits law
 
-  pub unit_steps : (room : RoomOf) (answer : Unit) (new : PartsOf B Code) → Moves body (record old { room = room }) answer new → IsOpenedAs (record old { room = room }) new → MakesStep body old answer new
+  pub unit_steps : (room : RoomOf) (answer : Unit) (new : PartsOf B Code) → Moves body (record old { room = room }) answer new →
+      IsOpenedAs (record old { room = room }) new → MakesStep body old answer new
   unit_steps room answer new moves opened =
       record {
         each = λ s lawful stands.
@@ -58,7 +51,8 @@ module _ {B Code : Type 0} (body : BodyOf B Code) (old : PartsOf B Code) (fits :
 -- ---- what else holds of every kernel
 
 -- what a step from a state that the kernel stood for adds
-added : {B Code : Type 0} (body : BodyOf B Code) (old : PartsOf B Code) (s t : State B) → AsksForBuilt body old.code → HasBuiltCallbacks old → LawfulOf body old s → StandsFor old s → StepOf body old s t → AddsLittle s t
+added : {B Code : Type 0} (body : BodyOf B Code) (old : PartsOf B Code) (s t : State B) → AsksForBuilt body old.code → HasBuiltCallbacks old →
+    LawfulOf body old s → StandsFor old s → StepOf body old s t → AddsLittle s t
 added body old s t asks built lawful stands step =
     step_adds body old.code asks (plan_of body old) s t lawful.bodies.bodies
     (subst (AllPass (λ r. is_built_callback r.callback)) stands.calendar.registered built.registered)
@@ -66,7 +60,8 @@ added body old s t asks built lawful stands step =
     step
 
 -- one unit makes at most one event, and processes at most one
-unit_bounded : {B Code : Type 0} (units : ℕ) (old new : PartsOf B Code) (s t : State B) → StandsFor old s → StandsFor new t → AddsLittle s t → IsBounded units old → IsBounded (units + 1) new
+unit_bounded : {B Code : Type 0} (units : ℕ) (old new : PartsOf B Code) (s t : State B) → StandsFor old s → StandsFor new t → AddsLittle s t →
+    IsBounded units old → IsBounded (units + 1) new
 unit_bounded units old new s t before after a h =
     record {
       events = one_more most_opened units _ _ (rw (after.calendar.events, before.calendar.events) a.events) h.events;
@@ -80,14 +75,17 @@ unit_bounded units old new s t before after a h =
     one_unit units before after x y = omega (arith)
 
 -- fewer events were scheduled than made
-pub few_scheduled : {B Code : Type 0} (body : BodyOf B Code) (units : ℕ) (parts : PartsOf B Code) → Holds body units parts → units < 2 ^ 32 → parts.calendar.scheduled < 2 ^ 62
+pub few_scheduled : {B Code : Type 0} (body : BodyOf B Code) (units : ℕ) (parts : PartsOf B Code) → Holds body units parts → units < 2 ^ 32 →
+    parts.calendar.scheduled < 2 ^ 62
 few_scheduled body units parts h few =
     let c = h.stands.state.facilities.calendar in
     let below : c.scheduled < length c.events = scheduled_below c h.stands.lawful.times in
     let made : length parts.calendar.events ≡ length c.events = ap length h.stands.stands.calendar.events in
     omega (arith, below, made, h.stands.stands.calendar.scheduled, h.bounded.events, few)
 
-pub unit_holds : {B Code : Type 0} (body : BodyOf B Code) (units : ℕ) (old : PartsOf B Code) (room : RoomOf) (answer : Unit) (new : PartsOf B Code) → KeepsLaw body old.code → AsksForBuilt body old.code → Holds body units old → Moves body (record old { room = room }) answer new → IsOpenedAs (record old { room = room }) new → Holds body (units + 1) new
+pub unit_holds : {B Code : Type 0} (body : BodyOf B Code) (units : ℕ) (old : PartsOf B Code) (room : RoomOf) (answer : Unit) (new : PartsOf B Code) →
+    KeepsLaw body old.code → AsksForBuilt body old.code → Holds body units old → Moves body (record old { room = room }) answer new →
+    IsOpenedAs (record old { room = room }) new → Holds body (units + 1) new
 unit_holds body units old room answer new law asks h moves opened =
     let s = h.stands.state in
     let later = moves.each s h.stands.lawful (roomier_stands old room s h.stands.stands) in

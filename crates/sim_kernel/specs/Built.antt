@@ -22,7 +22,8 @@ is_built _ = false
 
 -- bodies of this code ask in their sound states for operations that are built, and for no others
 pub record AsksForBuilt {B Code : Type 0} (body : BodyOf B Code) (code : Code) : Type 0 where
-  pub asks : (b : B) (time : ℤ) (told : Signal) (asked : Op) (later : B) → body.sound code b → body.turn code b time told asked later → IsTrue (is_built asked)
+  pub asks : (b : B) (time : ℤ) (told : Signal) (asked : Op) (later : B) →
+      body.sound code b → body.turn code b time told asked later → IsTrue (is_built asked)
 
 -- the callbacks that come from such operations, and from what stops a run
 abbrev pub is_built_callback : Callback → Bool

@@ -12,7 +12,7 @@ use Rattle.sim_machine.specs.Triggering.{is_too_late}
 use Rattle.sim_machine.specs.Processes.{told_more, defuse_failed}
 use Rattle.sim_machine.specs.Effect.{drawn_number}
 use Rattle.sim_machine.specs.Standing.{left_of}
-use Rattle.sim_kernel.specs.CalendarOf.{is_unhandled, told_by}
+use Rattle.sim_happen.specs.CalendarOf.{is_unhandled, told_by}
 use Rattle.sim_kernel.specs.PartsOf.{PartsOf}
 
 -- what is done once all callbacks of the event were called: a failure that nobody defused ends the run
@@ -22,7 +22,8 @@ settled_to event c = if is_unhandled event c then Over end.Crash event [] else I
 -- the event has stopped the run
 abbrev pub stopping : {B Code : Type 0} → EventId → PartsOf B Code → PartsOf B Code
 stopping event parts =
-    record parts { control = Over (if is_fail (event_at parts.calendar event).outcome then end.Crash else end.Until) event (left_of parts.control) }
+    let why = if is_fail (event_at parts.calendar event).outcome then end.Crash else end.Until in
+    record parts { control = Over why event (left_of parts.control) }
 
 -- the event resumes a process, and its failure is defused
 abbrev pub resuming : {B Code : Type 0} → EventId → ProcId → PartsOf B Code → PartsOf B Code
@@ -39,7 +40,11 @@ telling x parts = record parts { control = told_more x parts.control }
 -- the running process is told a number of the range, drawn by the next random word
 abbrev pub drawing : {B Code : Type 0} → ℤ → ℤ → PartsOf B Code → PartsOf B Code
 drawing lo hi parts =
-    record parts { generator = (pcg64 parts.generator).1; control = told_more (signal.Number (drawn_number (pcg64 parts.generator).0 lo hi)) parts.control }
+    let next = pcg64 parts.generator in
+    record parts {
+      generator = next.1;
+      control = told_more (signal.Number (drawn_number next.0 lo hi)) parts.control;
+    }
 
 -- where the delay is negative
 abbrev pub IfNegative : ℤ → Type 0 → Type 0
@@ -47,8 +52,10 @@ IfNegative delay X = IsTrue (int_lt delay (pos 0)) → X
 
 -- where the delay is not negative and leads beyond the last time
 abbrev pub IfTooLate : {B Code : Type 0} → ℤ → PartsOf B Code → Type 0 → Type 0
-IfTooLate delay parts X = IsFalse (int_lt delay (pos 0)) → IsTrue (is_too_late delay parts.calendar) → X
+IfTooLate delay parts X =
+    IsFalse (int_lt delay (pos 0)) → IsTrue (is_too_late delay parts.calendar) → X
 
 -- where it is neither
 abbrev pub IfInTime : {B Code : Type 0} → ℤ → PartsOf B Code → Type 0 → Type 0
-IfInTime delay parts X = IsFalse (int_lt delay (pos 0)) → IsFalse (is_too_late delay parts.calendar) → X
+IfInTime delay parts X =
+    IsFalse (int_lt delay (pos 0)) → IsFalse (is_too_late delay parts.calendar) → X

@@ -8,7 +8,8 @@ use Rattle.sim_kernel.specs.Built.{HasBuiltCallbacks, IsBounded}
 
 -- a kernel that has made so many units was opened with a setup for its code, stands for a lawful state, has callbacks
 -- that are built, and bounded numbers
-pub record Holds {B Code : Type 0} (body : BodyOf B Code) (units : ℕ) (parts : PartsOf B Code) : Type 0 where
+pub record Holds {B Code : Type 0}
+    (body : BodyOf B Code) (units : ℕ) (parts : PartsOf B Code) : Type 0 where
   pub fits : FitsCode (body.facts parts.code) parts.setup
   pub stands : StandsForSome body parts
   pub built : HasBuiltCallbacks parts

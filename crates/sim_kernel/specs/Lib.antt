@@ -1,6 +1,3 @@
-pub mod Same
-pub mod CalendarOf
-pub mod Popping
 pub mod PartsOf
 pub mod Changes
 pub mod StandsFor

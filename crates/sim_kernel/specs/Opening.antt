@@ -1,7 +1,6 @@
 -- What the code does where a kernel is opened.
 use Rattle.std.specs.Prelude.{◌≡◌, ◌<◌, ◌+◌, ◌*◌, ℕ, pos, [], ◌∷◌, length, map, fold, All}
 use Rattle.std.specs.List.Sorted.{IsPermutation}
-use Rattle.sim_types.specs.declared.event.ProcId.{ProcId}
 use Rattle.sim_types.specs.declared.setup.Setup.{Setup}
 use Rattle.sim_types.specs.declared.setup.Start.{Start}
 use Rattle.sim_types.specs.declared.setup.Until.{Until}
@@ -13,21 +12,19 @@ use Rattle.sim_machine.specs.Processes.{make_events_of_process}
 use Rattle.sim_machine.specs.Bodies.{BodyOf}
 use Rattle.sim_machine.specs.Runs.{blank_state, start_process, set_stop}
 use Rattle.sim_procs.specs.RecordOf.{RecordOf}
-use Rattle.sim_kernel.specs.Same.{SameCalendar}
+use Rattle.sim_happen.specs.Same.{SameCalendar}
+use Rattle.sim_happen.specs.Making.{next_process}
 use Rattle.sim_kernel.specs.PartsOf.{PartsOf, plan_of}
 use Rattle.sim_kernel.specs.StandsFor.{StandsFor, process_of}
 
--- the number of the process that is made next: that of its event
-abbrev pub next_process : Calendar → ProcId
-next_process c = record { 0 = (next_event c).0 }
-
 -- a process as it is made: it waits for its init event, and no scope is open
 abbrev pub new_record : {B : Type 0} → B → Calendar → RecordOf B
-new_record body c = record { id = next_process c; body = body; target = next_event (make kind.Process c); scopes = [] }
-
--- the event of a process and its init event are made, whatever the order of the agenda
-abbrev pub MakesProcess : Calendar → Calendar → Type 0
-MakesProcess old new = SameCalendar new (make_events_of_process old)
+new_record body c = record {
+  id = next_process c;
+  body = body;
+  target = next_event (make kind.Process c);
+  scopes = [];
+}
 
 -- what is to stop a run is set
 abbrev pub SetsStop : Until → Calendar → Calendar → Type 0
@@ -57,11 +54,14 @@ KeepsButCalendar old new = new ≡ record old { calendar = new.calendar; room = 
 
 -- all stays but the calendar, the processes and the room
 abbrev pub KeepsButProcesses : {B Code : Type 0} → PartsOf B Code → PartsOf B Code → Type 0
-KeepsButProcesses old new = new ≡ record old { calendar = new.calendar; live = new.live; room = new.room }
+KeepsButProcesses old new =
+    new ≡ record old { calendar = new.calendar; live = new.live; room = new.room }
 
 -- the new kernel stands for the state in which all that run from the start were made, before it is said what stops the run
-abbrev pub HasMadeStarts : {B Code : Type 0} → BodyOf B Code → PartsOf B Code → PartsOf B Code → Type 0
-HasMadeStarts body old new = StandsFor new (fold (start_process (plan_of body old)) (blank_state (plan_of body old)) old.setup.starts)
+abbrev pub HasMadeStarts : {B Code : Type 0} → BodyOf B Code → (old new : PartsOf B Code) → Type 0
+HasMadeStarts body old new =
+    let plan = plan_of body old in
+    StandsFor new (fold (start_process plan) (blank_state plan) old.setup.starts)
 
 -- a kernel in which only processes that run from the start were made, so that each has an event of its own already
 pub record IsOpening {B Code : Type 0} (parts : PartsOf B Code) : Type 0 where
@@ -69,5 +69,7 @@ pub record IsOpening {B Code : Type 0} (parts : PartsOf B Code) : Type 0 where
   pub older : All (λ x. x.id.0 < length parts.calendar.events) (map process_of parts.live)
 
 -- whatever state with no open scopes the kernel stood for, it stands for the one in which a process more is made
-pub record Starts {B Code : Type 0} (body : BodyOf B Code) (x : Start) (old new : PartsOf B Code) : Type 0 where
-  pub each : (s : State B) → s.scopes ≡ [] → StandsFor old s → StandsFor new (start_process (plan_of body old) s x)
+pub record Starts {B Code : Type 0}
+    (body : BodyOf B Code) (x : Start) (old new : PartsOf B Code) : Type 0 where
+  pub each : (s : State B) → s.scopes ≡ [] → StandsFor old s →
+      StandsFor new (start_process (plan_of body old) s x)

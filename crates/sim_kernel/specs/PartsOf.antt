@@ -10,7 +10,7 @@ use Rattle.sim_machine.specs.State.{Calendar, Control, Idle, Calling, Active, Ov
 use Rattle.sim_machine.specs.RandomWords.{word_of}
 use Rattle.sim_machine.specs.Bodies.{BodyOf, start_of}
 use Rattle.sim_procs.specs.RecordOf.{RecordOf}
-use Rattle.sim_kernel.specs.CalendarOf.{Room, HasRoom}
+use Rattle.sim_happen.specs.CalendarOf.{Room, HasRoom}
 use Rattle.sim_kernel.specs.declared.mode.Mode.{Mode}
 use Rattle.sim_kernel.specs.declared.mode.Mode.TheVariants as mode
 
@@ -80,7 +80,11 @@ pub record HasUnitRoom {B Code : Type 0} (parts : PartsOf B Code) : Type 0 where
 
 -- the plan of the machine that a kernel was opened with
 abbrev pub plan_of : {B Code : Type 0} → BodyOf B Code → PartsOf B Code → Plan B
-plan_of body parts = record { setup = parts.setup; word = word_of parts.seed; start = start_of body parts.code }
+plan_of body parts = record {
+  setup = parts.setup;
+  word = word_of parts.seed;
+  start = start_of body parts.code;
+}
 
 -- a kernel, and how many units it has made
 pub record KernelOf (B Code : Type 0) : Type 0 where

@@ -12,7 +12,7 @@ use Rattle.sim_machine.specs.Steps.{IsStep}
 use Rattle.sim_machine.specs.Runs.{opening}
 use Rattle.sim_machine.specs.Lawful.{Lawful}
 use Rattle.sim_procs.specs.RecordOf.{RecordOf}
-use Rattle.sim_kernel.specs.Same.{SameCalendar}
+use Rattle.sim_happen.specs.Same.{SameCalendar}
 use Rattle.sim_kernel.specs.PartsOf.{PartsOf, plan_of}
 use Rattle.sim_kernel.specs.declared.mode.Unit.{Unit}
 use Rattle.sim_kernel.specs.declared.mode.Unit.TheVariants as unit
@@ -23,7 +23,9 @@ process_of r = record { id = r.id; body = r.body; target = r.target }
 
 -- the open scopes of a process, the outermost first
 abbrev pub scopes_of : {B : Type 0} → ProcId → State B → List Scope
-scopes_of p s = map (λ x. record { request = x.request; res = x.res }) (filter (λ x. is_process x.process p) s.scopes)
+scopes_of p s =
+    map (λ x. record { request = x.request; res = x.res })
+    (filter (λ x. is_process x.process p) s.scopes)
 
 -- the kernel stands for the state: time, events and registrations are those of the state, the entries and the processes
 -- are, in any order, the scopes are those of the records, the generator is that of the seed after the words drawn, and
@@ -47,7 +49,8 @@ abbrev pub StepOf : {B Code : Type 0} → BodyOf B Code → PartsOf B Code → S
 StepOf body parts = IsStep (plan_of body parts) (body.turn parts.code)
 
 -- the kernel stands for some lawful state
-pub record StandsForSome {B Code : Type 0} (body : BodyOf B Code) (parts : PartsOf B Code) : Type 0 where
+pub record StandsForSome {B Code : Type 0}
+    (body : BodyOf B Code) (parts : PartsOf B Code) : Type 0 where
   pub state : State B
   pub lawful : LawfulOf body parts state
   pub stands : StandsFor parts state
@@ -66,12 +69,17 @@ lines_of unit.Quiet = []
 lines_of (unit.Line line) = line ∷ []
 
 -- a step leads from s to a state that the kernel stands for, and adds the line answered
-pub record Later {B Code : Type 0} (step : State B → State B → Type 0) (s : State B) (answer : Unit) (new : PartsOf B Code) : Type 0 where
+pub record Later {B Code : Type 0}
+    (step : State B → State B → Type 0) (s : State B) (answer : Unit)
+    (new : PartsOf B Code) : Type 0 where
   pub state : State B
   pub stepped : step s state
   pub stands : StandsFor new state
   pub lines : state.lines ≡ s.lines ++ lines_of answer
 
 -- so it is from whatever lawful state the kernel stood for
-pub record Moves {B Code : Type 0} (body : BodyOf B Code) (old : PartsOf B Code) (answer : Unit) (new : PartsOf B Code) : Type 0 where
-  pub each : (s : State B) → LawfulOf body old s → StandsFor old s → Later (StepOf body old) s answer new
+pub record Moves {B Code : Type 0}
+    (body : BodyOf B Code) (old : PartsOf B Code) (answer : Unit)
+    (new : PartsOf B Code) : Type 0 where
+  pub each : (s : State B) → LawfulOf body old s → StandsFor old s →
+      Later (StepOf body old) s answer new

@@ -8,7 +8,9 @@ use Rattle.sim_kernel.specs.declared.mode.Unit.{Unit}
 
 -- a step leads from s, a state of the machine that the old kernel was opened with, to a lawful state that the new one
 -- stands for, and adds the line answered
-pub record StepsFrom {B Code : Type 0} (body : BodyOf B Code) (old : PartsOf B Code) (s : State B) (answer : Unit) (new : PartsOf B Code) : Type 0 where
+pub record StepsFrom {B Code : Type 0}
+    (body : BodyOf B Code) (old : PartsOf B Code) (s : State B) (answer : Unit)
+    (new : PartsOf B Code) : Type 0 where
   pub state : State B
   pub stepped : StepOf body old s state
   pub lawful : LawfulOf body new state
@@ -16,5 +18,7 @@ pub record StepsFrom {B Code : Type 0} (body : BodyOf B Code) (old : PartsOf B C
   pub lines : state.lines ≡ s.lines ++ lines_of answer
 
 -- so it is from whatever lawful state the kernel stood for
-pub record MakesStep {B Code : Type 0} (body : BodyOf B Code) (old : PartsOf B Code) (answer : Unit) (new : PartsOf B Code) : Type 0 where
+pub record MakesStep {B Code : Type 0}
+    (body : BodyOf B Code) (old : PartsOf B Code) (answer : Unit)
+    (new : PartsOf B Code) : Type 0 where
   pub each : (s : State B) → LawfulOf body old s → StandsFor old s → StepsFrom body old s answer new

@@ -1,11 +1,9 @@
 //! The kernel: one unit of the machine at a time, for every body, over plain lists.
 #![tactic(auto)]
 
-mod calendar;
 #[cfg(test)]
 mod clock;
 mod draw;
-mod event;
 mod kernel;
 mod mode;
 mod opening;

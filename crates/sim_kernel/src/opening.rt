@@ -1,66 +1,25 @@
-ghost use Rattle.std.specs.Prelude.{◌≡◌, ◌+◌, ◌*◌, ◌<◌, ◌≤◌, ◌^◌, pos, ◌≤ℤ◌, length, IfOk, OnOk, OnErr, IsTrue, None};
-ghost use Rattle.sim_machine.specs.Events.{next_event};
-ghost use Rattle.sim_machine.specs.Triggering.{make};
-ghost use Rattle.sim_machine.specs.Processes.{make_events_of_process};
-ghost use Rattle.sim_machine.specs.Scopes.{on_events};
-ghost use Rattle.sim_machine.specs.Runs.{blank_state, set_stop};
+ghost use Rattle.std.specs.Prelude.{◌≡◌, ◌<◌, ◌≤◌, ◌^◌, pos, ◌≤ℤ◌, length, IfOk, OnOk, OnErr, IsTrue, None};
+ghost use Rattle.sim_machine.specs.Runs.{blank_state};
 ghost use Rattle.sim_machine.specs.Setups.{FitsCode, start_fits, until_fits};
 ghost use Rattle.sim_procs.specs.RecordOf.{record_of};
+ghost use Rattle.sim_happen.specs.CalendarOf.{HasRoom};
+ghost use Rattle.sim_happen.specs.Making.{next_process};
 ghost use Rattle.sim_kernel.specs.Built.{HasBuiltCallbacks};
-ghost use Rattle.sim_kernel.specs.CalendarOf.{HasRoom};
-ghost use Rattle.sim_kernel.specs.Same.{SameCalendar};
 ghost use Rattle.sim_kernel.specs.PartsOf.{IsOpenedAs, plan_of};
 ghost use Rattle.sim_kernel.specs.StandsFor.{StandsFor, StandsForOpening};
 ghost use Rattle.sim_kernel.specs.Holding.{Holds};
-ghost use Rattle.sim_kernel.specs.Opening.{next_process, Begins, IsOpening, Starts, HasMadeStarts, MakesProcess, MakesEvents, SchedulesOne, SetsStop, events_of_starts, KeepsButCalendar, KeepsButProcesses};
+ghost use Rattle.sim_kernel.specs.Opening.{Begins, IsOpening, Starts, HasMadeStarts, MakesEvents, SchedulesOne, SetsStop, events_of_starts, KeepsButCalendar, KeepsButProcesses};
 
-use crate::calendar::Calendar;
 use crate::mode::Mode;
 use crate::parts::Parts;
 use rand_core::SeedableRng;
 use rand_pcg::Pcg64;
+use sim_happen::Calendar;
 use sim_memo::Memo;
 use sim_procs::{Body, Procs};
-use sim_types::{Callback, EventId, EventKind, Outcome, ProcId, Setup, Start, Until};
+use sim_types::{Callback, Setup, Start, Until};
 use std::alloc::{AllocError, Global};
 use std::collections::VecDeque;
-
-/// The priority of what comes first at a time.
-const URGENT: u8 = 0;
-
-impl Calendar {
-    // The event of a process, and its init event, which is urgent and resumes it.
-    fn make_process(&mut self) -> (ProcId, EventId)
-        requires room { HasRoom 2 self.old.room }
-        requires number { self.old.calendar.scheduled < 2 ^ 62 }
-        requires low { pos 0 ≤ℤ self.old.calendar.time }
-        requires high { self.old.calendar.time ≤ℤ pos (2 ^ 62) }
-        ensures process { result.0 ≡ next_process self.old.calendar }
-        ensures init { result.1 ≡ next_event (make EventKind.Process self.old.calendar) }
-        ensures calendar { MakesProcess self.old.calendar self.new.calendar }
-    {
-        let event = self.make(EventKind::Process);
-        let process = ProcId(event.0);
-        let init = self.make(EventKind::Init);
-        self.register(init, Callback::Resume(process));
-        self.schedule(init, Outcome::Ok(0), URGENT, 0);
-        (process, init)
-    }
-
-    // An event that is to stop the run at a time.
-    fn stop_at(&mut self, time: i64)
-        requires room { HasRoom 1 self.old.room }
-        requires number { self.old.calendar.scheduled < 2 ^ 62 }
-        requires at_start { self.old.calendar.time ≡ pos 0 }
-        requires low { pos 0 ≤ℤ time }
-        requires high { time ≤ℤ pos (2 ^ 62) }
-        ensures { SameCalendar self.new.calendar (set_stop (Until.At time) self.old.calendar) }
-    {
-        let stop = self.make(EventKind::Stop);
-        self.register(stop, Callback::Stop);
-        self.schedule(stop, Outcome::Ok(0), URGENT, time);
-    }
-}
 
 impl<B: Body> Parts<B> {
     /// What a kernel has before any process is made.
@@ -165,7 +124,8 @@ impl<B: Body> Parts<B> {
         ensures kept { KeepsButProcesses self.old self.new }
         ensures stands { OnOk result (HasMadeStarts B.body self.old self.new) }
         ensures built { OnOk result (HasBuiltCallbacks self.new) }
-        ensures events { OnOk result (length self.new.calendar.events ≡ events_of_starts setup.now) }
+        ensures events { OnOk result
+            (length self.new.calendar.events ≡ events_of_starts setup.now) }
         ensures scheduled { OnOk result (self.new.calendar.scheduled ≡ length setup.now.starts) }
     {
         for start in setup.starts.as_slice() {

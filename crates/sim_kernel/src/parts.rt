@@ -3,19 +3,19 @@ ghost use Rattle.sim_types.specs.Throws.{negative_delay, time_too_late, empty_ra
 ghost use Rattle.sim_machine.specs.State.{Idle, Calling};
 ghost use Rattle.sim_machine.specs.Processes.{not_active};
 ghost use Rattle.sim_procs.specs.RecordOf.{record_of};
+ghost use Rattle.sim_happen.specs.CalendarOf.{HasRoom};
 ghost use Rattle.sim_kernel.specs.Built.{AsksForBuilt, is_built, HasBuiltCallbacks};
-ghost use Rattle.sim_kernel.specs.CalendarOf.{HasRoom};
 ghost use Rattle.sim_kernel.specs.Resting.{CanStep, rest_in};
 ghost use Rattle.sim_kernel.specs.Polling.{Asks, Pauses, Ends};
 ghost use Rattle.sim_kernel.specs.PartsOf.{HasUnitRoom, IsOpenedAs, IsCalling, IsRunning, IsRunningIn, IsRunningAt};
 ghost use Rattle.sim_kernel.specs.Changes.{settled_to, stopping, resuming, telling, drawing, IfNegative, IfTooLate, IfInTime};
 ghost use Rattle.sim_kernel.specs.StandsFor.{StandsForSome, Moves};
 
-use crate::calendar::Calendar;
 use crate::draw::number_between;
 use crate::mode::{Mode, Rest, Unit};
 use rand_core::utils::NextWord;
 use rand_pcg::Pcg64;
+use sim_happen::Calendar;
 use sim_memo::Memo;
 use sim_procs::{Body, Procs};
 use sim_types::{
@@ -48,7 +48,21 @@ impl<B: Body> Model for Parts<B> {
 
     ghost Value = { PartsOf B B.Code };
 
-    ghost view = { λ a. record { calendar = a.calendar.calendar; processed = a.processed; generator = a.generator; live = a.processes.live; control = control_of a.mode a.left.items; code = a.code.value; setup = a.setup.value; seed = a.seed.value; room = record { calendar = a.calendar.room; left = deque_capacity a.left; processes = a.processes.spare } } };
+    ghost view = { λ a. record {
+      calendar = a.calendar.calendar;
+      processed = a.processed;
+      generator = a.generator;
+      live = a.processes.live;
+      control = control_of a.mode a.left.items;
+      code = a.code.value;
+      setup = a.setup.value;
+      seed = a.seed.value;
+      room = record {
+        calendar = a.calendar.room;
+        left = deque_capacity a.left;
+        processes = a.processes.spare;
+      };
+    } };
 
     ghost invariant = { λ a. NoneLeftIdle a.mode a.left.items };
 }
@@ -161,8 +175,10 @@ impl<B: Body> Parts<B> {
         requires number { self.old.calendar.scheduled < 2 ^ 62 }
         requires low { pos 0 ≤ℤ self.old.calendar.time }
         requires high { self.old.calendar.time ≤ℤ pos (2 ^ 62) }
-        ensures negative { IfNegative delay (self.new ≡ telling (Signal.Raised negative_delay) self.old) }
-        ensures late { IfTooLate delay self.old (self.new ≡ telling (Signal.Raised time_too_late) self.old) }
+        ensures negative { IfNegative delay
+            (self.new ≡ telling (Signal.Raised negative_delay) self.old) }
+        ensures late { IfTooLate delay self.old
+            (self.new ≡ telling (Signal.Raised time_too_late) self.old) }
         ensures made { IfInTime delay self.old (Pauses process delay value self.old self.new) }
         ensures opened { IsOpenedAs self.old self.new }
     {
@@ -183,7 +199,8 @@ impl<B: Body> Parts<B> {
     // The running process draws a number of a range, unless the range is empty.
     fn draw(&mut self, event: EventId, process: ProcId, lo: i64, hi: i64)
         requires running { IsRunningIn event process self.old.control }
-        ensures empty { IsTrue (int_lt hi lo) → self.new ≡ telling (Signal.Raised empty_range) self.old }
+        ensures empty { IsTrue (int_lt hi lo)
+            → self.new ≡ telling (Signal.Raised empty_range) self.old }
         ensures drawn { IsFalse (int_lt hi lo) → self.new ≡ drawing lo hi self.old }
         ensures opened { IsOpenedAs self.old self.new }
     {

@@ -2,7 +2,8 @@
 use Rattle.std.proofs.Common.{◌≡◌, ℤ, pos, ◌+ℤ◌, ◌≤ℤ◌, ◌^◌, w64, FitsSigned, to_z, of_z, arith}
 use Rattle.std.proofs.lemmas.Int.{to_z-of_z, ints}
 
-pub sum_kept : (a b : ℤ) → FitsSigned w64 a → FitsSigned w64 b → FitsSigned w64 (a +ℤ b) → to_z w64 (of_z w64 (to_z w64 (of_z w64 a) +ℤ to_z w64 (of_z w64 b))) ≡ a +ℤ b
+pub sum_kept : (a b : ℤ) → FitsSigned w64 a → FitsSigned w64 b → FitsSigned w64 (a +ℤ b) →
+    to_z w64 (of_z w64 (to_z w64 (of_z w64 a) +ℤ to_z w64 (of_z w64 b))) ≡ a +ℤ b
 sum_kept a b p q r = rw (to_z-of_z w64 a p, to_z-of_z w64 b q) (to_z-of_z w64 (a +ℤ b) r)
 
 -- a time and a delay, both not negative, whose sum is at most the last time

@@ -1,4 +1,4 @@
--- What the kernel keeps of a calendar: all of it, and the agenda in any order.
+-- What the code keeps of a calendar: all of it, and the agenda in any order.
 use Rattle.std.specs.Prelude.{◌≡◌}
 use Rattle.std.specs.List.Sorted.{IsPermutation}
 use Rattle.sim_machine.specs.State.{Calendar}

@@ -5,7 +5,7 @@ ghost use Rattle.sim_machine.specs.Runs.{event_zero};
 use sim_types::{Callback, EventId, EventKind, Outcome};
 use std::marker::Model;
 
-/// An event as the kernel keeps it. Nothing is cancelled yet, and there are no conditions.
+/// An event as the calendar keeps it. Nothing is cancelled yet, and there are no conditions.
 #[derive(Drop)]
 pub(crate) struct Event {
     kind: EventKind,
@@ -20,7 +20,14 @@ impl Model for Event {
 
     ghost Value = { EventOf };
 
-    ghost view = { λ a. record { kind = a.kind; outcome = a.outcome; defused = a.defused; processed = a.processed; cancelled = false; condition = None } };
+    ghost view = { λ a. record {
+      kind = a.kind;
+      outcome = a.outcome;
+      defused = a.defused;
+      processed = a.processed;
+      cancelled = false;
+      condition = None;
+    } };
 }
 
 impl Event {

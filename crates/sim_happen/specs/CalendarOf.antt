@@ -1,4 +1,4 @@
--- What contracts see of the kernel's calendar.
+-- What contracts see of the code's calendar.
 use Rattle.std.specs.Prelude.{◌≡◌, ℕ, ◌≤◌, ◌<◌, ℤ, Bool, true, not, ◌&&◌, filter, length, All}
 use Rattle.sim_types.specs.declared.event.EventId.{EventId}
 use Rattle.sim_types.specs.declared.event.Outcome.{Outcome}
@@ -7,7 +7,7 @@ use Rattle.sim_machine.specs.State.{Calendar}
 use Rattle.sim_machine.specs.Events.{event_at, is_fail, is_same, change_event}
 use Rattle.sim_machine.specs.Triggering.{schedule}
 use Rattle.sim_machine.specs.Steps.{outcome_or_zero, signal_by}
-use Rattle.sim_kernel.specs.Same.{SameCalendar}
+use Rattle.sim_happen.specs.Same.{SameCalendar}
 
 -- how many events, entries and registrations more there is room for
 pub record Room : Type 0 where
@@ -48,11 +48,13 @@ processing event c = change_event event (λ x. record x { processed = true }) c
 
 -- no callback of the event is registered
 abbrev pub unregistering : EventId → Calendar → Calendar
-unregistering event c = record c { registered = filter (λ r. not (is_same r.event event)) c.registered }
+unregistering event c =
+    record c { registered = filter (λ r. not (is_same r.event event)) c.registered }
 
 -- the event gets its outcome and an entry, whatever the order of the agenda
 abbrev pub Schedules : EventId → Outcome → ℕ → ℤ → Calendar → Calendar → Type 0
-Schedules event outcome priority delay old new = SameCalendar new (schedule event outcome priority delay old)
+Schedules event outcome priority delay old new =
+    SameCalendar new (schedule event outcome priority delay old)
 
 -- the event of each entry was made
 abbrev pub AreEntriesMade : Calendar → Type 0

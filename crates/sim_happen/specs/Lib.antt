@@ -1,0 +1,4 @@
+pub mod Same
+pub mod CalendarOf
+pub mod Popping
+pub mod Making
