@@ -13,4 +13,3 @@ pub mod Stopping
 pub mod StartingAll
 pub mod OpeningHolds
 pub mod Units
-pub mod TestSetups

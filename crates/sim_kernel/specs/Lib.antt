@@ -7,5 +7,3 @@ pub mod Resting
 pub mod Holding
 pub mod Opening
 pub mod Stepping
-pub mod Travellers
-pub mod Clocks

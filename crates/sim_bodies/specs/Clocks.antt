@@ -1,4 +1,4 @@
--- A body that the tests run: a clock logs the time and pauses, for ever (SimPy's "SimPy in 10 Minutes" begins with such).
+-- Clocks: each logs the time and pauses, for ever (SimPy's "SimPy in 10 Minutes" begins with such).
 use Rattle.std.specs.Prelude.{◌≡◌, ℤ, pos, refl, true, [], ◌∷◌, Option, Some, None}
 use Rattle.sim_types.specs.declared.event.ProcId.{ProcId}
 use Rattle.sim_types.specs.declared.event.Signal.{Signal}
@@ -31,7 +31,8 @@ tick pace time (Some (op.Log value)) = op.Pause pace (pos 0)
 tick pace time last = op.Log time
 
 abbrev pub IsClockTurn : ℤ → ClockOf → ℤ → Signal → Op → ClockOf → Type 0
-IsClockTurn pace b time x asked d = (asked ≡ tick pace time b.last) × (d ≡ record b { last = Some asked })
+IsClockTurn pace b time x asked d =
+    (asked ≡ tick pace time b.last) × (d ≡ record b { last = Some asked })
 
 -- clocks of a pace
 abbrev pub clock_body : BodyOf ClockOf ℤ
@@ -50,8 +51,17 @@ pub tick_plain : (pace time : ℤ) (last : Option Op) → is_plain (tick pace ti
 tick_plain pace time (Some (op.Log value)) = refl
 tick_plain pace time _ = refl
 
-turn_plain : (pace : ℤ) (b : ClockOf) (time : ℤ) (x : Signal) (asked : Op) (d : ClockOf) → IsClockTurn pace b time x asked d → PollsPlain (λ c. c.own) (λ c. c.last) b asked d
-turn_plain pace b time x asked d turned = record { plain = rw turned.0 (tick_plain pace time b.last); same = rw turned.1 refl; asks_last = rw turned.1 refl }
+turn_plain : (pace : ℤ) (b : ClockOf) (time : ℤ) (x : Signal) (asked : Op) (d : ClockOf) →
+    IsClockTurn pace b time x asked d → PollsPlain (λ c. c.own) (λ c. c.last) b asked d
+turn_plain pace b time x asked d turned = record {
+  plain = rw turned.0 (tick_plain pace time b.last);
+  same = rw turned.1 refl;
+  asks_last = rw turned.1 refl;
+}
 
-pub clock_lawful : (pace : ℤ) → IsLawfulBody clock_facts clock_tells (IsPlainBody (λ b. b.last)) (start_of clock_body pace) (IsClockTurn pace)
-clock_lawful pace = plain_lawful clock_facts _ _ _ (IsClockTurn pace) (λ k args p. record { numbered = refl; unpolled = refl }) (turn_plain pace)
+pub clock_lawful : (pace : ℤ) →
+    IsLawfulBody clock_facts clock_tells (IsPlainBody (λ b. b.last)) (start_of clock_body pace)
+    (IsClockTurn pace)
+clock_lawful pace =
+    plain_lawful clock_facts _ _ _ (IsClockTurn pace)
+    (λ k args p. record { numbered = refl; unpolled = refl }) (turn_plain pace)

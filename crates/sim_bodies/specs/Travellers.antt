@@ -1,10 +1,11 @@
--- A body that the tests run: a traveller pauses, draws a number or does nothing, logs what it was told, and ends.
+-- Travellers: each pauses, draws a number or does nothing, logs what it was told, and ends.
 use Rattle.std.specs.Prelude.{◌≡◌, ℕ, zero, suc, ℤ, pos, refl, true, List, [], ◌∷◌, slice_index_or, Option, Some, None}
 use Rattle.sim_types.specs.declared.event.ProcId.{ProcId}
 use Rattle.sim_types.specs.declared.event.Signal.{Signal}
 use Rattle.sim_types.specs.declared.event.Signal.TheVariants as signal
 use Rattle.sim_types.specs.declared.op.Op.{Op}
 use Rattle.sim_types.specs.declared.op.Op.TheVariants as op
+use Rattle.sim_types.specs.declared.setup.Class.{Class}
 use Rattle.sim_types.specs.declared.setup.Class.TheVariants as class
 use Rattle.sim_machine.specs.Tellings.{CodeFacts, Telling}
 use Rattle.sim_machine.specs.Bodies.{BodyOf, start_of}
@@ -19,22 +20,29 @@ pub record TravellerOf : Type 0 where
   pub second : ℤ
   pub last : Option Op
 
+abbrev pub two_numbers : List Class
+two_numbers = class.Number ∷ class.Number ∷ []
+
 -- three kinds, each of which is given two numbers
 abbrev pub traveller_facts : CodeFacts
-traveller_facts =
-    record {
-      params = (class.Number ∷ class.Number ∷ []) ∷ (class.Number ∷ class.Number ∷ []) ∷ (class.Number ∷ class.Number ∷ []) ∷ [];
-      named = 0;
-      resources = [];
-    }
+traveller_facts = record {
+  params = two_numbers ∷ two_numbers ∷ two_numbers ∷ [];
+  named = 0;
+  resources = [];
+}
 
 abbrev pub traveller_tells : Telling TravellerOf
 traveller_tells = plain_tells (λ b. b.own) (λ b. b.last)
 
 -- before it is told its number
 abbrev pub begun_traveller : ℕ → List ℤ → TravellerOf
-begun_traveller kind args =
-    record { own = record { 0 = 0 }; kind = kind; first = slice_index_or args 0 (pos 0); second = slice_index_or args 1 (pos 0); last = None }
+begun_traveller kind args = record {
+  own = record { 0 = 0 };
+  kind = kind;
+  first = slice_index_or args 0 (pos 0);
+  second = slice_index_or args 1 (pos 0);
+  last = None;
+}
 
 -- the number in what it was told
 abbrev pub heard : Signal → ℤ
@@ -88,7 +96,8 @@ arrives_plain : (kind : ℕ) (second : ℤ) → is_plain (arrives kind second) �
 arrives_plain (suc (suc zero)) second = refl
 arrives_plain _ second = refl
 
-next_plain : (b : TravellerOf) (x : Signal) (last : Option Op) → is_plain (next_of (record b { last = last }) x) ≡ true
+next_plain : (b : TravellerOf) (x : Signal) (last : Option Op) →
+    is_plain (next_of (record b { last = last }) x) ≡ true
 next_plain b x None = sets_out_plain b.kind b.first b.second
 next_plain b x (Some (op.Log value)) = arrives_plain b.kind b.second
 next_plain b x (Some _) = refl
@@ -96,8 +105,17 @@ next_plain b x (Some _) = refl
 pub next_is_plain : (b : TravellerOf) (x : Signal) → is_plain (next_of b x) ≡ true
 next_is_plain b x = next_plain b x b.last
 
-turn_plain : (b : TravellerOf) (time : ℤ) (x : Signal) (asked : Op) (d : TravellerOf) → IsTravellerTurn b time x asked d → PollsPlain (λ c. c.own) (λ c. c.last) b asked d
-turn_plain b time x asked d turned = record { plain = rw turned.0 (next_is_plain b x); same = rw turned.1 refl; asks_last = rw turned.1 refl }
+turn_plain : (b : TravellerOf) (time : ℤ) (x : Signal) (asked : Op) (d : TravellerOf) →
+    IsTravellerTurn b time x asked d → PollsPlain (λ c. c.own) (λ c. c.last) b asked d
+turn_plain b time x asked d turned = record {
+  plain = rw turned.0 (next_is_plain b x);
+  same = rw turned.1 refl;
+  asks_last = rw turned.1 refl;
+}
 
-pub traveller_lawful : {Code : Type 0} (code : Code) → IsLawfulBody traveller_facts traveller_tells (IsPlainBody (λ b. b.last)) (start_of traveller_body code) IsTravellerTurn
-traveller_lawful code = plain_lawful traveller_facts _ _ _ IsTravellerTurn (λ k args p. record { numbered = refl; unpolled = refl }) turn_plain
+pub traveller_lawful : {Code : Type 0} (code : Code) →
+    IsLawfulBody traveller_facts traveller_tells (IsPlainBody (λ b. b.last))
+    (start_of traveller_body code) IsTravellerTurn
+traveller_lawful code =
+    plain_lawful traveller_facts _ _ _ IsTravellerTurn
+    (λ k args p. record { numbered = refl; unpolled = refl }) turn_plain

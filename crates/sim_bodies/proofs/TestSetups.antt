@@ -9,9 +9,9 @@ use Rattle.sim_types.specs.declared.op.Op.{Op}
 use Rattle.sim_types.specs.declared.op.Op.TheVariants as op
 use Rattle.sim_machine_law.proofs.PlainBodies.{is_plain}
 use Rattle.sim_machine.specs.Setups.{FitsCode, start_fits, until_fits, resource_fits, port_fits}
-use Rattle.sim_kernel.specs.Travellers.{traveller_facts, traveller_body, next_is_plain}
-use Rattle.sim_kernel.specs.Clocks.{clock_facts, clock_body, tick_plain}
 use Rattle.sim_kernel.specs.Built.{AsksForBuilt, is_built}
+use Rattle.sim_bodies.specs.Travellers.{traveller_facts, traveller_body, next_is_plain}
+use Rattle.sim_bodies.specs.Clocks.{clock_facts, clock_body, tick_plain}
 
 plain_built : (asked : Op) → is_plain asked ≡ true → IsTrue (is_built asked)
 plain_built op.Nop h = refl
@@ -23,7 +23,8 @@ plain_built (op.Die t) h = refl
 plain_built _ h = absurd cc
 
 -- a setup with such starts
-pub land_fits : (until : Until) (starts : List Start) → IsTrue (until_fits 0 until) → length starts ≤ 65536 → AllPass (start_fits traveller_facts) starts → FitsCode traveller_facts (record { until = until; events = 0; resources = []; ports = []; starts = starts })
+pub land_fits : (until : Until) (starts : List Start) → IsTrue (until_fits 0 until) → length starts ≤ 65536 → AllPass (start_fits traveller_facts) starts →
+    FitsCode traveller_facts (record { until = until; events = 0; resources = []; ports = []; starts = starts })
 land_fits until starts fits few pass =
     record {
       until = fits;
@@ -46,7 +47,8 @@ pub clocks_ask_for_built : (pace : ℤ) → AsksForBuilt clock_body pace
 clocks_ask_for_built pace = record { asks = λ b time told asked later sound turned. rw turned.0 (plain_built _ (tick_plain pace time b.last)) }
 
 -- a setup with one clock
-pub clock_start_fits : FitsCode clock_facts (record { until = until.Never; events = 0; resources = []; ports = []; starts = record { kind = 0; args = [] } ∷ [] })
+pub clock_start_fits :
+    FitsCode clock_facts (record { until = until.Never; events = 0; resources = []; ports = []; starts = record { kind = 0; args = [] } ∷ [] })
 clock_start_fits =
     record {
       until = refl;

@@ -1,8 +1,8 @@
 use Rattle.std.specs.Prelude.{◌≡◌, length}
 use Rattle.std.specs.List.{AllPass}
 use Rattle.sim_machine.specs.Setups.{start_fits}
-use Rattle.sim_kernel.specs.Travellers.{traveller_facts}
-use Rattle.sim_kernel.proofs.tests.land_starts.Given as goal
+use Rattle.sim_bodies.specs.Travellers.{traveller_facts}
+use Rattle.sim_bodies.proofs.tests.land_starts.Given as goal
 
 -- the starts so far fit
 abbrev pub invariant-loop-kind : goal.invariant-loop-kind

@@ -2,14 +2,13 @@ ghost use Rattle.std.specs.Prelude.{◌≡◌, ◌<◌, ◌≤◌, IfOk, IsTrue,
 ghost use Rattle.std.specs.List.{AllPass};
 ghost use Rattle.sim_machine.specs.Setups.{FitsCode, start_fits, until_fits};
 ghost use Rattle.sim_kernel.specs.Built.{AsksForBuilt};
-ghost use Rattle.sim_kernel.specs.Travellers.{traveller_facts};
+ghost use Rattle.sim_bodies.specs.Travellers.{traveller_facts};
 
-use crate::clock::{Clock, Pace};
-use crate::traveller::{Land, Traveller};
-use crate::{Kernel, Rest, Unit};
+use crate::{Clock, Land, Pace, Traveller};
 use rand_core::SeedableRng;
 use rand_core::utils::NextWord;
 use rand_pcg::Pcg64;
+use sim_kernel::{Kernel, Rest, Unit};
 use sim_procs::Body;
 use sim_types::{
     Args, End, EventId, EventKind, Line, List, Outcome, ProcId, Setup, Start, Throw, Until,

@@ -1,4 +1,4 @@
-//! Clocks: bodies for tests.
+//! Clocks: the smallest body that goes on for ever.
 use crate::traveller::again;
 use sim_machine::LawfulBody;
 use sim_procs::Body;
@@ -6,10 +6,12 @@ use sim_types::{Args, EventId, Op, ProcId, Signal};
 use std::alloc::{AllocError, Global};
 use std::marker::Model;
 
-/// How long the clocks pause.
+/// The code of clocks: how long they pause.
 #[derive(Drop)]
-pub(crate) struct Pace {
-    pub(crate) delay: i64,
+pub struct Pace {
+    /// How many units of time they pause. Where that is negative or leads past the last time, the machine refuses the pause,
+    /// and the clock goes on at once.
+    pub delay: i64,
 }
 
 impl Model for Pace {
@@ -22,13 +24,13 @@ impl Model for Pace {
 
 /// It logs the time and pauses, for ever.
 #[derive(Drop)]
-pub(crate) struct Clock {
+pub struct Clock {
     own: ProcId,
     last: Option<Op>,
 }
 
 impl Model for Clock {
-    ghost use Rattle.sim_kernel.specs.Clocks.{ClockOf};
+    ghost use Rattle.sim_bodies.specs.Clocks.{ClockOf};
 
     ghost Value = { ClockOf };
 
@@ -36,7 +38,7 @@ impl Model for Clock {
 }
 
 impl LawfulBody for Clock {
-    ghost use Rattle.sim_kernel.specs.Clocks.{clock_body, clock_lawful};
+    ghost use Rattle.sim_bodies.specs.Clocks.{clock_body, clock_lawful};
 
     type Code = Pace;
 

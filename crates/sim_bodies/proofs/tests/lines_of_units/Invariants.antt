@@ -1,5 +1,5 @@
 use Rattle.std.specs.Prelude.{◌≡◌, ◌≤◌}
-use Rattle.sim_kernel.proofs.tests.lines_of_units.Given as goal
+use Rattle.sim_bodies.proofs.tests.lines_of_units.Given as goal
 
 -- the kernel keeps its code, and has made at most a unit a turn
 abbrev pub invariant-loop-unit : goal.invariant-loop-unit

@@ -1,7 +1,7 @@
-//! Travellers: bodies for tests.
+//! Travellers: a body of three kinds, which ends.
 ghost use Rattle.std.specs.Prelude.{◌≡◌, [], ◌∷◌, IsTrue, pos, slice_index_or};
 ghost use Rattle.sim_machine_law.proofs.PlainBodies.{is_plain};
-ghost use Rattle.sim_kernel.specs.Travellers.{heard};
+ghost use Rattle.sim_bodies.specs.Travellers.{heard};
 
 use sim_machine::LawfulBody;
 use sim_procs::Body;
@@ -9,13 +9,15 @@ use sim_types::{Args, EventId, Op, ProcId, Signal, Throw};
 use std::alloc::{AllocError, Global};
 use std::marker::Model;
 
-/// The land in which travellers are under way.
+/// The code of travellers: the land in which they are under way. It has nothing.
 #[derive(Drop)]
-pub(crate) struct Land {}
+pub struct Land {}
 
-/// It pauses, draws a number or does nothing, logs what it was told, and ends.
+/// It is given two numbers. One of kind 0 pauses for the first of them and is told the second; one of kind 1 draws a number
+/// from the first to the second; one of kind 2 does nothing. Then it logs the number that it was told, and ends: with the
+/// second number as its value, or of kind 2 by a throw of kind 1 with that value.
 #[derive(Drop)]
-pub(crate) struct Traveller {
+pub struct Traveller {
     own: ProcId,
     kind: u32,
     first: i64,
@@ -24,15 +26,21 @@ pub(crate) struct Traveller {
 }
 
 impl Model for Traveller {
-    ghost use Rattle.sim_kernel.specs.Travellers.{TravellerOf};
+    ghost use Rattle.sim_bodies.specs.Travellers.{TravellerOf};
 
     ghost Value = { TravellerOf };
 
-    ghost view = { λ a. record { own = a.own; kind = a.kind; first = a.first; second = a.second; last = a.last } };
+    ghost view = { λ a. record {
+      own = a.own;
+      kind = a.kind;
+      first = a.first;
+      second = a.second;
+      last = a.last;
+    } };
 }
 
 impl LawfulBody for Traveller {
-    ghost use Rattle.sim_kernel.specs.Travellers.{traveller_body, traveller_lawful};
+    ghost use Rattle.sim_bodies.specs.Travellers.{traveller_body, traveller_lawful};
 
     type Code = Land;
 
@@ -86,7 +94,7 @@ impl Body for Traveller {
 }
 
 impl Traveller {
-    ghost use Rattle.sim_kernel.specs.Travellers.{next_of};
+    ghost use Rattle.sim_bodies.specs.Travellers.{next_of};
 
     // What it asks for next.
     #[tactic(auto, using(crate::specs::Travellers::next_is_plain))]

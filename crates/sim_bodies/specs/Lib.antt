@@ -1,0 +1,2 @@
+pub mod Travellers
+pub mod Clocks
