@@ -4,6 +4,8 @@
 
 mod clock;
 #[cfg(test)]
+mod laws;
+#[cfg(test)]
 mod tests;
 mod traveller;
 

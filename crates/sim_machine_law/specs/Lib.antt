@@ -3,6 +3,5 @@ pub mod LawfulRuns
 pub mod Desks
 pub mod Stocks
 pub mod Members
-pub mod IdleBodies
 pub mod NamedEvents
 pub mod ReachedEvents

@@ -12,8 +12,6 @@ mod laws;
 mod limits;
 mod runs;
 mod stores;
-#[cfg(test)]
-mod tests;
 mod units;
 
 pub use cancels::{cancelled_waiters, left_scopes};
