@@ -2,7 +2,5 @@
 #![tactic(auto)]
 
 mod agenda;
-#[cfg(test)]
-mod tests;
 
 pub use agenda::Agenda;

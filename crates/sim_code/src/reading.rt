@@ -105,6 +105,3 @@ fn fault(line: u32, kind: FaultKind) -> ReadError
 {
     ReadError::Fault(Fault { line, kind })
 }
-
-#[cfg(test)]
-mod tests;

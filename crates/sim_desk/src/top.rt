@@ -161,6 +161,3 @@ fn status_of_end(end: End) -> Status
         End::Limit => Status::Limit,
     }
 }
-
-#[cfg(test)]
-mod tests;

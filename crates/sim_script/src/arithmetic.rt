@@ -32,6 +32,3 @@ fn divided(number: Option<i64>, divisor: i64) -> Result<i64, u8>
     let error = if divisor == 0 { ZERO_DIVISOR } else { OVERFLOW };
     number.ok_or(error)
 }
-
-#[cfg(test)]
-mod tests;

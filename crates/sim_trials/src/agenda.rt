@@ -1,4 +1,5 @@
-use crate::Agenda;
+//! The agenda.
+use sim_agenda::Agenda;
 use sim_types::{Entry, EventId, Key};
 use std::test::Fail;
 

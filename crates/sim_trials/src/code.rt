@@ -1,6 +1,8 @@
 //! What texts say.
-use super::*;
-use sim_types::{Kind, Num, Start, Stmt};
+use sim_code::read;
+use sim_scenario::Scenario;
+use sim_types::{Class, Kind, Num, Start, Stmt};
+use std::alloc::Global;
 use std::test::Fail;
 
 /// The scenario that the text says.

@@ -1,9 +1,13 @@
+//! Whole answers by the top call, however the text comes in and however little room there is.
 ghost use Rattle.std.specs.Prelude.{◌<◌};
 
-use super::*;
-use sim_outside::{MemSink, MemSource};
+use sim_command::{Status, Word};
+use sim_desk::desk;
+use sim_outside::{MemSink, MemSource, Source};
 use sim_types::List;
+use std::alloc::Global;
 use std::test::Fail;
+use std::thread::Threads;
 
 /// Room for each whole answer of these tests.
 const ENOUGH: u64 = 1000;

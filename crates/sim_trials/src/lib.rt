@@ -1,0 +1,18 @@
+//! Public calls, tried where memory is ample: that they succeed there, and that devices really read, write, flush and fail, is
+//! in no clause. A file has the trials of one crate, or of a part of it.
+#![tactic(auto)]
+
+#[cfg(test)]
+mod agenda;
+#[cfg(test)]
+mod code;
+#[cfg(test)]
+mod desk;
+#[cfg(test)]
+mod devices;
+#[cfg(test)]
+mod sinks;
+#[cfg(test)]
+mod sources;
+#[cfg(test)]
+mod trace;
