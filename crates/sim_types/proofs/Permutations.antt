@@ -25,7 +25,8 @@ exchanged_later x (z ∷ zs) (suc k) d h =
     (joined _ (z ∷ y ∷ slice_set zs k x) _ (more z (x ∷ zs) (y ∷ slice_set zs k x) (exchanged_later x zs k d (omega (arith, h)))) (exchanged z y (slice_set zs k x)))
 
 -- two elements are exchanged
-exchanged_at : {X : Type 0} (xs : List X) (i j : ℕ) (d : X) → i < length xs → j < length xs → Rearranged xs (slice_set (slice_set xs i (slice_index_or xs j d)) j (slice_index_or xs i d))
+exchanged_at : {X : Type 0} (xs : List X) (i j : ℕ) (d : X) → i < length xs → j < length xs
+    → Rearranged xs (slice_set (slice_set xs i (slice_index_or xs j d)) j (slice_index_or xs i d))
 exchanged_at [] i j d h k = absurd (omega (arith, h))
 exchanged_at (x ∷ xs) zero zero d h k = same (x ∷ xs)
 exchanged_at (x ∷ xs) zero (suc j) d h k = exchanged_later x xs j d (omega (arith, k))
@@ -46,11 +47,15 @@ permuted xs ys (more x us vs h) = IsPermutation-cons x us vs (permuted us vs h)
 permuted xs ys (exchanged x y zs) = IsPermutation-swap (x ∷ y ∷ zs) (y ∷ x ∷ zs) 0 1 (omega arith) (omega arith) refl
 permuted xs ys (joined us vs ws h k) = IsPermutation-trans us vs ws (permuted us vs h) (permuted vs ws k)
 
-filter_more : {X : Type 0} (test : X → Bool) (x : X) (xs ys : List X) (b : Bool) → Rearranged (filter test xs) (filter test ys) → Rearranged (cond b (x ∷ filter test xs) (filter test xs)) (cond b (x ∷ filter test ys) (filter test ys))
+filter_more : {X : Type 0} (test : X → Bool) (x : X) (xs ys : List X) (b : Bool)
+    → Rearranged (filter test xs) (filter test ys)
+    → Rearranged (cond b (x ∷ filter test xs) (filter test xs)) (cond b (x ∷ filter test ys) (filter test ys))
 filter_more test x xs ys true h = more x _ _ h
 filter_more test x xs ys false h = h
 
-filter_exchanged : {X : Type 0} (x y : X) (zs : List X) (a b : Bool) → Rearranged (cond a (x ∷ cond b (y ∷ zs) zs) (cond b (y ∷ zs) zs)) (cond b (y ∷ cond a (x ∷ zs) zs) (cond a (x ∷ zs) zs))
+filter_exchanged : {X : Type 0} (x y : X) (zs : List X) (a b : Bool)
+    → Rearranged (cond a (x ∷ cond b (y ∷ zs) zs) (cond b (y ∷ zs) zs))
+    (cond b (y ∷ cond a (x ∷ zs) zs) (cond a (x ∷ zs) zs))
 filter_exchanged x y zs true true = exchanged x y zs
 filter_exchanged x y zs true false = same (x ∷ zs)
 filter_exchanged x y zs false true = same (y ∷ zs)
@@ -86,14 +91,16 @@ pairs_rearranged R turned xs ys (exchanged x y zs) h =
 pairs_rearranged R turned xs ys (joined us vs ws r q) h = pairs_rearranged R turned vs ws q (pairs_rearranged R turned us vs r h)
 
 -- what holds of each two elements, in either order, holds of each two in another order
-pub AllPairs-IsPermutation : {X : Type 0} (R : X → X → Type 0) (turned : (x y : X) → R x y → R y x) (xs ys : List X) → IsPermutation xs ys → AllPairs R xs → AllPairs R ys
+pub AllPairs-IsPermutation : {X : Type 0} (R : X → X → Type 0) (turned : (x y : X) → R x y → R y x) (xs ys : List X)
+    → IsPermutation xs ys → AllPairs R xs → AllPairs R ys
 AllPairs-IsPermutation R turned xs ys h pairs = pairs_rearranged R turned xs ys (rearranged xs ys h) pairs
 
 -- no two elements have the same number
 abbrev pub Differ : {X : Type 0} → (X → ℕ) → X → X → Type 0
 Differ key x y = key x ≢ key y
 
-find_exchanged : {X : Type 0} (x y : X) (o : Option X) (a b : Bool) → (a ≡ true → b ≡ true → ⊥) → cond a (Some x) (cond b (Some y) o) ≡ cond b (Some y) (cond a (Some x) o)
+find_exchanged : {X : Type 0} (x y : X) (o : Option X) (a b : Bool) → (a ≡ true → b ≡ true → ⊥)
+    → cond a (Some x) (cond b (Some y) o) ≡ cond b (Some y) (cond a (Some x) o)
 find_exchanged x y o true true h = absurd (h refl refl)
 find_exchanged x y o true false h = refl
 find_exchanged x y o false true h = refl
@@ -102,7 +109,8 @@ find_exchanged x y o false false h = refl
 both_pass : (a b n : ℕ) → (a == n) ≡ true → (b == n) ≡ true → a ≡ b
 both_pass a b n p q = grind (arith, nat_tests)
 
-find_rearranged : {X : Type 0} (key : X → ℕ) (n : ℕ) (xs ys : List X) → Rearranged xs ys → AllPairs (Differ key) xs → find (λ x. key x == n) xs ≡ find (λ x. key x == n) ys
+find_rearranged : {X : Type 0} (key : X → ℕ) (n : ℕ) (xs ys : List X) → Rearranged xs ys → AllPairs (Differ key) xs
+    → find (λ x. key x == n) xs ≡ find (λ x. key x == n) ys
 find_rearranged key n xs ys (same zs) h = refl
 find_rearranged key n xs ys (more x us vs r) h = ap (λ o. cond (key x == n) (Some x) o) (find_rearranged key n us vs r (AllPairs-tail (Differ key) x us h))
 find_rearranged key n xs ys (exchanged x y zs) h =
@@ -112,7 +120,8 @@ find_rearranged key n xs ys (joined us vs ws r q) h =
     find_rearranged key n us vs r h ∙ find_rearranged key n vs ws q (pairs_rearranged (Differ key) (λ x y d. λ e. d (sym e)) us vs r h)
 
 -- the element of a number is found in any order
-pub find-IsPermutation : {X : Type 0} (key : X → ℕ) (n : ℕ) (xs ys : List X) → IsPermutation xs ys → AllPairs (Differ key) xs → find (λ x. key x == n) xs ≡ find (λ x. key x == n) ys
+pub find-IsPermutation : {X : Type 0} (key : X → ℕ) (n : ℕ) (xs ys : List X) → IsPermutation xs ys → AllPairs (Differ key) xs
+    → find (λ x. key x == n) xs ≡ find (λ x. key x == n) ys
 find-IsPermutation key n xs ys h pairs = find_rearranged key n xs ys (rearranged xs ys h) pairs
 
 eqb_true : (a b : ℕ) → (a == b) ≡ true → a ≡ b
@@ -133,7 +142,8 @@ kept_by key x [] h = refl
 kept_by key x (y ∷ ys) h = kept_first (key y == key x) (λ e. All-head (Differ key x) y ys h (sym (eqb_true (key y) (key x) e))) (kept_by key x ys (All-tail (Differ key x) y ys h))
 
 -- without the element of this number there are the others
-pub IsPermutation-without : {X : Type 0} (key : X → ℕ) (x : X) (xs ys : List X) → AllPairs (Differ key) xs → IsPermutation xs (x ∷ ys) → IsPermutation (filter (λ y. not (key y == key x)) xs) ys
+pub IsPermutation-without : {X : Type 0} (key : X → ℕ) (x : X) (xs ys : List X) → AllPairs (Differ key) xs
+    → IsPermutation xs (x ∷ ys) → IsPermutation (filter (λ y. not (key y == key x)) xs) ys
 IsPermutation-without {X} key x xs ys pairs h =
     let others : All (Differ key x) ys = AllPairs-head (Differ key) x ys (AllPairs-IsPermutation (Differ key) (λ a b d. λ e. d (sym e)) xs (x ∷ ys) h pairs) in
     let P : List X → Type 0 = λ zs. IsPermutation (filter (λ y. not (key y == key x)) xs) zs in
