@@ -32,7 +32,8 @@ none_has p (x ∷ xs) h =
 pub added : {B : Type 0} (x : RecordOf B) (xs : List (RecordOf B)) → IsPermutation (x ∷ xs) (xs ++ x ∷ [])
 added x xs = IsPermutation-sym _ _ (IsPermutation-to_front xs x)
 
-pub added_apart : {B : Type 0} (x : RecordOf B) (xs : List (RecordOf B)) → AllPairs HasOtherId xs → record_of x.id xs ≡ None → AllPairs HasOtherId (xs ++ x ∷ [])
+pub added_apart : {B : Type 0} (x : RecordOf B) (xs : List (RecordOf B)) → AllPairs HasOtherId xs → record_of x.id xs ≡ None
+    → AllPairs HasOtherId (xs ++ x ∷ [])
 added_apart x xs apart new =
     AllPairs-IsPermutation HasOtherId (λ a b d. λ e. d (sym e)) (x ∷ xs) (xs ++ x ∷ []) (added x xs)
     (AllPairs-cons HasOtherId x xs (All-weaker (λ r. r.id.0 ≢ x.id.0) (HasOtherId x) (λ r d. λ e. d (sym e)) xs (none_has x.id xs new)) apart)
@@ -63,7 +64,10 @@ first_stands p x xs same apart =
       changed = λ change. kept_first x.id.0 p.0 (change x) x same (unchanged p change xs others);
     }
 
-set_by_get : {B : Type 0} (x : RecordOf B) (xs : List (RecordOf B)) (i : ℕ) (change : RecordOf B → RecordOf B) (o : Option (RecordOf B)) (r : RecordOf B) → o ≡ Some r → x ∷ elim o [ None ↦ xs | Some y ↦ slice_set xs i (change y) ] ≡ elim o [ None ↦ x ∷ xs | Some y ↦ x ∷ slice_set xs i (change y) ]
+set_by_get : {B : Type 0} (x : RecordOf B) (xs : List (RecordOf B)) (i : ℕ) (change : RecordOf B → RecordOf B)
+    (o : Option (RecordOf B)) (r : RecordOf B) → o ≡ Some r
+    → x ∷ elim o [ None ↦ xs | Some y ↦ slice_set xs i (change y) ]
+    ≡ elim o [ None ↦ x ∷ xs | Some y ↦ x ∷ slice_set xs i (change y) ]
 set_by_get x xs i change o r h = rw h refl
 
 later_stands : {B : Type 0} (p : ProcId) (x : RecordOf B) (xs : List (RecordOf B)) (i : ℕ) → x.id.0 ≢ p.0 → StandsAt p xs i → StandsAt p (x ∷ xs) (suc i)
@@ -80,7 +84,10 @@ counts_none a b n h = grind (arith, nat_tests)
 counts_more : (a b n : ℕ) → a ≢ b → cond (not (a == b)) (1 + n) 0 ≡ suc n
 counts_more a b n h = grind (arith, nat_tests)
 
-place_more : {B : Type 0} (p : ProcId) (x : RecordOf B) (xs : List (RecordOf B)) (n m : ℕ) → AllPairs HasOtherId (x ∷ xs) → n ≡ cond (not (x.id.0 == p.0)) (1 + m) 0 → (m < length xs → StandsAt p xs m) × (length xs ≤ m → record_of p xs ≡ None) → (x.id.0 ≡ p.0) ⊎ (x.id.0 ≢ p.0) → (n < suc (length xs) → StandsAt p (x ∷ xs) n) × (suc (length xs) ≤ n → record_of p (x ∷ xs) ≡ None)
+place_more : {B : Type 0} (p : ProcId) (x : RecordOf B) (xs : List (RecordOf B)) (n m : ℕ) → AllPairs HasOtherId (x ∷ xs)
+    → n ≡ cond (not (x.id.0 == p.0)) (1 + m) 0 → (m < length xs → StandsAt p xs m) × (length xs ≤ m → record_of p xs ≡ None)
+    → (x.id.0 ≡ p.0) ⊎ (x.id.0 ≢ p.0)
+    → (n < suc (length xs) → StandsAt p (x ∷ xs) n) × (suc (length xs) ≤ n → record_of p (x ∷ xs) ≡ None)
 place_more p x xs n m apart h later (inl same) =
     let none : n ≡ 0 = h ∙ counts_none x.id.0 p.0 m same in
     (λ below. rw none (first_stands p x xs same apart), λ past. absurd (omega (arith, past, none)))
@@ -89,32 +96,40 @@ place_more p x xs n m apart h later (inr differ) =
     (λ below. rw more (later_stands p x xs m differ (later.0 (omega (arith, below, more)))), λ past. skips x.id.0 p.0 differ (record_of p xs) x ∙ later.1 (omega (arith, past, more)))
 
 -- the place of the first record with the number, or the end
-place_or_end : {B : Type 0} (p : ProcId) (xs : List (RecordOf B)) (n : ℕ) → AllPairs HasOtherId xs → n ≡ position_or_len (λ r. r.id.0 == p.0) xs → (n < length xs → StandsAt p xs n) × (length xs ≤ n → record_of p xs ≡ None)
+place_or_end : {B : Type 0} (p : ProcId) (xs : List (RecordOf B)) (n : ℕ) → AllPairs HasOtherId xs
+    → n ≡ position_or_len (λ r. r.id.0 == p.0) xs
+    → (n < length xs → StandsAt p xs n) × (length xs ≤ n → record_of p xs ≡ None)
 place_or_end p [] n apart h = (λ below. absurd (omega (arith, below)), λ past. refl)
 place_or_end p (x ∷ xs) n apart h =
     let m = position_or_len (λ r. r.id.0 == p.0) xs in
     place_more p x xs n m apart h (place_or_end p xs m (AllPairs-tail HasOtherId x xs apart) refl) (cases_eq x.id.0 p.0)
 
-by_test : {B : Type 0} (p : ProcId) (xs : List (RecordOf B)) (n : ℕ) (b : Bool) → nat_lt n (length xs) ≡ b → (n < length xs → StandsAt p xs n) × (length xs ≤ n → record_of p xs ≡ None) → MatchOption (cond b (Some n) None) (record_of p xs ≡ None) (λ i. StandsAt p xs i)
+by_test : {B : Type 0} (p : ProcId) (xs : List (RecordOf B)) (n : ℕ) (b : Bool) → nat_lt n (length xs) ≡ b
+    → (n < length xs → StandsAt p xs n) × (length xs ≤ n → record_of p xs ≡ None)
+    → MatchOption (cond b (Some n) None) (record_of p xs ≡ None) (λ i. StandsAt p xs i)
 by_test p xs n true h f = f.0 (grind (arith, nat_tests, h))
 by_test p xs n false h f = f.1 (grind (arith, nat_tests, h))
 
 -- the record of a process stands at the first place with its number, if there is one
-pub found_at : {B : Type 0} (p : ProcId) (xs : List (RecordOf B)) (o : Option ℕ) → AllPairs HasOtherId xs → o ≡ position (λ r. r.id.0 == p.0) xs → MatchOption o (record_of p xs ≡ None) (λ i. StandsAt p xs i)
+pub found_at : {B : Type 0} (p : ProcId) (xs : List (RecordOf B)) (o : Option ℕ) → AllPairs HasOtherId xs
+    → o ≡ position (λ r. r.id.0 == p.0) xs → MatchOption o (record_of p xs ≡ None) (λ i. StandsAt p xs i)
 found_at p xs o apart h =
     let n = position_or_len (λ r. r.id.0 == p.0) xs in
     rw h (by_test p xs n (nat_lt n (length xs)) refl (place_or_end p xs n apart refl))
 
 -- a process that is not alive has no record to change
-pub unchanged_where_none : {B : Type 0} (p : ProcId) (change : RecordOf B → RecordOf B) (xs : List (RecordOf B)) → record_of p xs ≡ None → change_record p change xs ≡ xs
+pub unchanged_where_none : {B : Type 0} (p : ProcId) (change : RecordOf B → RecordOf B) (xs : List (RecordOf B))
+    → record_of p xs ≡ None → change_record p change xs ≡ xs
 unchanged_where_none p change xs h = unchanged p change xs (none_has p xs h)
 
 -- ---- one that is taken out
 
-pub taken : {B : Type 0} (xs : List (RecordOf B)) (i : ℕ) (x : RecordOf B) → i < length xs → x ≡ slice_index_or xs i x → IsPermutation xs (x ∷ swap_remove xs i x)
+pub taken : {B : Type 0} (xs : List (RecordOf B)) (i : ℕ) (x : RecordOf B) → i < length xs → x ≡ slice_index_or xs i x
+    → IsPermutation xs (x ∷ swap_remove xs i x)
 taken xs i x below is = IsPermutation-swap_remove xs i x below is
 
-pub taken_apart : {B : Type 0} (xs : List (RecordOf B)) (i : ℕ) (x : RecordOf B) → AllPairs HasOtherId xs → i < length xs → x ≡ slice_index_or xs i x → AllPairs HasOtherId (swap_remove xs i x)
+pub taken_apart : {B : Type 0} (xs : List (RecordOf B)) (i : ℕ) (x : RecordOf B) → AllPairs HasOtherId xs → i < length xs
+    → x ≡ slice_index_or xs i x → AllPairs HasOtherId (swap_remove xs i x)
 taken_apart xs i x apart below is =
     AllPairs-tail HasOtherId x (swap_remove xs i x) (AllPairs-IsPermutation HasOtherId (λ a b d. λ e. d (sym e)) xs (x ∷ swap_remove xs i x) (taken xs i x below is) apart)
 
@@ -131,7 +146,8 @@ same_number {B} x y h =
     let number : RecordOf B → ℕ = λ r. r.id.0 in
     ap number h
 
-found_by_number : {B : Type 0} (p : ProcId) (x y : RecordOf B) (o : Option (RecordOf B)) → cond (x.id.0 == p.0) (Some x) o ≡ Some y → (o ≡ Some y → y.id.0 ≡ p.0) → (x.id.0 ≡ p.0) ⊎ (x.id.0 ≢ p.0) → y.id.0 ≡ p.0
+found_by_number : {B : Type 0} (p : ProcId) (x y : RecordOf B) (o : Option (RecordOf B))
+    → cond (x.id.0 == p.0) (Some x) o ≡ Some y → (o ≡ Some y → y.id.0 ≡ p.0) → (x.id.0 ≡ p.0) ⊎ (x.id.0 ≢ p.0) → y.id.0 ≡ p.0
 found_by_number p x y o h later (inl same) = sym (same_number x y (same_Some x y (sym (passes x.id.0 p.0 same o x) ∙ h))) ∙ same
 found_by_number p x y o h later (inr differ) = later (sym (skips x.id.0 p.0 differ o x) ∙ h)
 
@@ -147,13 +163,16 @@ none_found p (x ∷ xs) h =
 taken_number : {B : Type 0} (p : ProcId) (xs : List (RecordOf B)) (i : ℕ) (x : RecordOf B) → StandsAt p xs i → x ≡ slice_index_or xs i x → x.id.0 ≡ p.0
 taken_number {B} p xs i x at is = found_number p xs x (at.found x ∙ ap (λ (r : RecordOf B). Some r) (sym is))
 
-pub gone_once_taken : {B : Type 0} (p : ProcId) (xs : List (RecordOf B)) (i : ℕ) (x : RecordOf B) → AllPairs HasOtherId xs → StandsAt p xs i → x ≡ slice_index_or xs i x → record_of p (swap_remove xs i x) ≡ None
+pub gone_once_taken : {B : Type 0} (p : ProcId) (xs : List (RecordOf B)) (i : ℕ) (x : RecordOf B) → AllPairs HasOtherId xs
+    → StandsAt p xs i → x ≡ slice_index_or xs i x → record_of p (swap_remove xs i x) ≡ None
 gone_once_taken p xs i x apart at is =
     let number : x.id.0 ≡ p.0 = taken_number p xs i x at is in
     let whole : AllPairs HasOtherId (x ∷ swap_remove xs i x) = AllPairs-IsPermutation HasOtherId (λ a b d. λ e. d (sym e)) xs (x ∷ swap_remove xs i x) (taken xs i x at.below is) apart in
     none_found p (swap_remove xs i x) (All-weaker (HasOtherId x) (λ r. r.id.0 ≢ p.0) (λ r d. λ e. d (number ∙ sym e)) (swap_remove xs i x) (AllPairs-head HasOtherId x (swap_remove xs i x) whole))
 
-pub others_once_taken : {B : Type 0} (p q : ProcId) (xs : List (RecordOf B)) (i : ℕ) (x : RecordOf B) → AllPairs HasOtherId xs → StandsAt p xs i → x ≡ slice_index_or xs i x → q.0 ≢ p.0 → record_of q (swap_remove xs i x) ≡ record_of q xs
+pub others_once_taken : {B : Type 0} (p q : ProcId) (xs : List (RecordOf B)) (i : ℕ) (x : RecordOf B)
+    → AllPairs HasOtherId xs → StandsAt p xs i → x ≡ slice_index_or xs i x → q.0 ≢ p.0
+    → record_of q (swap_remove xs i x) ≡ record_of q xs
 others_once_taken p q xs i x apart at is other =
     let number : x.id.0 ≡ p.0 = taken_number p xs i x at is in
     sym (skips x.id.0 q.0 (λ e. other (sym e ∙ number)) (record_of q (swap_remove xs i x)) x)
@@ -171,8 +190,10 @@ pub others_once_added : {B : Type 0} (q : ProcId) (x : RecordOf B) (xs : List (R
 others_once_added q x xs other =
     find-append (λ r. r.id.0 == q.0) xs (x ∷ []) ∙ rw (skips x.id.0 q.0 (λ e. other (sym e)) None x) (or_none (record_of q xs))
 
-found_in_changed : {B : Type 0} (p : ProcId) (change : RecordOf B → RecordOf B) (x r : RecordOf B) (xs : List (RecordOf B)) → ((y : RecordOf B) → (change y).id.0 ≡ y.id.0) → cond (x.id.0 == p.0) (Some x) (record_of p xs) ≡ Some r → (record_of p xs ≡ Some r → record_of p (change_record p change xs) ≡ Some (change r)) → (x.id.0 ≡ p.0) ⊎ (x.id.0 ≢ p.0) →
-    record_of p (cond (x.id.0 == p.0) (change x) x ∷ change_record p change xs) ≡ Some (change r)
+found_in_changed : {B : Type 0} (p : ProcId) (change : RecordOf B → RecordOf B) (x r : RecordOf B) (xs : List (RecordOf B))
+    → ((y : RecordOf B) → (change y).id.0 ≡ y.id.0) → cond (x.id.0 == p.0) (Some x) (record_of p xs) ≡ Some r
+    → (record_of p xs ≡ Some r → record_of p (change_record p change xs) ≡ Some (change r)) → (x.id.0 ≡ p.0) ⊎ (x.id.0 ≢ p.0)
+    → record_of p (cond (x.id.0 == p.0) (change x) x ∷ change_record p change xs) ≡ Some (change r)
 found_in_changed p change x r xs keeps found later (inl same) =
     let is : cond (x.id.0 == p.0) (change x) x ≡ change x = chosen x.id.0 p.0 (change x) x same in
     let here : x ≡ r = same_Some x r (sym (passes x.id.0 p.0 same (record_of p xs) x) ∙ found) in
@@ -182,7 +203,14 @@ found_in_changed p change x r xs keeps found later (inr differ) =
     rw is (skips x.id.0 p.0 differ (record_of p (change_record p change xs)) x ∙ later (sym (skips x.id.0 p.0 differ (record_of p xs) x) ∙ found))
 
 -- a record that is changed, and keeps its number, is found as changed
-pub found_once_changed : {B : Type 0} (p : ProcId) (change : RecordOf B → RecordOf B) (xs : List (RecordOf B)) (r : RecordOf B) → ((y : RecordOf B) → (change y).id.0 ≡ y.id.0) → record_of p xs ≡ Some r → record_of p (change_record p change xs) ≡ Some (change r)
+pub found_once_changed : {B : Type 0} (p : ProcId) (change : RecordOf B → RecordOf B) (xs : List (RecordOf B))
+    (r : RecordOf B) → ((y : RecordOf B) → (change y).id.0 ≡ y.id.0) → record_of p xs ≡ Some r
+    → record_of p (change_record p change xs) ≡ Some (change r)
 found_once_changed p change [] r keeps found = absurd (none-some r found)
 found_once_changed p change (x ∷ xs) r keeps found =
     found_in_changed p change x r xs keeps found (λ h. found_once_changed p change xs r keeps h) (cases_eq x.id.0 p.0)
+
+-- what is asked of a record that is added, and of one that is taken out
+pub ruleset adding = (added, found_once_added, others_once_added)
+
+pub ruleset taking = (taken, taken_apart, gone_once_taken, others_once_taken)

@@ -32,17 +32,20 @@ here a b s o h = grind (arith, nat_tests)
 elsewhere : (a b : ℕ) (s : Scope) (o : Option Scope) → a ≢ b → cond (a == b) (Some s) o ≡ o
 elsewhere a b s o h = grind (arith, nat_tests)
 
-pub found_here : (request : EventId) (xs : List Scope) (i : ℕ) (d : Scope) → i < length xs → (slice_index_or xs i d).request.0 ≡ request.0 → Some (slice_index_or xs i d) ≡ scope_of request (drop i xs)
+pub found_here : (request : EventId) (xs : List Scope) (i : ℕ) (d : Scope) → i < length xs
+    → (slice_index_or xs i d).request.0 ≡ request.0 → Some (slice_index_or xs i d) ≡ scope_of request (drop i xs)
 found_here request [] i d below h = absurd (omega (arith, below))
 found_here request (x ∷ xs) zero d below h = sym (here x.request.0 request.0 x (scope_of request xs) h)
 found_here request (x ∷ xs) (suc i) d below h = found_here request xs i d (omega (arith, below)) h
 
-later : (request : EventId) (xs : List Scope) (i : ℕ) (d : Scope) → i < length xs → (slice_index_or xs i d).request.0 ≢ request.0 → scope_of request (drop (suc i) xs) ≡ scope_of request (drop i xs)
+later : (request : EventId) (xs : List Scope) (i : ℕ) (d : Scope) → i < length xs
+    → (slice_index_or xs i d).request.0 ≢ request.0 → scope_of request (drop (suc i) xs) ≡ scope_of request (drop i xs)
 later request [] i d below h = absurd (omega (arith, below))
 later request (x ∷ xs) zero d below h = sym (elsewhere x.request.0 request.0 x (scope_of request xs) h)
 later request (x ∷ xs) (suc i) d below h = later request xs i d (omega (arith, below)) h
 
-pub found_later : (request : EventId) (xs : List Scope) (i : ℕ) (d : Scope) → i < length xs → (slice_index_or xs i d).request.0 ≢ request.0 → scope_of request (drop (i + 1) xs) ≡ scope_of request (drop i xs)
+pub found_later : (request : EventId) (xs : List Scope) (i : ℕ) (d : Scope) → i < length xs
+    → (slice_index_or xs i d).request.0 ≢ request.0 → scope_of request (drop (i + 1) xs) ≡ scope_of request (drop i xs)
 found_later request xs i d below h = rw add-one (later request xs i d below h)
 
 pub found_nowhere : (request : EventId) (xs : List Scope) (i : ℕ) → length xs ≤ i → None ≡ scope_of request (drop i xs)
@@ -66,3 +69,8 @@ pub fewer_left : (xs : List Scope) (s : Scope) → innermost xs ≡ Some s → l
 fewer_left [] s h = absurd (cc)
 fewer_left (x ∷ []) s h = omega arith
 fewer_left (x ∷ y ∷ xs) s h = omega (arith, fewer_left (y ∷ xs) s h)
+
+-- what is asked of a scope that is looked for, and of the innermost that is closed
+pub ruleset finding = (found_here, found_later, found_nowhere)
+
+pub ruleset popping = (innermost_taken, outer_taken)

@@ -1,5 +1,5 @@
 -- A car keeps the law of bodies.
-use Rattle.std.specs.Prelude.{◌≡◌, ℕ, ℤ, pos, Bool, true, false, IsTrue, Option, Some, None, List, [], refl}
+use Rattle.std.specs.Prelude.{◌≡◌, ℕ, ℤ, pos, Bool, true, false, IsTrue, Option, Some, None, [], refl}
 use Rattle.std.proofs.Common.{sym, subst, arith}
 use Rattle.sim_types.specs.declared.event.ProcId.{ProcId}
 use Rattle.sim_types.specs.declared.event.Signal.{Signal}
@@ -32,7 +32,9 @@ finishes own last x h = rw (no_scope last x h) (refl, refl)
 enters : (own : ProcId) (x : Signal) → IsInOrder own None x (op.Enter 0 (pos 0) false)
 enters own x = rw (no_scope None x refl) (refl, refl)
 
-entered : (own : ProcId) (charges : Bool) (res : ℕ) (priority : ℤ) (preempts : Bool) (x : Signal) → IsTrue (may_be_told (Some (op.Enter res priority preempts)) x) → IsInOrder own (Some (op.Enter res priority preempts)) x (next_of (Some (op.Enter res priority preempts)) charges x)
+entered : (own : ProcId) (charges : Bool) (res : ℕ) (priority : ℤ) (preempts : Bool) (x : Signal)
+    → IsTrue (may_be_told (Some (op.Enter res priority preempts)) x)
+    → IsInOrder own (Some (op.Enter res priority preempts)) x (next_of (Some (op.Enter res priority preempts)) charges x)
 entered own charges res priority preempts (signal.Made e) h = (refl, refl)
 entered own charges res priority preempts (signal.Raised n) h = (refl, refl)
 entered own charges res priority preempts signal.Begin h = absurd (cc)
@@ -47,7 +49,8 @@ in_order own false None x h = finishes own None x refl
 in_order own charges (Some (op.Enter res priority preempts)) x h = entered own charges res priority preempts x h
 in_order own charges (Some asked) x h = finishes own (Some asked) x refl
 
-car_poll : (b : CarOf) (time : ℤ) (x : Signal) (asked : Op) (d : CarOf) → IsTrue (may_be_told b.last x) → IsCarTurn b time x asked d → IsLawfulPoll road_facts car_tells b x asked d
+car_poll : (b : CarOf) (time : ℤ) (x : Signal) (asked : Op) (d : CarOf) → IsTrue (may_be_told b.last x)
+    → IsCarTurn b time x asked d → IsLawfulPoll road_facts car_tells b x asked d
 car_poll b time x asked d told turned =
     let order : IsInOrder b.own b.last x asked = subst (IsInOrder b.own b.last x) (sym turned.0) (in_order b.own b.charges b.last x told) in
     let P : CarOf → Type 0 = λ c. IsLawfulPoll road_facts car_tells b x asked c in

@@ -11,6 +11,10 @@ pub record RecordOf (B : Type 0) : Type 0 where
   pub target : EventId
   pub scopes : List Scope
 
+-- the record of a process that begins: no scope is open
+abbrev pub begun_record : {B : Type 0} → ProcId → B → EventId → RecordOf B
+begun_record id body target = record { id = id; body = body; target = target; scopes = [] }
+
 -- the live processes, in no order that counts, and for how many more there is room
 pub record ProcsOf (B : Type 0) : Type 0 where
   pub live : List (RecordOf B)
@@ -27,6 +31,14 @@ record_of p live = find (λ r. r.id.0 == p.0) live
 -- the record of a process is changed, all others stay
 abbrev pub change_record : {B : Type 0} → ProcId → (RecordOf B → RecordOf B) → List (RecordOf B) → List (RecordOf B)
 change_record p change live = map (λ r. if r.id.0 == p.0 then change r else r) live
+
+-- the record of a process is changed, and for as many more there is room
+abbrev pub with_record : {B : Type 0} → ProcId → (RecordOf B → RecordOf B) → ProcsOf B → ProcsOf B
+with_record p change procs = record procs { live = change_record p change procs.live }
+
+-- each other process has the record that it had, or has none as before
+abbrev pub KeepsOthers : {B : Type 0} → ProcId → List (RecordOf B) → List (RecordOf B) → Type 0
+KeepsOthers p old new = (other : ProcId) → other.0 ≢ p.0 → record_of other new ≡ record_of other old
 
 -- the open scope of a request among these
 abbrev pub scope_of : EventId → List Scope → Option Scope

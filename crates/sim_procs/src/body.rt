@@ -37,8 +37,10 @@ pub trait Body: LawfulBody + Sized + Drop {
         ensures { result ≡ slice_index_or (events_held self.now) at (record { 0 = 0 }) };
 
     /// The places that a sound body tells are those that `place` reads.
-    ghost places: { (code : Self.Code) (b : Self) → Self.body.sound code b → events_in_places Self.body code b ≡ events_held b };
+    ghost places: { (code : Self.Code) (b : Self) → Self.body.sound code b
+        → events_in_places Self.body code b ≡ events_held b };
 
     /// A sound body has at most 64 places.
-    ghost few_places: { (code : Self.Code) (b : Self) → Self.body.sound code b → length (events_held b) ≤ 64 };
+    ghost few_places: { (code : Self.Code) (b : Self) → Self.body.sound code b
+        → length (events_held b) ≤ 64 };
 }

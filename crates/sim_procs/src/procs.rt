@@ -1,9 +1,9 @@
-ghost use Rattle.std.specs.Prelude.{◌≡◌, ◌≢◌, ℕ, ◌+◌, ◌<◌, ◌≤◌, ◌==◌, List, [], ◌∷◌, ◌++◌, length, IfOk, OnOk, IsOk, IfSome, IsSome, IsNone, MatchOption, IsSomeAnd, is_some, option_and_then, slice_index_or};
+ghost use Rattle.std.specs.Prelude.{◌≡◌, ℕ, ◌+◌, ◌<◌, ◌≤◌, ◌==◌, List, [], ◌∷◌, ◌++◌, length, IfOk, OnOk, IsOk, IfSome, IsSome, IsNone, MatchOption, IsSomeAnd, is_some, option_and_then, slice_index_or};
 ghost use Rattle.std.specs.Option.{option_map};
 ghost use Rattle.std.specs.List.{position};
 ghost use Rattle.std.specs.List.Sorted.{IsPermutation};
-ghost use Rattle.sim_types.specs.declared.event.ProcId.{ProcId};
-ghost use Rattle.sim_procs.specs.RecordOf.{RecordOf, record_of, change_record, change_at, scope_of, innermost, without_innermost, StandsAt};
+ghost use Rattle.sim_machine.specs.MayAsk.{most_scopes};
+ghost use Rattle.sim_procs.specs.RecordOf.{record_of, begun_record, with_record, scope_of, innermost, without_innermost, KeepsOthers, StandsAt};
 
 use crate::record::ProcRecord;
 use sim_types::{EventId, ProcId, Scope};
@@ -21,7 +21,10 @@ impl<B> Model for Procs<B> {
 
     ghost Value = { ProcsOf B };
 
-    ghost view = { λ a. record { live = a.records.items; spare = vec_capacity a.records - vec_len a.records } };
+    ghost view = { λ a. record {
+      live = a.records.items;
+      spare = vec_capacity a.records - vec_len a.records;
+    } };
 
     ghost invariant = { λ a. AllPairs HasOtherId a.records.items };
 }
@@ -47,15 +50,15 @@ impl<B> Procs<B> {
     }
 
     /// A process more is alive.
-    #[tactic(auto, using(crate::proofs::Records::added, crate::proofs::Records::found_once_added, crate::proofs::Records::others_once_added))]
+    #[tactic(auto, using(crate::proofs::Records::adding))]
     pub fn add(&mut self, id: ProcId, body: B, target: EventId)
         requires room { 1 ≤ self.old.spare }
         requires new { record_of id self.old.live ≡ None }
-        ensures live { IsPermutation (record { id = id; body = body; target = target; scopes = [] } ∷ self.old.live) self.new.live }
+        ensures live { IsPermutation (begun_record id body target ∷ self.old.live) self.new.live }
 
         // By their numbers, this one is found, and the others are as before.
-        ensures found { record_of id self.new.live ≡ Some (record { id = id; body = body; target = target; scopes = [] }) }
-        ensures others { (other : ProcId) → other.0 ≢ id.0 → record_of other self.new.live ≡ record_of other self.old.live }
+        ensures found { record_of id self.new.live ≡ Some (begun_record id body target) }
+        ensures others { KeepsOthers id self.old.live self.new.live }
 
         ensures spare { self.new.spare + 1 ≡ self.old.spare }
     {
@@ -73,7 +76,8 @@ impl<B> Procs<B> {
     // The place of a record, found by its number.
     #[tactic(auto, using(crate::proofs::Records::found_at))]
     fn place(&self, id: ProcId) -> Option<usize>
-        ensures { MatchOption result (record_of id self.now.live ≡ None) (λ i. StandsAt id self.now.live i) }
+        ensures { MatchOption result (record_of id self.now.live ≡ None)
+            (λ i. StandsAt id self.now.live i) }
     {
         let _ = &self.records;
         self.first_place(id)
@@ -122,7 +126,7 @@ impl<B> Procs<B> {
     /// The process waits for another event.
     pub fn set_target(&mut self, id: ProcId, target: EventId)
         requires alive { IsSome (record_of id self.old.live) }
-        ensures { self.new ≡ record self.old { live = change_record id (λ r. record r { target = target }) self.old.live } }
+        ensures { self.new ≡ with_record id (λ r. record r { target = target }) self.old }
     {
         match self.place(id) {
             Some(at) => self.records[at].set_target(target),
@@ -132,7 +136,8 @@ impl<B> Procs<B> {
 
     /// The open scope of this process with this request.
     pub fn scope(&self, id: ProcId, request: EventId) -> Option<Scope>
-        ensures { result ≡ option_and_then (λ r. scope_of request r.scopes) (record_of id self.now.live) }
+        ensures { result
+            ≡ option_and_then (λ r. scope_of request r.scopes) (record_of id self.now.live) }
     {
         let at = self.place(id)?;
         self.records[at].scope(request)
@@ -140,8 +145,9 @@ impl<B> Procs<B> {
 
     /// A scope more is open, inside the others.
     pub fn push_scope(&mut self, id: ProcId, scope: Scope)
-        requires alive { IsSomeAnd (record_of id self.old.live) (λ r. length r.scopes < 32) }
-        ensures { self.new ≡ record self.old { live = change_record id (λ r. record r { scopes = r.scopes ++ scope ∷ [] }) self.old.live } }
+        requires alive { IsSomeAnd (record_of id self.old.live) (λ r. length r.scopes < most_scopes) }
+        ensures { self.new
+            ≡ with_record id (λ r. record r { scopes = r.scopes ++ scope ∷ [] }) self.old }
     {
         match self.place(id) {
             Some(at) => self.records[at].push_scope(scope),
@@ -152,8 +158,10 @@ impl<B> Procs<B> {
     /// The innermost open scope of the process, which is then closed.
     #[tactic(auto, using(crate::proofs::Records::unchanged_where_none))]
     pub fn pop_scope(&mut self, id: ProcId) -> Option<Scope>
-        ensures result { result ≡ option_and_then (λ r. innermost r.scopes) (record_of id self.old.live) }
-        ensures closed { self.new ≡ record self.old { live = change_record id (λ r. record r { scopes = without_innermost r.scopes }) self.old.live } }
+        ensures result { result
+            ≡ option_and_then (λ r. innermost r.scopes) (record_of id self.old.live) }
+        ensures closed { self.new
+            ≡ with_record id (λ r. record r { scopes = without_innermost r.scopes }) self.old }
     {
         match self.place(id) {
             Some(at) => self.records[at].pop_scope(),
@@ -162,7 +170,7 @@ impl<B> Procs<B> {
     }
 
     /// Takes the record of a process, which is then no longer alive.
-    #[tactic(auto, using(crate::proofs::Records::taken, crate::proofs::Records::taken_apart, crate::proofs::Records::gone_once_taken, crate::proofs::Records::others_once_taken))]
+    #[tactic(auto, using(crate::proofs::Records::taking))]
     pub fn take(&mut self, id: ProcId) -> Option<ProcRecord<B>>
         ensures taken { result ≡ record_of id self.old.live }
         ensures none { IsNone result → self.new ≡ self.old }
@@ -170,7 +178,7 @@ impl<B> Procs<B> {
 
         // By their numbers, this one is found no more, and the others are as before.
         ensures gone { record_of id self.new.live ≡ None }
-        ensures others { (other : ProcId) → other.0 ≢ id.0 → record_of other self.new.live ≡ record_of other self.old.live }
+        ensures others { KeepsOthers id self.old.live self.new.live }
 
         ensures spare { IfSome result (λ r. self.new.spare ≡ self.old.spare + 1) }
     {

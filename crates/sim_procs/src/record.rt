@@ -1,5 +1,6 @@
 ghost use Rattle.std.specs.Prelude.{◌≡◌, ℕ, ◌+◌, ◌<◌, List, [], ◌∷◌, ◌++◌, length, MatchOption};
-ghost use Rattle.sim_procs.specs.RecordOf.{innermost, scope_of, without_innermost};
+ghost use Rattle.sim_machine.specs.MayAsk.{most_scopes};
+ghost use Rattle.sim_procs.specs.RecordOf.{begun_record, innermost, scope_of, without_innermost};
 
 use sim_types::{EventId, ProcId, Scope};
 use std::marker::Model;
@@ -16,18 +17,24 @@ pub struct ProcRecord<B> {
 
 impl<B> Model for ProcRecord<B> {
     ghost use Rattle.std.specs.Prelude.{take, ◌≤◌};
+    ghost use Rattle.sim_machine.specs.MayAsk.{most_scopes};
     ghost use Rattle.sim_procs.specs.RecordOf.{RecordOf};
 
     ghost Value = { RecordOf B };
 
-    ghost view = { λ a. record { id = a.id; body = a.body; target = a.target; scopes = take a.depth a.scopes } };
+    ghost view = { λ a. record {
+      id = a.id;
+      body = a.body;
+      target = a.target;
+      scopes = take a.depth a.scopes;
+    } };
 
-    ghost invariant = { λ a. a.depth ≤ 32 };
+    ghost invariant = { λ a. a.depth ≤ most_scopes };
 }
 
 impl<B> ProcRecord<B> {
     pub(crate) fn new(id: ProcId, body: B, target: EventId) -> ProcRecord<B>
-        ensures { result ≡ record { id = id; body = body; target = target; scopes = [] } }
+        ensures { result ≡ begun_record id body target }
     {
         ProcRecord {
             id,
@@ -70,14 +77,14 @@ impl<B> ProcRecord<B> {
     }
 
     pub(crate) fn push_scope(&mut self, scope: Scope)
-        requires { length self.old.scopes < 32 }
+        requires { length self.old.scopes < most_scopes }
         ensures { self.new ≡ record self.old { scopes = self.old.scopes ++ scope ∷ [] } }
     {
         self.scopes[self.depth] = scope;
         self.depth += 1;
     }
 
-    #[tactic(auto, using(crate::proofs::Scopes::found_here, crate::proofs::Scopes::found_later, crate::proofs::Scopes::found_nowhere))]
+    #[tactic(auto, using(crate::proofs::Scopes::finding))]
     pub(crate) fn scope(&self, request: EventId) -> Option<Scope>
         ensures { result ≡ scope_of request self.now.scopes }
     {
@@ -91,7 +98,7 @@ impl<B> ProcRecord<B> {
     }
 
     /// The innermost open scope, which is then closed.
-    #[tactic(auto, using(crate::proofs::Scopes::innermost_taken, crate::proofs::Scopes::outer_taken))]
+    #[tactic(auto, using(crate::proofs::Scopes::popping))]
     pub fn pop_scope(&mut self) -> Option<Scope>
         ensures result { result ≡ innermost self.old.scopes }
         ensures closed { self.new ≡ record self.old { scopes = without_innermost self.old.scopes } }

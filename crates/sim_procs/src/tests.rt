@@ -2,7 +2,7 @@ ghost use Rattle.std.specs.Prelude.{◌≡◌, ◌<◌, IfOk, pos, []};
 ghost use Rattle.sim_machine.specs.Bodies.{start_of};
 ghost use Rattle.sim_machine.specs.NumberBounds.{most_events};
 ghost use Rattle.sim_procs.specs.Premises.{CanBegin, CanBeTold};
-ghost use Rattle.sim_procs.specs.RecordOf.{record_of};
+ghost use Rattle.sim_procs.specs.RecordOf.{record_of, begun_record};
 
 use crate::{Body, ProcRecord, Procs};
 use sim_machine::LawfulBody;
@@ -143,7 +143,8 @@ fn polls_bodies_by_the_trait(rt: HostRuntime) -> Result<(), Fail> {
 
 // A process more, with this body and this target, and no scope.
 fn added(rt: &impl Abort, procs: &mut Procs<u8>, id: u64, body: u8, target: u64)
-    ensures { record_of (record { 0 = id }) procs.new.live ≡ Some (record { id = record { 0 = id }; body = body; target = record { 0 = target }; scopes = [] }) }
+    ensures { record_of (record { 0 = id }) procs.new.live
+        ≡ Some (begun_record (record { 0 = id }) body (record { 0 = target })) }
 {
     assert!(rt; procs.reserve().is_ok());
     assert!(rt; !procs.is_alive(ProcId(id)), "no process {id} yet");
