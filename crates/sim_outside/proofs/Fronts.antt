@@ -56,3 +56,6 @@ cut_short old middle new bytes rest h k same more rose =
       ok = tt;
       cause = subst (λ n. Rose n new.faults) same rose;
     }
+
+-- what is asked of pieces that are written one after the other
+pub ruleset writing = (front_none, front_more, all_written, cut_short)

@@ -48,8 +48,9 @@ first_end (Some left) (Some rest) (Some final) n count taken buffer h few e end 
     (sym (ap (take n) whole ∙ take_whole taken n few), ap Some (last_is ∙ sym (ap (drop n) whole ∙ drop_whole taken n few)))
 
 -- the bytes of one read more are lost
-pub lost_more : {T E : Type 0} (result : Result T E) (before middle after : Option (List ℕ)) (n count : ℕ) (taken buffer : List ℕ) → Consumes before middle taken
-    → length taken < n → count ≤ n - length taken → Consumes middle after (take count buffer) → OnErr result (Loses n before after)
+pub lost_more : {T E : Type 0} (result : Result T E) (before middle after : Option (List ℕ)) (n count : ℕ)
+    (taken buffer : List ℕ) → Consumes before middle taken → length taken < n → count ≤ n - length taken
+    → Consumes middle after (take count buffer) → OnErr result (Loses n before after)
 lost_more (Ok x) before middle after n count taken buffer h few small last = tt
 lost_more (Err x) before middle after n count taken buffer h few small last =
     record { bytes = taken ++ take count buffer; few = short taken buffer n count few small; consumed = Consumes-trans before middle after taken (take count buffer) h last }

@@ -16,7 +16,8 @@ prefix_whole : (before after : Option (List ℕ)) (bytes : List ℕ) → Appends
 prefix_whole before after bytes h = record { rest = []; front = record { front = bytes; parts = append-nil bytes; appended = h } }
 
 -- a prefix of a front
-prefix_of_front : (before after : Option (List ℕ)) (front rest bytes : List ℕ) → AppendsPrefix before after front → bytes ≡ front ++ rest → AppendsPrefix before after bytes
+prefix_of_front : (before after : Option (List ℕ)) (front rest bytes : List ℕ) → AppendsPrefix before after front
+    → bytes ≡ front ++ rest → AppendsPrefix before after bytes
 prefix_of_front before after front rest bytes h is =
     record {
       rest = h.rest ++ rest;
@@ -132,8 +133,9 @@ module _ {T U E F : Type 0} (f : E → Bool) (g : F → Bool) where
 
   -- ---- a flush behind all that was written
 
-  pub then_flushed : (old middle new : SinkOf) (x : T) (y : U) (bytes : List ℕ) → Writes {T = T} {E = E} f old middle (Ok x) bytes → Keeps middle.taken new.taken
-      → new.faults ≡ middle.faults → Writes {T = U} {E = F} g old new (Ok y) bytes
+  pub then_flushed : (old middle new : SinkOf) (x : T) (y : U) (bytes : List ℕ)
+      → Writes {T = T} {E = E} f old middle (Ok x) bytes → Keeps middle.taken new.taken → new.faults ≡ middle.faults
+      → Writes {T = U} {E = F} g old new (Ok y) bytes
   then_flushed old middle new x y bytes h kept same =
       let all : Appends old.taken new.taken bytes = Appends-kept old.taken middle.taken new.taken bytes h.whole kept in
       record {
@@ -145,8 +147,10 @@ module _ {T U E F : Type 0} (f : E → Bool) (g : F → Bool) where
       }
 
   -- the flush failed
-  pub then_unflushed : {V : Type 0} (old middle new : SinkOf) (x : T) (why : F) (bytes : List ℕ) → Writes {T = T} {E = E} f old middle (Ok x) bytes
-      → Keeps middle.taken new.taken → HasCause {T = V} {E = Failed} middle.faults new.faults (Err _) → g why ≡ true → Writes {T = U} {E = F} g old new (Err why) bytes
+  pub then_unflushed : {V : Type 0} (old middle new : SinkOf) (x : T) (why : F) (bytes : List ℕ)
+      → Writes {T = T} {E = E} f old middle (Ok x) bytes → Keeps middle.taken new.taken
+      → HasCause {T = V} {E = Failed} middle.faults new.faults (Err _) → g why ≡ true
+      → Writes {T = U} {E = F} g old new (Err why) bytes
   then_unflushed old middle new x why bytes h kept failed is =
       let all : Appends old.taken new.taken bytes = Appends-kept old.taken middle.taken new.taken bytes h.whole kept in
       record {

@@ -10,6 +10,10 @@ pub record Flushing : Type 0 where
   pub count : ℕ
   pub held_back : Bool
 
+-- before the first write and flush
+abbrev pub no_flush : Flushing
+no_flush = record { count = 0; held_back = false }
+
 -- after a write that took n bytes
 abbrev pub taking : ℕ → Flushing → Flushing
 taking n f = record f { held_back = f.held_back || nat_lt 0 n }

@@ -1,6 +1,6 @@
 //! How often a sink was flushed.
-ghost use Rattle.std.specs.Prelude.{◌≡◌, false};
-ghost use Rattle.sim_outside.specs.Writes.{flushed, taking};
+ghost use Rattle.std.specs.Prelude.{◌≡◌};
+ghost use Rattle.sim_outside.specs.Writes.{no_flush, flushed, taking};
 
 use std::marker::Model;
 
@@ -21,7 +21,7 @@ impl Model for Flushes {
 
 impl Flushes {
     pub(crate) const fn new() -> Flushes
-        ensures { result ≡ record { count = 0; held_back = false } }
+        ensures { result ≡ no_flush }
     {
         Flushes {
             count: 0,

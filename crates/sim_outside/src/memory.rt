@@ -1,7 +1,7 @@
 //! Sources and sinks in memory. They tell their bytes.
-ghost use Rattle.std.specs.Prelude.{◌≡◌, ◌-◌, ◌<◌, ◌↔◌, [], ◌++◌, length, false, min, take, drop, IfOk, OnOk, OnErr, IsErr, IsOk, Contains};
+ghost use Rattle.std.specs.Prelude.{◌≡◌, ◌-◌, ◌<◌, ◌↔◌, [], ◌++◌, length, min, take, drop, IfOk, OnOk, OnErr, IsErr, IsOk, Contains};
 ghost use Rattle.sim_outside.specs.Causes.{raised, HasCause};
-ghost use Rattle.sim_outside.specs.Writes.{flushed, taking};
+ghost use Rattle.sim_outside.specs.Writes.{no_flush, flushed, taking};
 
 use crate::fault::Failed;
 use crate::fault_count::FaultCount;
@@ -159,7 +159,7 @@ impl MemSink {
     /// A sink that takes `room` bytes. Its memory is taken here.
     pub fn new(alloc: Global, room: u64) -> Result<MemSink, AllocError>
         ensures { IfOk result (λ sink. sink ≡ record
-            { taken = []; room = room; faults = 0; flushing = record { count = 0; held_back = false } }) }
+            { taken = []; room = room; faults = 0; flushing = no_flush }) }
     {
         let room = room as usize;
         let bytes = Vec::with_capacity(alloc, room)?;
@@ -191,7 +191,8 @@ impl Sink for MemSink {
         ensures room { IfOk result (λ n. self.new.room ≡ self.old.room - n) }
         ensures ok { OnOk result (self.new.faults ≡ self.old.faults) }
         ensures held_back { IfOk result (λ n. self.new.flushing ≡ taking n self.old.flushing) }
-        ensures err { OnErr result (self.new ≡ record self.old { faults = raised self.old.faults }) }
+        ensures err { OnErr result
+            (self.new ≡ record self.old { faults = raised self.old.faults }) }
 
         // As every sink.
         ensures cause { HasCause self.old.faults self.new.faults result }

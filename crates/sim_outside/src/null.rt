@@ -1,6 +1,6 @@
 //! A sink that keeps nothing.
-ghost use Rattle.std.specs.Prelude.{◌≡◌, length, Ok, false, IsOk};
-ghost use Rattle.sim_outside.specs.Writes.{taking, flushed};
+ghost use Rattle.std.specs.Prelude.{◌≡◌, length, Ok, IsOk};
+ghost use Rattle.sim_outside.specs.Writes.{no_flush, taking, flushed};
 
 use crate::fault::Failed;
 use crate::flushes::Flushes;
@@ -24,7 +24,7 @@ impl Model for NullSink {
 impl NullSink {
     /// A sink that was never flushed.
     pub const fn new() -> NullSink
-        ensures { result ≡ record { count = 0; held_back = false } }
+        ensures { result ≡ no_flush }
     {
         NullSink {
             flushes: Flushes::new(),

@@ -18,9 +18,11 @@ pub trait Sink {
     fn write(&mut self, piece: &[u8]) -> Result<usize, Failed>
         ensures bound { WritesAtMost result piece.now }
         ensures some { IfOk result (λ n. 0 < length piece.now → 0 < n) }
-        ensures bytes { WriteAppends (tells self.old).taken (tells self.new).taken result piece.now }
+        ensures bytes { WriteAppends (tells self.old).taken (tells self.new).taken
+            result piece.now }
         ensures cause { HasCause (tells self.old).faults (tells self.new).faults result }
-        ensures held_back { IfOk result (λ n. (tells self.new).flushing ≡ taking n (tells self.old).flushing) }
+        ensures held_back { IfOk result (λ n.
+            (tells self.new).flushing ≡ taking n (tells self.old).flushing) }
         ensures unflushed { IsUnflushed (tells self.old) (tells self.new) };
 
     /// Hands on what the sink holds back. The bytes taken stay as they are.
@@ -32,7 +34,7 @@ pub trait Sink {
 }
 
 /// Writes the whole piece. Where that fails, a prefix of the piece was written. Nothing is flushed.
-#[tactic(auto, using(crate::proofs::Fronts::front_none, crate::proofs::Fronts::front_more, crate::proofs::Fronts::all_written, crate::proofs::Fronts::cut_short))]
+#[tactic(auto, using(crate::proofs::Fronts::writing))]
 pub fn write_all<K: Sink>(out: &mut K, piece: &[u8]) -> Result<(), Failed>
     ensures writes { Writes (λ _. true) (K.tells out.old) (K.tells out.new) result piece.now }
     ensures unflushed { IsUnflushed (K.tells out.old) (K.tells out.new) }

@@ -1,5 +1,6 @@
 //! Standard input and output. What they carry is known to no contract, so of them no bytes are told.
-ghost use Rattle.std.specs.Prelude.{◌≡◌, false};
+ghost use Rattle.std.specs.Prelude.{◌≡◌};
+ghost use Rattle.sim_outside.specs.Writes.{no_flush};
 
 use crate::fault::Failed;
 use crate::fault_count::FaultCount;
@@ -77,7 +78,7 @@ impl<W: Write> StdSink<W> {
     /// A sink over `output` that has had no fault and was never flushed.
     pub fn new(output: W) -> StdSink<W>
         ensures { result ≡ record
-            { output = output; faults = 0; flushing = record { count = 0; held_back = false } } }
+            { output = output; faults = 0; flushing = no_flush } }
     {
         StdSink {
             output,
