@@ -1,6 +1,6 @@
 -- What a body tells of itself besides its state, and what its code tells. Bodies, which take the place of SimPy's
 -- generators, are this project's own.
-use Rattle.std.specs.Prelude.{Bool, ℕ, List, Option, true, false}
+use Rattle.std.specs.Prelude.{Bool, List, Option, true, false}
 use Rattle.sim_types.specs.declared.event.EventId.{EventId}
 use Rattle.sim_types.specs.declared.event.ProcId.{ProcId}
 use Rattle.sim_types.specs.declared.event.EventKind.{EventKind}

@@ -11,5 +11,6 @@ pub trait LawfulBody {
     ghost body: { BodyOf Self Self.Code };
 
     /// The law of a body.
-    ghost lawful: { (code : Self.Code) → IsLawfulBody (body.facts code) (body.tell code) (body.sound code) (start_of body code) (body.turn code) };
+    ghost lawful: { (code : Self.Code) → IsLawfulBody (body.facts code) (body.tell code)
+        (body.sound code) (start_of body code) (body.turn code) };
 }
