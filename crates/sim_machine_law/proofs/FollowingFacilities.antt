@@ -1,5 +1,5 @@
 -- No change of what goes on at the resources undoes what `Follows` says of its calendar and its waiters.
-use Rattle.std.proofs.Common.{◌≡◌, ◌<◌, ◌&&◌, ◌||◌, ◌++◌, ⊎_elim, arith, Bool, true, false, not, ℕ, ℤ, pos, List, [], ◌∷◌, Option, Some, None, refl, subst, ap, ◌∙◌, filter, length}
+use Rattle.std.proofs.Common.{◌≡◌, ◌<◌, ◌&&◌, ◌||◌, ◌++◌, ⊎_elim, arith, Bool, true, false, not, ℕ, ℤ, pos, List, [], ◌∷◌, Some, refl, subst, ap, ◌∙◌, filter, length}
 use Rattle.std.specs.Prelude.{All, ◌==◌, is_none}
 use Rattle.std.specs.List.{AllPass, list_any}
 use Rattle.std.proofs.lemmas.Bool.{not-true, or_cases, or_left, or_right}
@@ -13,7 +13,7 @@ use Rattle.sim_types.specs.declared.event.Throw.{Throw}
 use Rattle.sim_types.specs.declared.event.Callback.{Callback}
 use Rattle.sim_types.specs.declared.event.Callback.TheVariants as callback
 use Rattle.sim_types.specs.declared.setup.Resource.{Resource}
-use Rattle.sim_machine.specs.State.{EventOf, Calendar, Want, Waiter, Deed, Facilities}
+use Rattle.sim_machine.specs.State.{EventOf, Calendar, Want, Waiter, Facilities}
 use Rattle.sim_machine.specs.Events.{defuse, event_at, is_pending, is_same, next_event, register}
 use Rattle.sim_machine.specs.Triggering.{make, make_interruption, succeed}
 use Rattle.sim_machine.specs.Users.{resource_at, put_queue, get_queue, wants_to_put}

@@ -1,5 +1,6 @@
 ghost use Rattle.std.specs.Prelude.{◌≡◌, ◌≢◌, ◌≤ℤ◌, ◌↔◌, ℕ, List, [], ◌∷◌, ◌++◌, pos, length, All, AllPairs, true, false, Some};
 ghost use Rattle.std.specs.List.Sorted.{IsPermutation};
+ghost use Rattle.sim_types.specs.Throws.{preemption};
 ghost use Rattle.sim_types.specs.declared.event.EventId.{EventId};
 ghost use Rattle.sim_types.specs.declared.event.RequestKey.{RequestKey};
 ghost use Rattle.sim_machine.specs.State.{Granted, Released, Preempted, Slot, User, Deed};
@@ -81,7 +82,7 @@ pub fn attempts()
 pub fn preemptions()
     ensures throws { (res : _) (u : _) (f : _) →
         (event_at (preempt res u f).calendar (next_event f.calendar)).outcome
-        ≡ Some (outcome.Fail (record { kind = 2; value = u.since })) }
+        ≡ Some (outcome.Fail (record { kind = preemption; value = u.since })) }
     ensures defused { (res : _) (u : _) (f : _) →
         (event_at (preempt res u f).calendar (next_event f.calendar)).defused ≡ true }
     ensures strikes { (res : _) (u : _) (f : _) → (preempt res u f).calendar.registered
