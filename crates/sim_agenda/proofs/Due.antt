@@ -2,7 +2,7 @@
 use Rattle.std.proofs.Common.{◌≡◌, ℕ, ◌<◌, List, [], ◌∷◌, ◌++◌, length, slice_index_or, get_or, subst}
 use Rattle.std.specs.List.{All, swap_remove}
 use Rattle.std.specs.List.Sorted.{IsPermutation}
-use Rattle.std.proofs.lemmas.List.Elements.{All-head, All-tail}
+use Rattle.std.proofs.lemmas.List.Elements.{All-tail}
 use Rattle.std.proofs.lemmas.List.Sorted.{All-permutation, IsPermutation-swap_remove, IsPermutation-sym, IsPermutation-to_front}
 use Rattle.std.proofs.lemmas.List.{get_or_default}
 use Rattle.sim_types.specs.Keys.{IsLess}

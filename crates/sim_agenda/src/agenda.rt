@@ -18,7 +18,10 @@ impl Model for Agenda {
 
     ghost Value = { AgendaOf };
 
-    ghost view = { λ a. record { entries = a.entries.items; spare = vec_capacity a.entries - vec_len a.entries } };
+    ghost view = { λ a. record {
+      entries = a.entries.items;
+      spare = vec_capacity a.entries - vec_len a.entries;
+    } };
 }
 
 // The place of the entry that no other comes before.
