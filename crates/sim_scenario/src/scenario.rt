@@ -29,7 +29,8 @@ impl Model for Scenario {
 
     ghost view = { λ a. of_parts a.setup a.seed a.port_names a.kinds a.code a.journal a.posters };
 
-    ghost invariant = { λ a. IsRead (of_parts a.setup a.seed a.port_names a.kinds a.code a.journal a.posters) };
+    ghost invariant = { λ a. IsRead
+        (of_parts a.setup a.seed a.port_names a.kinds a.code a.journal a.posters) };
 }
 
 impl Scenario {

@@ -61,7 +61,8 @@ fn append_event(
 /// Appends what an event is ordered by.
 fn append_key(time: i64, priority: u8, number: u64, out: &mut LineBuf)
     requires { length out.old + 46 ≤ 160 }
-    ensures items { out.new ≡ out.old ++ 64 ∷ signed_decimal time ++ 32 ∷ decimal priority ++ 32 ∷ decimal number }
+    ensures items { out.new
+        ≡ out.old ++ 64 ∷ signed_decimal time ++ 32 ∷ decimal priority ++ 32 ∷ decimal number }
     ensures len { length out.new ≤ length out.old + 46 }
 {
     out.append(b"@");
