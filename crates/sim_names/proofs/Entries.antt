@@ -52,9 +52,11 @@ module _ {K V : Type 0} (word : K → Word) where
   value_at_entries (e ∷ es) = ap (λ vs. e.1 ∷ vs) (value_at_entries es)
 
   -- a new name stands behind the others
-  pub with_one_new : (k : K) (v : V) (es : List (K × V)) → lookup (by_word word k) es ≡ None → map named_by (es ++ (k, v) ∷ []) ≡ with_one (map named_by es) (named_by (k, v))
+  pub with_one_new : (k : K) (v : V) (es : List (K × V)) → lookup (by_word word k) es ≡ None
+      → map named_by (es ++ (k, v) ∷ []) ≡ with_one (map named_by es) (named_by (k, v))
   with_one_new k v es absent = rw (← value_of_entries k es, absent) (map-append named_by es ((k, v) ∷ []))
 
   -- a name that is there keeps its value
-  pub with_one_known : (k : K) (v : V) (es : List (K × V)) → is_some (lookup (by_word word k) es) ≡ true → map named_by es ≡ with_one (map named_by es) (named_by (k, v))
+  pub with_one_known : (k : K) (v : V) (es : List (K × V)) → is_some (lookup (by_word word k) es) ≡ true
+      → map named_by es ≡ with_one (map named_by es) (named_by (k, v))
   with_one_known k v es known = rw (← value_of_entries k es, known) refl

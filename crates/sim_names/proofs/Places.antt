@@ -12,6 +12,7 @@ pub place_of_below : {A : Type 0} (w : Word) (ns : List (Named A)) → IfSome (p
 place_of_below w [] = tt
 place_of_below w (n ∷ ns) = by (same w n.name) refl (further (place_of w ns) (length ns) (place_of_below w ns))
   where
-    by : (b : Bool) → same w n.name ≡ b → IfSome (option_map suc (place_of w ns)) (λ k. k < suc (length ns)) → IfSome (place_of w (n ∷ ns)) (λ k. k < length (n ∷ ns))
+    by : (b : Bool) → same w n.name ≡ b → IfSome (option_map suc (place_of w ns)) (λ k. k < suc (length ns))
+        → IfSome (place_of w (n ∷ ns)) (λ k. k < length (n ∷ ns))
     by true e h = rw e (omega arith)
     by false e h = rw e h

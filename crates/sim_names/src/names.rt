@@ -70,7 +70,8 @@ impl<'t, V: Copy> Names<'t, V> {
 
     /// One more behind the others, unless its name is there.
     pub fn add(&mut self, name: &'t [u8], value: V) -> Result<(), AllocError>
-        ensures ok { OnOk result (self.new ≡ with_one self.old (record { name = name.now; value = value })) }
+        ensures ok { OnOk result
+            (self.new ≡ with_one self.old (record { name = name.now; value = value })) }
         ensures err { OnErr result (self.new ≡ self.old) }
     {
         if !self.index.contains_key(&name) {
