@@ -29,7 +29,8 @@ with_one_below ds d n le = by (is_named d.name ds)
     by true = omega arith
     by false = let longer : length (ds ++ d ∷ []) ≡ length ds + 1 = length-append ds (d ∷ []) in omega (arith, longer)
 
-declared_below : (ds : List (Named Meaning)) (f : Form) (sort : Option Sort) (slots : List Operand) (n : ℕ) → length ds ≤ n → length (with_declared ds f sort slots) ≤ n + 1
+declared_below : (ds : List (Named Meaning)) (f : Form) (sort : Option Sort) (slots : List Operand) (n : ℕ) → length ds ≤ n
+    → length (with_declared ds f sort slots) ≤ n + 1
 declared_below ds f None slots n le = omega arith
 declared_below ds f (Some s) [] n le = omega arith
 declared_below ds f (Some s) (slot ∷ slots) n le = with_one_below ds _ n le

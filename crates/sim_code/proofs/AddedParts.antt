@@ -27,6 +27,7 @@ one_statement s (Some made) = let longer : length (s.code ++ made ∷ []) ≡ le
 module _ (heads : ProcessLines) (place : LineInText) where
   form_adds : (f : Form) (slots : List Operand) (s : ScenarioOf) → OneMore s (add heads place f slots s)
   form_adds form.UntilTime (t ∷ []) s = record { events = omega arith; statements = omega arith }
+  form_adds form.UntilEvent (n ∷ []) s = record { events = omega arith; statements = omega arith }
   form_adds form.Seed (n ∷ []) s = record { events = omega arith; statements = omega arith }
   form_adds form.Resource (n ∷ c ∷ []) s = record { events = omega arith; statements = omega arith }
   form_adds form.Priority (n ∷ c ∷ []) s = record { events = omega arith; statements = omega arith }

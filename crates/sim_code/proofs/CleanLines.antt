@@ -16,14 +16,16 @@ use Rattle.sim_language.specs.Faults.{applies, of_form, fault_at, fault_by}
 use Rattle.sim_lines.specs.declared.line.Saying.TheVariants as what
 use Rattle.sim_lines.specs.LineOf.{operands_of, without_operands}
 
-none_found : (test : FaultKind → Bool) (kind : FaultKind) (behind : List FaultKind) → find test (kind ∷ behind) ≡ None → (test kind ≡ false) × (find test behind ≡ None)
+none_found : (test : FaultKind → Bool) (kind : FaultKind) (behind : List FaultKind) → find test (kind ∷ behind) ≡ None
+    → (test kind ≡ false) × (find test behind ≡ None)
 none_found test kind behind none = by (test kind) refl
   where
     by : (b : Bool) → test kind ≡ b → (test kind ≡ false) × (find test behind ≡ None)
     by true t = absurd (none-some kind (sym none ∙ rw t refl))
     by false t = (t, rw t at none)
 
-none_applies : (test : FaultKind → Bool) (before : List FaultKind) (kind : FaultKind) (behind : List FaultKind) → find test (before ++ kind ∷ behind) ≡ None → test kind ≡ false
+none_applies : (test : FaultKind → Bool) (before : List FaultKind) (kind : FaultKind) (behind : List FaultKind)
+    → find test (before ++ kind ∷ behind) ≡ None → test kind ≡ false
 none_applies test [] kind behind none = (none_found test kind behind none).0
 none_applies test (first ∷ before) kind behind none = none_applies test before kind behind (none_found test first (before ++ kind ∷ behind) none).1
 
@@ -52,7 +54,8 @@ module _ (heads : ProcessLines) (place : LineInText) (f : Form) where
       few : too_many place f slots ≡ false
       few = sym (ap (of_form (too_many place)) e) ∙ none_applies (λ kind. applies kind heads place) tried_before fault.TooMany tried_behind none
 
-  pub not_full : fault_at heads place ≡ None → what.Says f ≡ without_operands place.line.saying → form_is_full place.above f (operands_of place.line.saying) ≡ false
+  pub not_full : fault_at heads place ≡ None → what.Says f ≡ without_operands place.line.saying
+      → form_is_full place.above f (operands_of place.line.saying) ≡ false
   not_full clean says = by place.line.saying refl
     where
       by : (s : Saying) → place.line.saying ≡ s → form_is_full place.above f (operands_of place.line.saying) ≡ false

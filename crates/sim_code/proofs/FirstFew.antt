@@ -25,7 +25,9 @@ take_push n ys y = by (nat_lt (length ys) n) refl
 
 module _ {X A : Type 0} (f : X → A) (n : ℕ) (xs : List X) where
   -- a push of what the next gives, unless n are held
-  pub first_few_more : (i : ℕ) (x : X) (y : A) (held after : List A) → i < length xs → x ≡ get_or xs i x → y ≡ f x → held ≡ take n (map f (take i xs)) → after ≡ cond (nat_lt (length held) n) (held ++ y ∷ []) held → after ≡ take n (map f (take (i + 1) xs))
+  pub first_few_more : (i : ℕ) (x : X) (y : A) (held after : List A) → i < length xs → x ≡ get_or xs i x → y ≡ f x
+      → held ≡ take n (map f (take i xs)) → after ≡ cond (nat_lt (length held) n) (held ++ y ∷ []) held
+      → after ≡ take n (map f (take (i + 1) xs))
   first_few_more i x y held after h is_x is_y is_held is_after =
       is_after ∙ ap (λ l. cond (nat_lt (length l) n) (l ++ y ∷ []) l) is_held
       ∙ sym (ap (take n) (map_more f xs i x h ∙ ap (λ v. map f (take i xs) ++ v ∷ []) (ap f (sym is_x) ∙ sym is_y)) ∙ take_push n (map f (take i xs)) y)

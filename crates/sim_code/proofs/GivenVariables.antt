@@ -14,7 +14,8 @@ gives (Gives class) = true
 gives Parameter = true
 gives role = false
 
-one_or_none : (role : Role) (word : Word) (slots : List Operand) → length (given_by (record { role = role; word = word } ∷ slots)) ≡ cond (gives role) (1 + length (given_by slots)) (length (given_by slots))
+one_or_none : (role : Role) (word : Word) (slots : List Operand)
+    → length (given_by (record { role = role; word = word } ∷ slots)) ≡ cond (gives role) (1 + length (given_by slots)) (length (given_by slots))
 one_or_none (Gives class) word slots = omega arith
 one_or_none Parameter word slots = omega arith
 one_or_none role word slots = refl

@@ -20,7 +20,7 @@ use Rattle.sim_language.specs.Statements.{literal_of, number_declared}
 use Rattle.sim_language.specs.Places.{LineInText}
 use Rattle.sim_types.specs.Scenarios.{ScenarioOf}
 use Rattle.sim_types.specs.declared.setup.Arrival.{Arrival}
-use Rattle.sim_code.specs.LineGroups.{is_of_entries}
+use Rattle.sim_code.specs.LineGroups.{add_of, is_of_entries}
 
 within_low : (m : ℕ) (o : Option ℤ) → m < 2 ^ 63 → is_none (between (pos 0) (pos m) o) ≡ false → nat_abs (unwrap_or (between least greatest o) (pos 0)) ≤ m
 within_low m None b h = absurd (cc)
@@ -49,10 +49,20 @@ natural_small m w b h = within_low m (signed w) b h
 abbrev Small : List Operand → Type 0
 Small slots = ((p : Operand) → p ≡ get_or slots 1 p → natural_of p.word ≤ 15) × ((n : Operand) → n ≡ get_or slots 2 n → natural_of n.word ≤ 65535)
 
-small_by : (context : Context) (words : List Word) (slots : List Operand) → fit context [] (shape form.After) words ≡ Some slots → list_any is_bad_number slots ≡ false → Small slots
+-- the operands that these words are in an entry
+abbrev entry_slots : (k p n port v : Word) → List Operand
+entry_slots k p n port v =
+    slot_of (Within (pos 0) (pos (2 ^ 62))) k
+    ∷ slot_of (Within (pos 0) (pos 15)) p
+    ∷ slot_of (Within (pos 0) (pos 65535)) n
+    ∷ slot_of (Names sort.Port) port
+    ∷ slot_of any_literal v ∷ []
+
+small_by : (context : Context) (words : List Word) (slots : List Operand) → fit context [] (shape form.After) words ≡ Some slots
+    → list_any is_bad_number slots ≡ false → Small slots
 small_by context (k ∷ p ∷ n ∷ port ∷ v ∷ []) slots e h = (second, third)
   where
-    is : slot_of (Within (pos 0) (pos (2 ^ 62))) k ∷ slot_of (Within (pos 0) (pos 15)) p ∷ slot_of (Within (pos 0) (pos 65535)) n ∷ slot_of (Names sort.Port) port ∷ slot_of any_literal v ∷ [] ≡ slots
+    is : entry_slots k p n port v ≡ slots
     is = same_Some _ slots e
 
     second : (q : Operand) → q ≡ get_or slots 1 q → natural_of q.word ≤ 15
@@ -69,15 +79,18 @@ small_by context words slots e h = absurd (cc)
 small : (f : Form) (slots : List Operand) → Fits f slots → f ≡ form.After → Small slots
 small f slots fits e = small_by fits.context fits.words slots (rw e at fits.shape) fits.numbers
 
-pub poster_small : (f : Form) (slots : List Operand) → Fits f slots → f ≡ form.After → (p : Operand) (r : ℕ) → p ≡ get_or slots 1 p → r ≡ natural_of p.word → r < 2 ^ 32
+pub poster_small : (f : Form) (slots : List Operand) → Fits f slots → f ≡ form.After → (p : Operand) (r : ℕ) → p ≡ get_or slots 1 p
+    → r ≡ natural_of p.word → r < 2 ^ 32
 poster_small f slots fits e p r is_p is_r = omega (arith, (small f slots fits e).0 p is_p)
 
-pub serial_small : (f : Form) (slots : List Operand) → Fits f slots → f ≡ form.After → (n : Operand) (r : ℕ) → n ≡ get_or slots 2 n → r ≡ natural_of n.word → r < 2 ^ 32
+pub serial_small : (f : Form) (slots : List Operand) → Fits f slots → f ≡ form.After → (n : Operand) (r : ℕ) → n ≡ get_or slots 2 n
+    → r ≡ natural_of n.word → r < 2 ^ 32
 serial_small f slots fits e n r is_n is_r = omega (arith, (small f slots fits e).1 n is_n)
 
 -- ---- what an entry adds
 
-pub five_items : {A : Type 0} (xs : List A) (a b c d e : A) → 5 ≤ length xs → length xs < 6 → a ≡ get_or xs 0 a → b ≡ get_or xs 1 b → c ≡ get_or xs 2 c → d ≡ get_or xs 3 d → e ≡ get_or xs 4 e → xs ≡ a ∷ b ∷ c ∷ d ∷ e ∷ []
+pub five_items : {A : Type 0} (xs : List A) (a b c d e : A) → 5 ≤ length xs → length xs < 6 → a ≡ get_or xs 0 a → b ≡ get_or xs 1 b
+    → c ≡ get_or xs 2 c → d ≡ get_or xs 3 d → e ≡ get_or xs 4 e → xs ≡ a ∷ b ∷ c ∷ d ∷ e ∷ []
 five_items (v ∷ w ∷ x ∷ y ∷ z ∷ []) a b c d e l h is_a is_b is_c is_d is_e = rw (is_a, is_b, is_c, is_d, is_e) refl
 five_items (v ∷ w ∷ x ∷ y ∷ z ∷ u ∷ xs) a b c d e l h is_a is_b is_c is_d is_e = absurd (omega arith)
 five_items (v ∷ w ∷ x ∷ y ∷ []) a b c d e l h is_a is_b is_c is_d is_e = absurd (omega arith)
@@ -86,5 +99,16 @@ five_items (v ∷ w ∷ []) a b c d e l h is_a is_b is_c is_d is_e = absurd (ome
 five_items (v ∷ []) a b c d e l h is_a is_b is_c is_d is_e = absurd (omega arith)
 five_items [] a b c d e l h is_a is_b is_c is_d is_e = absurd (omega arith)
 
-pub arrival_added : (heads : ProcessLines) (place : LineInText) (f : Form) (slots : List Operand) (s : ScenarioOf) (k p n port v : Operand) (arrival : Arrival) → f ≡ form.After → slots ≡ k ∷ p ∷ n ∷ port ∷ v ∷ [] → arrival ≡ record { after = natural_of k.word; poster = natural_of p.word; serial = natural_of n.word; port = number_declared place.above.declared port.word; value = literal_of v.word } → with_arrival s arrival ≡ (if is_of_entries f then add heads place f slots s else s)
+abbrev arrival_of : LineInText → (k p n port v : Operand) → Arrival
+arrival_of place k p n port v = record {
+  after = natural_of k.word;
+  poster = natural_of p.word;
+  serial = natural_of n.word;
+  port = number_declared place.above.declared port.word;
+  value = literal_of v.word;
+}
+
+pub arrival_added : (heads : ProcessLines) (place : LineInText) (f : Form) (slots : List Operand) (s : ScenarioOf)
+    (k p n port v : Operand) (arrival : Arrival) → f ≡ form.After → slots ≡ k ∷ p ∷ n ∷ port ∷ v ∷ []
+    → arrival ≡ arrival_of place k p n port v → with_arrival s arrival ≡ add_of is_of_entries heads place f slots s
 arrival_added heads place f slots s k p n port v arrival is_after five is_arrival = rw (is_after, five, is_arrival) refl

@@ -26,7 +26,8 @@ module _ {A : Type 0} (c : A) where
     pub kept_none : replicate (suc n) c ≡ kept 0
     kept_none = ap (λ l. c ∷ l) (sym (take-replicate n m c below))
 
-    pub kept_more : (i : ℕ) (v : A) (before after : List A) → i < n → slice_get vs i ≡ Some v → before ≡ kept i → after ≡ set before (i + 1) v → after ≡ kept (i + 1)
+    pub kept_more : (i : ℕ) (v : A) (before after : List A) → i < n → slice_get vs i ≡ Some v → before ≡ kept i
+        → after ≡ set before (i + 1) v → after ≡ kept (i + 1)
     kept_more i v before after h e is_before is_after =
         is_after ∙ ap (λ l. set l (i + 1) v) is_before ∙ rw (add-one i) (ap (λ l. c ∷ l) (one_set n m i vs v h below e))
 

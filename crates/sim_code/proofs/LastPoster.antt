@@ -10,7 +10,8 @@ onto_last_push post [] posts = refl
 onto_last_push post (x ∷ []) posts = refl
 onto_last_push post (x ∷ y ∷ front) posts = ap (λ l. x ∷ l) (onto_last_push post (y ∷ front) posts)
 
-pub onto_last_set : (post : Post) (n : ℕ) (posters : List (List Post)) (posts after : List Post) → n ≡ length posters → 0 < n → posts ≡ get_or posters (n - 1) posts → after ≡ posts ++ post ∷ [] → set posters (n - 1) after ≡ onto_last post posters
+pub onto_last_set : (post : Post) (n : ℕ) (posters : List (List Post)) (posts after : List Post) → n ≡ length posters → 0 < n
+    → posts ≡ get_or posters (n - 1) posts → after ≡ posts ++ post ∷ [] → set posters (n - 1) after ≡ onto_last post posters
 onto_last_set post n posters posts after l h e is_after = rw l (from (rw l at h) (rw l at e))
   where
     from : 0 < length posters → posts ≡ get_or posters (length posters - 1) posts → set posters (length posters - 1) after ≡ onto_last post posters

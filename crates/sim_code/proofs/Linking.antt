@@ -20,10 +20,12 @@ pub reverse_push : {A : Type 0} (xs : List A) (x : A) → reverse (xs ++ x ∷ [
 reverse_push xs x = reverse-append xs (x ∷ [])
 
 -- the innermost is split at a place
-pub split_last : (place n : ℕ) (cs : List Closing) (b : Closing) → n ≡ length cs → 0 < n → b ≡ get_or cs (n - 1) b → reverse (set cs (n - 1) (record { past = b.past; split = place })) ≡ split_at place (reverse cs)
+pub split_last : (place n : ℕ) (cs : List Closing) (b : Closing) → n ≡ length cs → 0 < n → b ≡ get_or cs (n - 1) b
+    → reverse (set cs (n - 1) (record { past = b.past; split = place })) ≡ split_at place (reverse cs)
 split_last place n cs b l h e = rw l (from (rw l at h) (rw l at e))
   where
-    from : 0 < length cs → b ≡ get_or cs (length cs - 1) b → reverse (set cs (length cs - 1) (record { past = b.past; split = place })) ≡ split_at place (reverse cs)
+    from : 0 < length cs → b ≡ get_or cs (length cs - 1) b
+        → reverse (set cs (length cs - 1) (record { past = b.past; split = place })) ≡ split_at place (reverse cs)
     from h e =
         ap reverse (front_and_set cs (record { past = b.past; split = place }) h) ∙ reverse_push (take (length cs - 1) cs) (record { past = b.past; split = place })
         ∙ sym (ap (λ l. split_at place (reverse l)) (front_and_last cs b h e) ∙ ap (split_at place) (reverse_push (take (length cs - 1) cs) b))

@@ -3,6 +3,7 @@ use Rattle.std.proofs.Common.{subst, ◌≡◌, refl, sym, ap, ◌∙◌, ℕ, s
 use Rattle.std.specs.Prelude.{IsErrAnd, nat_lt}
 use Rattle.std.proofs.lemmas.Bool.Decides.{nat_tests}
 use Rattle.std.proofs.lemmas.Result.{err_from_is_err_and}
+use Rattle.sim_types.specs.Limits.{most_bytes}
 use Rattle.sim_types.specs.Scenarios.{ScenarioOf}
 use Rattle.sim_types.specs.declared.fault.Fault.{Fault}
 use Rattle.sim_types.specs.declared.fault.FaultKind.{FaultKind}
@@ -11,7 +12,7 @@ use Rattle.sim_types.specs.declared.setup.Class.{Class}
 use Rattle.sim_language.specs.Built.{is_built}
 use Rattle.sim_language.specs.Lines.{Word, lines}
 use Rattle.sim_language.specs.Named.{Named}
-use Rattle.sim_language.specs.AnywhereInText.{ProcessLines, heads_of}
+use Rattle.sim_language.specs.AnywhereInText.{ProcessLines, WholeText, whole_text}
 use Rattle.sim_language.specs.Sayings.{TextLine, sayings}
 use Rattle.sim_language.specs.Variables.{variables_at, variables_then}
 use Rattle.sim_language.specs.Places.{Above, LineInText, above_of, places}
@@ -32,7 +33,8 @@ end-later n above l below = let same : n + suc (length below) ≡ n + 1 + length
 
 -- ---- in front of the first line
 
-starts-with : (heads : ProcessLines) (ls : List TextLine) → length ls ≤ 4194304 → IsReading heads (outcome heads nothing_said (places 1 [] ls) (end_fault ls)) 1 (above_of []) [] nothing_said ls
+starts-with : (heads : ProcessLines) (ls : List TextLine) → length ls ≤ most_bytes
+    → IsReading heads (outcome heads nothing_said (places 1 [] ls) (end_fault ls)) 1 (above_of []) [] nothing_said ls
 starts-with heads ls few = record {
   before = [];
   above_is = refl;
@@ -44,11 +46,11 @@ starts-with heads ls few = record {
   outcome_is = ap (outcome heads nothing_said (places 1 [] ls)) (end-start ls);
 }
 
-pub reading_starts : (heads : ProcessLines) (ls : List Word) (above : Above) (variables : List (Named Class)) (draft : ScenarioOf) (lines : List TextLine)
-    → above ≡ above_of [] → variables ≡ [] → draft ≡ nothing_said → lines ≡ sayings is_built heads ls → length lines ≤ 4194304
-    → IsReading heads (reads_text is_built heads ls) 1 above variables draft lines
-reading_starts heads ls above variables draft lines above_is variables_are draft_is lines_are few =
-    rw (above_is, variables_are, draft_is, lines_are) (starts-with heads (sayings is_built heads ls) (rw lines_are at few))
+pub reading_starts : (whole : WholeText) (ls : List Word) (above : Above) (variables : List (Named Class)) (draft : ScenarioOf) (lines : List TextLine)
+    → above ≡ above_of [] → variables ≡ [] → draft ≡ nothing_said → lines ≡ sayings is_built whole ls → length lines ≤ most_bytes
+    → IsReading whole.heads (reads_text is_built whole ls) 1 above variables draft lines
+reading_starts whole ls above variables draft lines above_is variables_are draft_is lines_are few =
+    rw (above_is, variables_are, draft_is, lines_are) (starts-with whole.heads (sayings is_built whole ls) (rw lines_are at few))
 
 -- ---- a line
 
@@ -66,7 +68,10 @@ module _ (heads : ProcessLines) (s : ScenarioOf) (place : LineInText) (ps : List
   faulty-outcome : (kind : FaultKind) → fault_at heads place ≡ Some kind → outcome heads s (place ∷ ps) end ≡ Err (record { line = place.number; kind = kind })
   faulty-outcome kind some = rw some refl
 
-module _ (heads : ProcessLines) (answer : Result ScenarioOf Fault) (n : ℕ) (above : Above) (variables next : List (Named Class)) (draft : ScenarioOf) (l : TextLine) (below : List TextLine) (r : IsReading heads answer n above variables draft (l ∷ below)) (next_is : next ≡ variables_then l.saying below variables) where
+module _ (heads : ProcessLines) (answer : Result ScenarioOf Fault) (n : ℕ) (above : Above) (variables next : List (Named Class))
+    (draft : ScenarioOf) (l : TextLine) (below : List TextLine)
+    (r : IsReading heads answer n above variables draft (l ∷ below))
+    (next_is : next ≡ variables_then l.saying below variables) where
   -- the line at its place among the lines of the text
   abbrev its-place : LineInText
   its-place = place_of n (above_of r.before) (variables_at (l ∷ r.before) below) l
@@ -89,13 +94,14 @@ module _ (heads : ProcessLines) (answer : Result ScenarioOf Fault) (n : ℕ) (ab
       ∙ sym (faultless-outcome heads draft its-place its-rest (end_from n r.before (l ∷ below)) (ap (fault_at heads) (sym stands-there) ∙ none))
       ∙ r.outcome_is
 
-  pub reading_goes_on : (later : ScenarioOf) (behind : Above) → fault_at heads (place_of n above next l) ≡ None → later ≡ add_said heads (place_of n above next l) l.saying draft → behind ≡ above_behind above l
+  pub reading_goes_on : (later : ScenarioOf) (behind : Above) → fault_at heads (place_of n above next l) ≡ None
+      → later ≡ add_said heads (place_of n above next l) l.saying draft → behind ≡ above_behind above l
       → IsReading heads answer (n + 1) behind next later below
   reading_goes_on later behind none later_is behind_is =
       let number : n ≡ length r.before + 1 = r.number_is in
       let one : length (l ∷ r.before) ≡ length r.before + 1 = omega arith in
       let two : length (l ∷ below) ≡ length below + 1 = omega arith in
-      let few : length r.before + length (l ∷ below) ≤ 4194304 = r.few in
+      let few : length r.before + length (l ∷ below) ≤ most_bytes = r.few in
       let events : draft.setup.events ≤ length r.before = r.few_events in
       let statements : length draft.code ≤ length r.before = r.few_statements in
       let added : OneMore draft later = subst (OneMore draft) (sym later_is) (line_adds heads (place_of n above next l) l.saying draft) in
@@ -111,20 +117,24 @@ module _ (heads : ProcessLines) (answer : Result ScenarioOf Fault) (n : ℕ) (ab
       }
 
 -- the counts above, and the events so far, are small
-pub reading_below : (heads : ProcessLines) (answer : Result ScenarioOf Fault) (n : ℕ) (above : Above) (variables : List (Named Class)) (draft : ScenarioOf) (lines : List TextLine)
-    → IsReading heads answer n above variables draft lines → IsBelow 4194304 above
-reading_below heads answer n above variables draft lines r = rw r.above_is (below_most 4194304 r.before (omega (arith, r.few)))
+pub reading_below : (heads : ProcessLines) (answer : Result ScenarioOf Fault) (n : ℕ) (above : Above) (variables : List (Named Class))
+    (draft : ScenarioOf) (lines : List TextLine)
+    → IsReading heads answer n above variables draft lines → IsBelow most_bytes above
+reading_below heads answer n above variables draft lines r = rw r.above_is (below_most most_bytes r.before (omega (arith, r.few)))
 
-pub reading_few : (heads : ProcessLines) (answer : Result ScenarioOf Fault) (n : ℕ) (above : Above) (variables : List (Named Class)) (draft : ScenarioOf) (lines : List TextLine)
-    → IsReading heads answer n above variables draft lines → length draft.code ≤ 4194304
+pub reading_few : (heads : ProcessLines) (answer : Result ScenarioOf Fault) (n : ℕ) (above : Above) (variables : List (Named Class))
+    (draft : ScenarioOf) (lines : List TextLine)
+    → IsReading heads answer n above variables draft lines → length draft.code ≤ most_bytes
 reading_few heads answer n above variables draft lines r = omega (arith, r.few, r.few_statements)
 
 -- ---- behind the last line
 
-ends-with : (draft : ScenarioOf) (n : ℕ) (above : Above) → (past : Option FaultKind) → fault_past above ≡ past → unless_faulty (at_line (n + 0) (fault_past above)) draft ≡ unless_faulty (at_line n past) draft
+ends-with : (draft : ScenarioOf) (n : ℕ) (above : Above) → (past : Option FaultKind) → fault_past above ≡ past
+    → unless_faulty (at_line (n + 0) (fault_past above)) draft ≡ unless_faulty (at_line n past) draft
 ends-with draft n above past is = let same : n + 0 ≡ n = omega arith in rw (same, is) refl
 
-module _ (heads : ProcessLines) (answer : Result ScenarioOf Fault) (n : ℕ) (above : Above) (variables : List (Named Class)) (draft : ScenarioOf) (r : IsReading heads answer n above variables draft []) where
+module _ (heads : ProcessLines) (answer : Result ScenarioOf Fault) (n : ℕ) (above : Above) (variables : List (Named Class)) (draft : ScenarioOf)
+    (r : IsReading heads answer n above variables draft []) where
   pub reading_ends : fault_past above ≡ None → answer ≡ Ok (with_links draft)
   reading_ends past = sym r.outcome_is ∙ ends-with draft n (above_of r.before) None (ap fault_past (sym r.above_is) ∙ past)
 
@@ -133,20 +143,26 @@ module _ (heads : ProcessLines) (answer : Result ScenarioOf Fault) (n : ℕ) (ab
 
 -- ---- want of memory
 
-pub memory_says_nothing : (result : Result ScenarioOf ReadError) (read : Result ScenarioOf Fault) → IsErrAnd result (λ why. why ≡ error.Memory) → GivesDraft result read
+pub memory_says_nothing : (result : Result ScenarioOf ReadError) (read : Result ScenarioOf Fault)
+    → IsErrAnd result (λ why. why ≡ error.Memory) → GivesDraft result read
 memory_says_nothing result read err = let why = err_from_is_err_and result err in rw (why.1, why.2) tt
 
-pub memory_says_nothing_of_it : (result : Result ScenarioOf ReadError) (read : Result ScenarioOf Fault) → IsErrAnd result (λ why. why ≡ error.Memory) → Gives result read
+pub memory_says_nothing_of_it : (result : Result ScenarioOf ReadError) (read : Result ScenarioOf Fault)
+    → IsErrAnd result (λ why. why ≡ error.Memory) → Gives result read
 memory_says_nothing_of_it result read err = let why = err_from_is_err_and result err in rw (why.1, why.2) tt
 
 -- ---- a whole text
 
-pub reads_is : (text : List ℕ) (heads : ProcessLines) → length text ≤ 4194304 → heads ≡ heads_of (lines text) → reads is_built text ≡ reads_text is_built heads (lines text)
-reads_is text heads few heads_are = let short : nat_lt 4194304 (length text) ≡ false = grind (arith, nat_tests) in rw (short, heads_are) refl
+pub reads_is : (text : List ℕ) (whole : WholeText) → length text ≤ most_bytes → whole ≡ whole_text is_built (lines text)
+    → reads is_built text ≡ reads_text is_built whole (lines text)
+reads_is text whole few whole_is = let short : nat_lt most_bytes (length text) ≡ false = grind (arith, nat_tests) in rw (short, whole_is) refl
 
-pub reads_long : (text : List ℕ) → 4194304 < length text → reads is_built text ≡ Err (record { line = 0; kind = fault.TooLong })
-reads_long text long = let passes : nat_lt 4194304 (length text) ≡ true = grind (arith, nat_tests) in rw passes refl
+pub reads_long : (text : List ℕ) → most_bytes < length text → reads is_built text ≡ Err (record { line = 0; kind = fault.TooLong })
+reads_long text long = let passes : nat_lt most_bytes (length text) ≡ true = grind (arith, nat_tests) in rw passes refl
 
-module _ (text : List ℕ) (heads : ProcessLines) (draft : ScenarioOf) (few : length text ≤ 4194304) (heads_are : heads ≡ heads_of (lines text)) (says : reads_text is_built heads (lines text) ≡ Ok (with_links draft)) where
+module _ (text : List ℕ) (whole : WholeText) (draft : ScenarioOf)
+    (few : length text ≤ most_bytes)
+    (whole_is : whole ≡ whole_text is_built (lines text))
+    (says : reads_text is_built whole (lines text) ≡ Ok (with_links draft)) where
   pub draft_says : reads is_built text ≡ Ok (with_links draft)
-  draft_says = reads_is text heads few heads_are ∙ says
+  draft_says = reads_is text whole few whole_is ∙ says

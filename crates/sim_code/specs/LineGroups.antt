@@ -1,11 +1,21 @@
 -- Groups of lines.
-use Rattle.std.specs.Prelude.{Bool, true, false}
+use Rattle.std.specs.Prelude.{Bool, true, false, if◌then◌else◌, List}
+use Rattle.sim_types.specs.Scenarios.{ScenarioOf}
 use Rattle.sim_language.specs.declared.form.Form.{Form}
 use Rattle.sim_language.specs.declared.form.Form.TheVariants as form
+use Rattle.sim_language.specs.AnywhereInText.{ProcessLines}
+use Rattle.sim_language.specs.Shapes.{Operand}
+use Rattle.sim_language.specs.Places.{LineInText}
+use Rattle.sim_language.specs.Reads.{add}
+
+-- what a line adds, where it is of the group; else it adds nothing
+abbrev pub add_of : (Form → Bool) → ProcessLines → LineInText → Form → List Operand → ScenarioOf → ScenarioOf
+add_of is_of heads place f slots s = if is_of f then add heads place f slots s else s
 
 -- the lines of the header
 abbrev pub is_of_headers : Form → Bool
 is_of_headers form.UntilTime = true
+is_of_headers form.UntilEvent = true
 is_of_headers form.Seed = true
 is_of_headers f = false
 

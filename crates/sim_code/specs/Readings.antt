@@ -1,5 +1,6 @@
 -- How far a text is read.
 use Rattle.std.specs.Prelude.{◌≡◌, ℕ, ◌+◌, ◌≤◌, List, [], ◌∷◌, length, Option, Result, Ok, Err}
+use Rattle.sim_types.specs.Limits.{most_bytes}
 use Rattle.sim_types.specs.Scenarios.{ScenarioOf}
 use Rattle.sim_types.specs.declared.fault.Fault.{Fault}
 use Rattle.sim_types.specs.declared.setup.Class.{Class}
@@ -39,12 +40,20 @@ abbrev pub end_from : ℕ → List TextLine → List TextLine → Option Fault
 end_from n above below = at_line (n + length below) (fault_past (above_of (passed above below)))
 
 -- the lines that were passed had no fault, and with those that are left the text says `answer`
-pub record IsReading (heads : ProcessLines) (answer : Result ScenarioOf Fault) (number : ℕ) (above : Above) (variables : List (Named Class)) (draft : ScenarioOf) (lines : List TextLine) : Type 0 where
+pub record IsReading
+    (heads : ProcessLines)
+    (answer : Result ScenarioOf Fault)
+    (number : ℕ)
+    (above : Above)
+    (variables : List (Named Class))
+    (draft : ScenarioOf)
+    (lines : List TextLine)
+    : Type 0 where
   pub before : List TextLine
   pub above_is : above ≡ above_of before
   pub number_is : number ≡ length before + 1
   pub variables_are : variables ≡ variables_at before lines
-  pub few : length before + length lines ≤ 4194304
+  pub few : length before + length lines ≤ most_bytes
   pub few_events : draft.setup.events ≤ length before
   pub few_statements : length draft.code ≤ length before
   pub outcome_is : outcome heads draft (places number before lines) (end_from number before lines) ≡ answer

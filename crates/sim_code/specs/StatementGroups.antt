@@ -1,7 +1,16 @@
 -- Groups of statements.
-use Rattle.std.specs.Prelude.{Bool, true, false}
+use Rattle.std.specs.Prelude.{Bool, true, false, if◌then◌else◌, List, Option, None}
+use Rattle.sim_types.specs.declared.script.Stmt.{Stmt}
 use Rattle.sim_language.specs.declared.form.Form.{Form}
 use Rattle.sim_language.specs.declared.form.Form.TheVariants as form
+use Rattle.sim_language.specs.AnywhereInText.{ProcessLines}
+use Rattle.sim_language.specs.Shapes.{Operand}
+use Rattle.sim_language.specs.Places.{LineInText}
+use Rattle.sim_language.specs.Statements.{statement}
+
+-- the statement of a line, where it is of the group
+abbrev pub statement_of : (Form → Bool) → ProcessLines → LineInText → Form → List Operand → Option Stmt
+statement_of is_of heads place f slots = if is_of f then statement heads place f slots else None
 
 -- the statements that compute, log or make time pass
 abbrev pub is_of_numbers : Form → Bool
@@ -21,6 +30,7 @@ is_of_events form.Fail = true
 is_of_events form.NewAll = true
 is_of_events form.NewAny = true
 is_of_events form.Has = true
+is_of_events form.Chain = true
 is_of_events f = false
 
 -- the statements of processes

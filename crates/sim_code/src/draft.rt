@@ -1,14 +1,14 @@
 //! A scenario that is being read.
-ghost use Rattle.std.specs.Prelude.{◌≡◌, ◌<◌, ◌≤◌, ◌^◌, None, IfOk, OnOk, false, Ok, if◌then◌else◌, length, map, pos, take};
+ghost use Rattle.std.specs.Prelude.{◌≡◌, ◌<◌, ◌≤◌, ◌^◌, None, IfOk, OnOk, false, Ok, length, map, pos, take};
+ghost use Rattle.sim_language.specs.AnywhereInText as anywhere;
 ghost use Rattle.sim_language.specs.Built.{is_built};
 ghost use Rattle.sim_code.specs.Readings.{with_links};
-ghost use Rattle.sim_code.specs.LineGroups.{is_of_declarations, is_of_entries, is_of_headers, is_of_resources};
+ghost use Rattle.sim_code.specs.LineGroups.{add_of, is_of_declarations, is_of_entries, is_of_headers, is_of_resources};
 ghost use Rattle.sim_language.specs.Faults.{fault_at};
 ghost use Rattle.sim_language.specs.LimitFaults.{form_is_full};
 ghost use Rattle.sim_language.specs.Places as places;
-ghost use Rattle.sim_language.specs.Reads.{add, add_said, capacity_of, classes_of, kind_of, natural_of, nothing_said, onto_last, reads, start_argument_of, with_arrival, with_kind, with_port, with_resource, with_statement};
+ghost use Rattle.sim_language.specs.Reads.{add, add_said, capacity_of, classes_of, event_ahead, kind_of, natural_of, nothing_said, onto_last, reads, start_argument_of, with_arrival, with_kind, with_port, with_resource, with_statement};
 ghost use Rattle.sim_language.specs.Said.{Fits};
-ghost use Rattle.sim_language.specs.Shapes as shapes;
 ghost use Rattle.sim_language.specs.Statements as statements;
 ghost use Rattle.sim_language.specs.Statements.{literal_of};
 ghost use Rattle.sim_language.specs.Variables.{given_by};
@@ -19,13 +19,13 @@ ghost use Rattle.sim_types.specs.declared.setup.ResourceKind.TheVariants as reso
 use crate::link::link;
 use crate::statement::{kind_number, literal_of, number_declared, statement};
 use sim_faults::LineInText;
-use sim_language::{Form, Role};
+use sim_language::{Ahead, Form, Role};
 use sim_lines::{Operand, ProcessLines, Saying, capacity};
 use sim_names::Names;
 use sim_scenario::Scenario;
 use sim_types::{
-    Args, Arrival, Class, Classes, Kind, List, MOST_ITEMS, MOST_LEVEL, Name, Post, Resource,
-    ResourceKind, Setup, Start, Stmt, Until,
+    Args, Arrival, Class, Classes, EventId, Kind, List, MOST_ITEMS, MOST_LEVEL, Name, Post,
+    Resource, ResourceKind, Setup, Start, Stmt, Until,
 };
 use std::alloc::{AllocError, Global};
 use std::marker::Model;
@@ -54,7 +54,22 @@ impl Model for Draft {
 
     ghost Value = { ScenarioOf };
 
-    ghost view = { λ a. record { setup = record { until = a.until; events = a.events; resources = a.resources.items; ports = a.ports.items; starts = a.starts.items }; seed = a.seed; port_names = a.port_names.items; kinds = a.kinds.items; code = a.code.items; journal = a.journal.items; posters = a.posters.items } };
+    ghost view = { λ a.
+        record {
+          setup = record {
+            until = a.until;
+            events = a.events;
+            resources = a.resources.items;
+            ports = a.ports.items;
+            starts = a.starts.items;
+          };
+          seed = a.seed;
+          port_names = a.port_names.items;
+          kinds = a.kinds.items;
+          code = a.code.items;
+          journal = a.journal.items;
+          posters = a.posters.items;
+        } };
 }
 
 impl Draft {
@@ -86,7 +101,8 @@ impl Draft {
     ) -> Result<(), AllocError>
         requires clean { fault_at heads.now place.now ≡ None }
         requires room { self.old.setup.events < 2 ^ 63 }
-        ensures { OnOk result (self.new ≡ add_said heads.now place.now place.now.line.saying self.old) }
+        ensures { OnOk result
+            (self.new ≡ add_said heads.now place.now place.now.line.saying self.old) }
     {
         let line = place.line();
         let slots = line.operands();
@@ -111,7 +127,7 @@ impl Draft {
         ensures { OnOk result (self.new ≡ add heads.now place.now form slots.now self.old) }
     {
         match form {
-            Form::UntilTime | Form::Seed => {
+            Form::UntilTime | Form::UntilEvent | Form::Seed => {
                 self.add_header(form, slots);
                 Ok(())
             }
@@ -132,10 +148,12 @@ impl Draft {
 
     /// Sets what a header line gives.
     fn add_header(&mut self, form: Form, slots: &[Operand<'_>])
-        ensures { (heads : shapes.ProcessLines) (place : places.LineInText) → self.new ≡ (if is_of_headers form then add heads place form slots.now self.old else self.old) }
+        ensures { (heads : anywhere.ProcessLines) (place : places.LineInText)
+            → self.new ≡ add_of is_of_headers heads place form slots.now self.old }
     {
         match (form, slots) {
             (Form::UntilTime, [time]) => self.until = Until::At(literal_of(time.word())),
+            (Form::UntilEvent, [event]) => self.until = Until::Event(event_ahead(event)),
             (Form::Seed, [seed]) => self.seed = natural(seed.word()),
             _ => {}
         }
@@ -159,7 +177,8 @@ impl Draft {
 
     /// Adds a resource that so many can use at once.
     fn push_shared(&mut self, kind: ResourceKind, users: &Operand<'_>) -> Result<(), AllocError>
-        ensures { OnOk result (self.new ≡ with_resource self.old kind (literal_of users.now.word) (pos 0)) }
+        ensures { OnOk result
+            (self.new ≡ with_resource self.old kind (literal_of users.now.word) (pos 0)) }
     {
         self.push_resource(kind, literal_of(users.word()), 0)
     }
@@ -169,7 +188,10 @@ impl Draft {
         most: &Operand<'_>,
         opening: &Operand<'_>,
     ) -> Result<(), AllocError>
-        ensures { OnOk result (self.new ≡ with_resource self.old resource.Container (capacity_of most_level most.now.word) (literal_of opening.now.word)) }
+        ensures { OnOk result
+            (self.new
+            ≡ with_resource self.old resource.Container
+            (capacity_of most_level most.now.word) (literal_of opening.now.word)) }
     {
         self.push_resource(
             ResourceKind::Container,
@@ -179,14 +201,16 @@ impl Draft {
     }
 
     fn push_store(&mut self, kind: ResourceKind, most: &Operand<'_>) -> Result<(), AllocError>
-        ensures { OnOk result (self.new ≡ with_resource self.old kind (capacity_of most_items most.now.word) (pos 0)) }
+        ensures { OnOk result
+            (self.new ≡ with_resource self.old kind (capacity_of most_items most.now.word) (pos 0)) }
     {
         self.push_resource(kind, capacity_of(MOST_ITEMS, most.word()), 0)
     }
 
     /// Adds the resource that a line declares.
     fn add_resource(&mut self, form: Form, slots: &[Operand<'_>]) -> Result<(), AllocError>
-        ensures { (heads : shapes.ProcessLines) (place : places.LineInText) → OnOk result (self.new ≡ (if is_of_resources form then add heads place form slots.now self.old else self.old)) }
+        ensures { (heads : anywhere.ProcessLines) (place : places.LineInText)
+            → OnOk result (self.new ≡ add_of is_of_resources heads place form slots.now self.old) }
     {
         match (form, slots) {
             (Form::Resource, [_, users]) => self.push_shared(ResourceKind::Plain, users),
@@ -209,7 +233,9 @@ impl Draft {
         slots: &[Operand<'_>],
     ) -> Result<(), AllocError>
         requires { self.old.setup.events < 2 ^ 63 }
-        ensures { (place : places.LineInText) → OnOk result (self.new ≡ (if is_of_declarations form then add heads.now place form slots.now self.old else self.old)) }
+        ensures { (place : places.LineInText)
+            → OnOk result
+            (self.new ≡ add_of is_of_declarations heads.now place form slots.now self.old) }
     {
         match (form, slots) {
             (Form::Event, _) => {
@@ -277,7 +303,8 @@ impl Draft {
         slots: &[Operand<'_>],
     ) -> Result<(), AllocError>
         requires { Fits form slots.now }
-        ensures { (heads : shapes.ProcessLines) → OnOk result (self.new ≡ (if is_of_entries form then add heads place.now form slots.now self.old else self.old)) }
+        ensures { (heads : anywhere.ProcessLines)
+            → OnOk result (self.new ≡ add_of is_of_entries heads place.now form slots.now self.old) }
     {
         match (form, slots) {
             (Form::After, [after, poster, serial, port, value]) => {
@@ -308,7 +335,8 @@ impl Draft {
 
     /// Adds a value to the last poster.
     fn push_post(&mut self, post: Post) -> Result<(), AllocError>
-        ensures { OnOk result (self.new ≡ record self.old { posters = onto_last post self.old.posters }) }
+        ensures { OnOk result
+            (self.new ≡ record self.old { posters = onto_last post self.old.posters }) }
     {
         if let Some(posts) = self.posters.last_mut() {
             posts.push(post)?;
@@ -324,7 +352,10 @@ impl Draft {
         form: Form,
         slots: &[Operand<'_>],
     ) -> Result<(), AllocError>
-        ensures { OnOk result (self.new ≡ with_statement self.old (statements.statement heads.now place.now form slots.now)) }
+        ensures { OnOk result
+            (self.new
+            ≡ with_statement self.old
+            (statements.statement heads.now place.now form slots.now)) }
     {
         if let Some(statement) = statement(heads, place, form, slots) {
             self.code.push(statement)?;
@@ -384,6 +415,16 @@ fn capacity_of(most: i64, word: &[u8]) -> i64
     ensures { result ≡ capacity_of most word.now }
 {
     capacity(most, word).unwrap_or(0)
+}
+
+/// The event that an `until event` names.
+fn event_ahead(slot: &Operand<'_>) -> EventId
+    ensures { result ≡ record { 0 = event_ahead slot.now } }
+{
+    match slot.role() {
+        Role::EventAhead(Ahead::EventAt(above)) => EventId(u64::from(above) + 1),
+        _ => EventId(0),
+    }
 }
 
 /// How many variables the operands give.

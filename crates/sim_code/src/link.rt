@@ -1,5 +1,6 @@
 //! Where statements go on besides at the next.
 ghost use Rattle.std.specs.Prelude.{◌≡◌, ◌<◌, ◌≤◌, [], OnOk, length};
+ghost use Rattle.sim_types.specs.Limits.{most_bytes};
 ghost use Rattle.sim_language.specs.Links.{closings_then, link, linked, past_of, split_at, split_of};
 
 use sim_types::Stmt;
@@ -93,7 +94,7 @@ impl Closings {
 
     /// Goes on to a statement in front of these.
     fn pass(&mut self, place: u32, statement: &Stmt) -> Result<(), AllocError>
-        requires { place < 4194304 }
+        requires { place < most_bytes }
         ensures { OnOk result (self.new ≡ closings_then place statement.now self.old) }
     {
         match statement {
@@ -120,7 +121,7 @@ impl Closings {
 
 /// Tells each statement the place where it goes on besides at the next.
 pub fn link(alloc: Global, code: &mut Vec<Stmt>) -> Result<(), AllocError>
-    requires { length code.old.items ≤ 4194304 }
+    requires { length code.old.items ≤ most_bytes }
     ensures { OnOk result (code.new.items ≡ linked 0 code.old.items) }
 {
     let mut closings = Closings::new(alloc);

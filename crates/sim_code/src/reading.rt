@@ -10,7 +10,7 @@ ghost use Rattle.sim_code.specs.Readings.{Gives, GivesDraft};
 use crate::draft::Draft;
 use sim_faults::{Above, LineInText, fault_at, fault_past, variables_of};
 use sim_language::Form;
-use sim_lines::{Lines, ProcessLines, Saying, TextLine};
+use sim_lines::{Lines, Saying, TextLine, WholeText};
 use sim_names::Names;
 use sim_scenario::Scenario;
 use sim_types::{Class, Fault, FaultKind, MOST_BYTES};
@@ -45,23 +45,20 @@ pub fn read(alloc: Global, text: &[u8]) -> Result<Scenario, ReadError>
             kind: FaultKind::TooLong,
         }));
     }
-    let heads = ProcessLines::of_text(alloc, text)?;
-    let draft = read_lines(alloc, text, &heads)?;
+    let whole = WholeText::of(alloc, text)?;
+    let draft = read_lines(alloc, text, &whole)?;
     let scenario = draft.finish(alloc, text)?;
     Ok(scenario)
 }
 
-/// What the lines of the text say, with these process lines; the statements are yet to be linked.
-fn read_lines<'t>(
-    alloc: Global,
-    text: &'t [u8],
-    heads: &ProcessLines<'t>,
-) -> Result<Draft, ReadError>
+/// What the lines of the text say, where this is the whole of it; the statements are yet to be linked.
+fn read_lines<'t>(alloc: Global, text: &'t [u8], whole: &WholeText<'t>) -> Result<Draft, ReadError>
     requires { length text.now ≤ most_bytes }
-    ensures gives { GivesDraft result (reads_text is_built heads.now (lines text.now)) }
+    ensures gives { GivesDraft result (reads_text is_built whole.now (lines text.now)) }
     ensures few { IfOk result (λ draft. length draft.code ≤ most_bytes) }
 {
-    let mut lines = Lines::of_text(text, heads);
+    let heads = whole.heads();
+    let mut lines = Lines::of_text(text, whole);
     let mut line = TextLine::new(alloc);
     let mut number: u32 = 1;
     let mut above = Above::new(alloc);
@@ -91,7 +88,8 @@ fn variables_here<'t>(
     below: &Lines<'t, '_>,
 ) -> Result<Names<'t, Class>, AllocError>
     requires { length below.now ≤ most_bytes }
-    ensures { IfOk result (λ variables. variables ≡ variables_then line.now.saying below.now above.entry) }
+    ensures { IfOk result (λ variables.
+        variables ≡ variables_then line.now.saying below.now above.entry) }
 {
     match line.saying() {
         Saying::Says(Form::Process) => variables_of(alloc, line.operands(), below),

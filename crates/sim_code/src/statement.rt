@@ -1,7 +1,7 @@
 //! The statement that a line of a process is.
-ghost use Rattle.std.specs.Prelude.{◌≡◌, if◌then◌else◌, None};
-ghost use Rattle.sim_code.specs.StatementGroups.{is_of_blocks, is_of_events, is_of_gets, is_of_numbers, is_of_processes, is_of_resources};
-ghost use Rattle.sim_language.specs.Shapes as shapes;
+ghost use Rattle.std.specs.Prelude.{◌≡◌};
+ghost use Rattle.sim_code.specs.StatementGroups.{is_of_blocks, is_of_events, is_of_gets, is_of_numbers, is_of_processes, is_of_resources, statement_of};
+ghost use Rattle.sim_language.specs.AnywhereInText as anywhere;
 ghost use Rattle.sim_language.specs.Statements.{argument_of, arguments, event_of, kind_number, literal_of, members, number_declared, number_of, number_or_nothing, operator_of, preempts, statement, variable};
 
 use sim_faults::{LineInText, variable};
@@ -30,7 +30,8 @@ pub fn statement(
         | Form::Fail
         | Form::NewAll
         | Form::NewAny
-        | Form::Has => of_events(place, form, slots),
+        | Form::Has
+        | Form::Chain => of_events(place, form, slots),
         Form::Spawn | Form::NewSpawn | Form::Interrupt | Form::Drop | Form::Raise | Form::Finish =>
             of_processes(heads, place, form, slots),
         Form::Count | Form::With | Form::Release | Form::Put | Form::NewPut | Form::Cancel =>
@@ -172,7 +173,8 @@ fn preempts(slots: &[Operand<'_>]) -> bool
 
 /// The statements that compute, log or make time pass.
 fn of_numbers(place: &LineInText<'_, '_>, form: Form, slots: &[Operand<'_>]) -> Option<Stmt>
-    ensures { (heads : shapes.ProcessLines) → result ≡ (if is_of_numbers form then statement heads place.now form slots.now else None) }
+    ensures { (heads : anywhere.ProcessLines)
+        → result ≡ statement_of is_of_numbers heads place.now form slots.now }
 {
     match (form, slots) {
         (Form::Let, [to, a]) => Some(Stmt::Let {
@@ -204,7 +206,8 @@ fn of_numbers(place: &LineInText<'_, '_>, form: Form, slots: &[Operand<'_>]) -> 
 
 /// The statements of events and conditions.
 fn of_events(place: &LineInText<'_, '_>, form: Form, slots: &[Operand<'_>]) -> Option<Stmt>
-    ensures { (heads : shapes.ProcessLines) → result ≡ (if is_of_events form then statement heads place.now form slots.now else None) }
+    ensures { (heads : anywhere.ProcessLines)
+        → result ≡ statement_of is_of_events heads place.now form slots.now }
 {
     match (form, slots) {
         (Form::NewTimeout, [to, delay, value]) => Some(Stmt::Timer {
@@ -239,6 +242,10 @@ fn of_events(place: &LineInText<'_, '_>, form: Form, slots: &[Operand<'_>]) -> O
             cond: variable_of(place, cond),
             on: event(place, on.word()),
         }),
+        (Form::Chain, [on, to]) => Some(Stmt::Chain {
+            on: event(place, on.word()),
+            to: event(place, to.word()),
+        }),
         _ => None,
     }
 }
@@ -250,7 +257,7 @@ fn of_processes(
     form: Form,
     slots: &[Operand<'_>],
 ) -> Option<Stmt>
-    ensures { result ≡ (if is_of_processes form then statement heads.now place.now form slots.now else None) }
+    ensures { result ≡ statement_of is_of_processes heads.now place.now form slots.now }
 {
     match (form, slots) {
         (Form::Spawn, [kind, args @ ..]) => Some(Stmt::Spawn {
@@ -283,7 +290,8 @@ fn of_processes(
 
 /// The statements of resources.
 fn of_resources(place: &LineInText<'_, '_>, form: Form, slots: &[Operand<'_>]) -> Option<Stmt>
-    ensures { (heads : shapes.ProcessLines) → result ≡ (if is_of_resources form then statement heads place.now form slots.now else None) }
+    ensures { (heads : anywhere.ProcessLines)
+        → result ≡ statement_of is_of_resources heads place.now form slots.now }
 {
     match (form, slots) {
         (Form::Count, [to, res]) => Some(Stmt::Count {
@@ -320,7 +328,8 @@ fn of_resources(place: &LineInText<'_, '_>, form: Form, slots: &[Operand<'_>]) -
 
 /// The statements that take out of a container or a store.
 fn of_gets(place: &LineInText<'_, '_>, form: Form, slots: &[Operand<'_>]) -> Option<Stmt>
-    ensures { (heads : shapes.ProcessLines) → result ≡ (if is_of_gets form then statement heads place.now form slots.now else None) }
+    ensures { (heads : anywhere.ProcessLines)
+        → result ≡ statement_of is_of_gets heads place.now form slots.now }
 {
     match (form, slots) {
         (Form::Get, [res]) => Some(Stmt::Get {
@@ -353,7 +362,8 @@ fn of_gets(place: &LineInText<'_, '_>, form: Form, slots: &[Operand<'_>]) -> Opt
 
 /// The statements of blocks.
 fn of_blocks(place: &LineInText<'_, '_>, form: Form, slots: &[Operand<'_>]) -> Option<Stmt>
-    ensures { (heads : shapes.ProcessLines) → result ≡ (if is_of_blocks form then statement heads place.now form slots.now else None) }
+    ensures { (heads : anywhere.ProcessLines)
+        → result ≡ statement_of is_of_blocks heads place.now form slots.now }
 {
     match (form, slots) {
         (Form::Loop, []) => Some(Stmt::Loop { past: 0 }),

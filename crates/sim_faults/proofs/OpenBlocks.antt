@@ -5,7 +5,8 @@ use Rattle.std.proofs.lemmas.Grind.{common_steps}
 use Rattle.sim_language.specs.Blocks.{Block, split_first}
 
 module _ {A : Type 0} where
-  pub blocks_of_stack : (in_process : Bool) (stack : List A) → (in_process ≡ false → stack ≡ []) → unwrap_or (cond in_process (Some (reverse stack)) None) [] ≡ reverse stack
+  pub blocks_of_stack : (in_process : Bool) (stack : List A) → (in_process ≡ false → stack ≡ [])
+      → unwrap_or (cond in_process (Some (reverse stack)) None) [] ≡ reverse stack
   blocks_of_stack true stack empty = refl
   blocks_of_stack false stack empty = rw (empty refl) refl
 
@@ -25,11 +26,14 @@ module _ {A : Type 0} where
       ∙ reverse-append (take i stack) (b ∷ [])
 
 -- the innermost block is split
-pub split_last : (in_process : Bool) (stack : List Block) (i : ℕ) (b was : Block) → b ≡ was → i + 1 ≡ length stack → was ≡ get_or stack i was → cond in_process (Some (reverse (set stack i (record b { split = true })))) None ≡ option_map split_first (cond in_process (Some (reverse stack)) None)
+pub split_last : (in_process : Bool) (stack : List Block) (i : ℕ) (b was : Block) → b ≡ was → i + 1 ≡ length stack
+    → was ≡ get_or stack i was
+    → cond in_process (Some (reverse (set stack i (record b { split = true })))) None ≡ option_map split_first (cond in_process (Some (reverse stack)) None)
 split_last true stack i b was same last is = rw (same, reverse-set_last stack i (record was { split = true }) last, reverse_by_last stack i was last is) refl
 split_last false stack i b was same last is = refl
 
 -- where no block is open, none is split
-pub split_none : (in_process : Bool) (stack : List Block) → stack ≡ [] → cond in_process (Some (reverse stack)) None ≡ option_map split_first (cond in_process (Some (reverse stack)) None)
+pub split_none : (in_process : Bool) (stack : List Block) → stack ≡ []
+    → cond in_process (Some (reverse stack)) None ≡ option_map split_first (cond in_process (Some (reverse stack)) None)
 split_none true stack empty = rw empty refl
 split_none false stack empty = refl

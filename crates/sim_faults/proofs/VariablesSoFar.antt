@@ -13,7 +13,8 @@ use Rattle.sim_lines.specs.LineOf.{without_operands, operands_of}
 use Rattle.sim_faults.proofs.LongerTables.{with_all_append}
 
 -- behind the parameters all lines below are left
-pub variables_begin : (params : List Operand) (below left : List TextLine) (variables : List (Named Class)) → variables ≡ with_all [] (given_by params) → left ≡ below → with_all variables (given_below 0 left) ≡ variables_of params below
+pub variables_begin : (params : List Operand) (below left : List TextLine) (variables : List (Named Class))
+    → variables ≡ with_all [] (given_by params) → left ≡ below → with_all variables (given_below 0 left) ≡ variables_of params below
 variables_begin params below left variables e f = rw (e, f, with_all_append [] (given_by params) (given_below 0 below)) refl
 
 says_of : (s : Saying) (f : Form) → Says f ≡ without_operands s → s ≡ sayings.Says f (operands_of s)
@@ -22,7 +23,10 @@ says_of (sayings.Wrong kind) f e = cc
 says_of (sayings.Says g slots) f e = cc
 
 -- one line further
-pub variables_further : (known more : List (Named Class)) (deep deeper : ℕ) (f : Form) (slots : List Operand) (l : TextLine) (lines left : List TextLine) → Says f ≡ without_operands l.saying → ends_process deep f ≡ false → deeper ≡ deep_behind deep f → slots ≡ operands_of l.saying → more ≡ with_all known (given_by slots) → lines ≡ l ∷ left → with_all more (given_below deeper left) ≡ with_all known (given_below deep lines)
+pub variables_further : (known more : List (Named Class)) (deep deeper : ℕ) (f : Form) (slots : List Operand) (l : TextLine) (lines left : List TextLine)
+    → Says f ≡ without_operands l.saying → ends_process deep f ≡ false → deeper ≡ deep_behind deep f → slots ≡ operands_of l.saying
+    → more ≡ with_all known (given_by slots) → lines ≡ l ∷ left
+    → with_all more (given_below deeper left) ≡ with_all known (given_below deep lines)
 variables_further known more deep deeper f slots l lines left says goes_on d t e h = rw (d, e, t, h, says_of l.saying f says, goes_on) (sym (with_all_append known (given_by (operands_of l.saying)) (given_below (deep_behind deep f) left)))
 
 -- a line opens at most one block

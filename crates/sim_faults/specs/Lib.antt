@@ -1,1 +1,3 @@
+pub mod InnerBlocks
 pub mod AboveOf
+pub mod FormKinds

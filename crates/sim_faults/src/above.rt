@@ -2,6 +2,7 @@
 ghost use Rattle.std.specs.Prelude.{◌≡◌, ◌≤◌, [], OnOk};
 ghost use Rattle.sim_language.specs.Places.{above_of};
 ghost use Rattle.sim_language.specs.Sayings.{Blank, Says};
+ghost use Rattle.sim_types.specs.Limits.{most_bytes};
 ghost use Rattle.sim_faults.specs.AboveOf.{IsBelow, above_behind};
 
 use crate::blocks::{Blocks, first_word};
@@ -34,7 +35,19 @@ impl<'t> Model for Above<'t> {
 
     ghost Value = { Above };
 
-    ghost view = { λ a. record { worded = a.worded; declared = a.declared; process_or_start = a.process_or_start; start = a.start; journal = a.journal; blocks = a.blocks; statements = a.statements; entries = a.entries; posters = a.posters; after = a.after } };
+    ghost view = { λ a.
+        record {
+          worded = a.worded;
+          declared = a.declared;
+          process_or_start = a.process_or_start;
+          start = a.start;
+          journal = a.journal;
+          blocks = a.blocks;
+          statements = a.statements;
+          entries = a.entries;
+          posters = a.posters;
+          after = a.after;
+        } };
 }
 
 impl<'t> Above<'t> {
@@ -121,7 +134,7 @@ impl<'t> Above<'t> {
 
     /// Goes on behind a line. After want of memory a part of it may be counted, so this may only be dropped.
     pub fn pass(&mut self, line: &TextLine<'t>) -> Result<(), AllocError>
-        requires { IsBelow 4194304 self.old }
+        requires { IsBelow most_bytes self.old }
         ensures { OnOk result (self.new ≡ above_behind self.old line.now) }
     {
         if let Saying::Says(form) = line.saying() {
@@ -133,8 +146,9 @@ impl<'t> Above<'t> {
 
     /// Goes on behind the words of a line, but not behind what it says.
     fn pass_words(&mut self, line: &TextLine<'t>)
-        requires { self.old.worded ≤ 4194304 }
-        ensures { self.new ≡ above_behind self.old (record { words = line.now.words; saying = Blank }) }
+        requires { self.old.worded ≤ most_bytes }
+        ensures { self.new
+            ≡ above_behind self.old (record { words = line.now.words; saying = Blank }) }
     {
         if !line.is_empty() {
             self.worded += 1;
@@ -146,8 +160,10 @@ impl<'t> Above<'t> {
 
     /// Goes on behind what a line of this form says, but not behind its words.
     fn pass_form(&mut self, form: Form, slots: &[Operand<'t>]) -> Result<(), AllocError>
-        requires { IsBelow 4194304 self.old }
-        ensures { OnOk result (self.new ≡ above_behind self.old (record { words = []; saying = Says form slots.now })) }
+        requires { IsBelow most_bytes self.old }
+        ensures { OnOk result
+            (self.new
+            ≡ above_behind self.old (record { words = []; saying = Says form slots.now })) }
     {
         self.declared.add(form, slots)?;
         if form.is_statement() {

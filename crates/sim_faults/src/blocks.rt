@@ -1,11 +1,12 @@
 //! The blocks that are open.
-ghost use Rattle.std.specs.Prelude.{◌≡◌, ◌&&◌, false, None, Some, OnErr, OnOk, is_some, length, option_copied, option_map, slice_get, unwrap_or, [], ◌∷◌};
+ghost use Rattle.std.specs.Prelude.{◌≡◌, ◌&&◌, None, Some, OnErr, OnOk, is_some, length, option_copied, option_map, slice_get, unwrap_or, [], ◌∷◌};
 ghost use Rattle.std.specs.List.{list_any};
 ghost use Rattle.sim_language.specs.Blocks.{blocks_behind, closed, first_word, split_first};
 ghost use Rattle.sim_language.specs.OrderFaults.{awaits_catch, awaits_else, is_loop};
 ghost use Rattle.sim_language.specs.Places.{is_with};
 ghost use Rattle.sim_language.specs.Lines.{same};
 ghost use Rattle.sim_language.specs.Statements.{end_of};
+ghost use Rattle.sim_faults.specs.InnerBlocks.{with_block};
 
 use sim_language::Form;
 use sim_lines::Operand;
@@ -30,7 +31,8 @@ impl<'t> Model for Block<'t> {
 
     ghost Value = { Block };
 
-    ghost view = { λ a. record { form = a.form; variable = a.variable.now; split = a.split; inside = a.inside } };
+    ghost view = { λ a.
+        record { form = a.form; variable = a.variable.now; split = a.split; inside = a.inside } };
 }
 
 impl<'t> Block<'t> {
@@ -153,7 +155,8 @@ impl<'t> Blocks<'t> {
 
     /// Whether a `with` of this variable is open.
     pub fn has_with(&self, variable: &[u8]) -> bool
-        ensures { result ≡ list_any (λ b. is_with b && same variable.now b.variable) (unwrap_or self.now []) }
+        ensures { result
+            ≡ list_any (λ b. is_with b && same variable.now b.variable) (unwrap_or self.now []) }
     {
         self.stack
             .iter()
@@ -215,7 +218,7 @@ impl<'t> Blocks<'t> {
     /// Goes on in a block of this form, if in a process.
     fn enter(&mut self, inside: u32, form: Form, variable: &'t [u8]) -> Result<(), AllocError>
         ensures err { OnErr result (self.new ≡ self.old) }
-        ensures ok { OnOk result (self.new ≡ option_map (λ outer. record { form = form; variable = variable.now; split = false; inside = inside } ∷ outer) self.old) }
+        ensures ok { OnOk result (self.new ≡ with_block form variable.now inside self.old) }
     {
         if self.in_process {
             self.stack.push(Block {

@@ -31,7 +31,11 @@ impl<'t> Model for Declared<'t> {
 
     ghost view = { λ a. a.names };
 
-    ghost invariant = { λ a. (a.resources ≡ count_of sort.Resource a.names) × (a.events ≡ count_of sort.Event a.names) × (a.ports ≡ count_of sort.Port a.names) × (a.processes ≡ count_of sort.Process a.names) };
+    ghost invariant = { λ a.
+        (a.resources ≡ count_of sort.Resource a.names)
+        × (a.events ≡ count_of sort.Event a.names)
+        × (a.ports ≡ count_of sort.Port a.names)
+        × (a.processes ≡ count_of sort.Process a.names) };
 }
 
 impl<'t> Declared<'t> {
@@ -99,7 +103,8 @@ impl<'t> Declared<'t> {
     pub fn add(&mut self, form: Form, slots: &[Operand<'t>]) -> Result<(), AllocError>
         requires { length self.old + 1 < 2 ^ 32 }
         ensures err { OnErr result (self.new ≡ self.old) }
-        ensures ok { OnOk result (self.new ≡ with_declared self.old form (declares_sort form) slots.now) }
+        ensures ok { OnOk result
+            (self.new ≡ with_declared self.old form (declares_sort form) slots.now) }
     {
         let (Some(sort), Some(slot)) = (form.sort(), slots.first()) else {
             return Ok(());

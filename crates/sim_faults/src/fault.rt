@@ -1,8 +1,8 @@
 //! The fault of a line, and of the end of a text.
-ghost use Rattle.std.specs.Prelude.{◌≡◌, [], ◌∷◌, find};
+ghost use Rattle.std.specs.Prelude.{◌≡◌, find};
 ghost use Rattle.sim_language.specs.Faults.{applies, fault_at, fault_past};
 ghost use Rattle.sim_language.specs.Sayings.{Says};
-ghost use Rattle.sim_types.specs.declared.fault.FaultKind.TheVariants as fault;
+ghost use Rattle.sim_faults.specs.FormKinds.{form_kinds};
 
 use crate::above::Above;
 use crate::limit_faults::too_many;
@@ -42,7 +42,7 @@ fn form_fault(
     slots: &[Operand<'_>],
 ) -> Option<FaultKind>
     requires { place.now.line.saying ≡ Says form slots.now }
-    ensures { result ≡ find (λ kind. applies kind heads.now place.now) (fault.Duplicate ∷ fault.UnknownName ∷ fault.WrongKind ∷ fault.Misplaced ∷ fault.TooMany ∷ fault.ClassClash ∷ fault.Unset ∷ fault.BadOrder ∷ []) }
+    ensures { result ≡ find (λ kind. applies kind heads.now place.now) form_kinds }
 {
     let above = place.above();
     if duplicate(above, form, slots) {

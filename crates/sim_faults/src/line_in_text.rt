@@ -21,7 +21,13 @@ impl<'p, 't> Model for LineInText<'p, 't> {
 
     ghost Value = { LineInText };
 
-    ghost view = { λ a. record { number = a.number; above = a.above.now; variables = a.variables.now; line = a.line.now } };
+    ghost view = { λ a.
+        record {
+          number = a.number;
+          above = a.above.now;
+          variables = a.variables.now;
+          line = a.line.now;
+        } };
 }
 
 impl<'p, 't> LineInText<'p, 't> {
@@ -32,7 +38,13 @@ impl<'p, 't> LineInText<'p, 't> {
         variables: &'p Names<'t, Class>,
         line: &'p TextLine<'t>,
     ) -> LineInText<'p, 't>
-        ensures { result ≡ record { number = number; above = above.now; variables = variables.now; line = line.now } }
+        ensures { result
+            ≡ record {
+              number = number;
+              above = above.now;
+              variables = variables.now;
+              line = line.now;
+            } }
     {
         LineInText {
             number,

@@ -4,13 +4,13 @@ ghost use Rattle.std.specs.List.{list_any};
 ghost use Rattle.sim_language.specs.declared.form.Form.{Form};
 ghost use Rattle.sim_language.specs.Forms.{same_sort};
 ghost use Rattle.sim_language.specs.Lines.{is_among};
-ghost use Rattle.sim_language.specs.NameFaults.{arguments_wrong, behind_first, declares_again, duplicate, gives_again, hides_event, is_process_class, miscounts, names_other, names_unknown, not_taken, port_wrong, repeats, repeats_parameter, starts_wrong, takes_get, takes_not, takes_put, takes_request, unknown_name, wrong_kind};
+ghost use Rattle.sim_language.specs.NameFaults.{arguments_wrong, behind_first, declares_again, duplicate, gives_again, hides_event, is_other, is_process_class, miscounts, names_other, names_unknown, not_taken, port_wrong, repeats, repeats_parameter, starts_wrong, takes_get, takes_not, takes_put, takes_request, unknown_name, wrong_kind};
 ghost use Rattle.sim_language.specs.Variables.{given_by};
 
 use crate::above::Above;
 use crate::blocks::first_word;
 use crate::given::Given;
-use sim_language::{Form, Role, Sort};
+use sim_language::{Ahead, Form, Role, Sort};
 use sim_lines::{Operand, ProcessLines};
 use sim_types::Class;
 
@@ -105,6 +105,7 @@ fn names_unknown(heads: &ProcessLines<'_>, above: &Above<'_>, slot: &Operand<'_>
 {
     match slot.role() {
         Role::Names(_) => above.declared().sort(heads, slot.word()).is_none(),
+        Role::EventAhead(Ahead::Undeclared) => true,
         _ => false,
     }
 }
@@ -123,7 +124,7 @@ pub fn wrong_kind(
         || arguments_wrong(heads, form, slots)
 }
 
-/// Whether a declared name is of another sort.
+/// Whether the line names something of another sort.
 fn names_another(heads: &ProcessLines<'_>, above: &Above<'_>, slots: &[Operand<'_>]) -> bool
     ensures { result ≡ list_any (names_other heads.now above.now) slots.now }
 {
@@ -134,10 +135,18 @@ fn names_another(heads: &ProcessLines<'_>, above: &Above<'_>, slots: &[Operand<'
 fn names_other(heads: &ProcessLines<'_>, above: &Above<'_>, slot: &Operand<'_>) -> bool
     ensures { result ≡ names_other heads.now above.now slot.now }
 {
-    let Role::Names(wanted) = slot.role() else {
-        return false;
-    };
-    match above.declared().sort(heads, slot.word()) {
+    match slot.role() {
+        Role::Names(wanted) => is_other(wanted, above.declared().sort(heads, slot.word())),
+        Role::EventAhead(Ahead::NoEvent) => true,
+        _ => false,
+    }
+}
+
+/// Whether there is a sort, and it is not the one that is wanted.
+fn is_other(wanted: Sort, sort: Option<Sort>) -> bool
+    ensures { result ≡ is_other wanted sort }
+{
+    match sort {
         Some(sort) => !same_sort(wanted, sort),
         None => false,
     }
@@ -176,7 +185,9 @@ fn takes_not<F: Fn(Form) -> Option<usize>>(
     slots: &[Operand<'_>],
 ) -> bool
     requires { F.IsAlwaysCallable takes }
-    ensures { (t : Form → Option ℕ) → ((kind : Form) (words : Option ℕ) → F.post takes kind words → words ≡ t kind) → result ≡ takes_not t above.now slots.now }
+    ensures { (t : Form → Option ℕ)
+        → ((kind : Form) (words : Option ℕ) → F.post takes kind words → words ≡ t kind)
+        → result ≡ takes_not t above.now slots.now }
 {
     let [resource, rest @ ..] = slots else {
         return false;

@@ -5,14 +5,17 @@ ghost use Rattle.sim_language.specs.OrderFaults.{bad_header, bad_order, misplace
 use crate::above::Above;
 use crate::blocks::first_word;
 use sim_language::Form;
-use sim_lines::{Operand, TextLine, literal};
+use sim_lines::{Operand, Saying, TextLine, literal};
 
 /// Whether the line should be one of the two header lines, and is not.
 pub fn bad_header(above: &Above<'_>, line: &TextLine<'_>) -> bool
-    ensures { result ≡ bad_header above.now line.now.words }
+    ensures { result ≡ bad_header above.now line.now }
 {
     match above.worded() {
-        0 => !line.is_header(),
+        0 => !matches!(
+            line.saying(),
+            Saying::Says(Form::Scenario | Form::ScenarioTwo)
+        ),
         1 => !line.begins_with(b"until"),
         _ => false,
     }
@@ -24,8 +27,8 @@ pub fn misplaced(above: &Above<'_>, form: Form, slots: &[Operand<'_>]) -> bool
 {
     let blocks = above.blocks();
     match form {
-        Form::Scenario => above.worded() != 0,
-        Form::UntilEmpty | Form::UntilTime => above.worded() != 1,
+        Form::Scenario | Form::ScenarioTwo => above.worded() != 0,
+        Form::UntilEmpty | Form::UntilTime | Form::UntilEvent => above.worded() != 1,
         Form::Seed => above.worded() != 2,
         Form::Resource
         | Form::Priority

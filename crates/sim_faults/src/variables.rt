@@ -2,6 +2,7 @@
 ghost use Rattle.std.specs.Prelude.{◌≡◌, ◌≤◌, IfOk, OnOk, length};
 ghost use Rattle.sim_language.specs.Named.{with_all};
 ghost use Rattle.sim_language.specs.Statements.{variable};
+ghost use Rattle.sim_types.specs.Limits.{most_bytes};
 ghost use Rattle.sim_language.specs.Variables.{deep_behind, ends_process, given_by, variable_number, variables_of};
 
 use crate::given::Given;
@@ -17,7 +18,7 @@ pub fn variables_of<'t>(
     params: &[Operand<'t>],
     below: &Lines<'t, '_>,
 ) -> Result<Names<'t, Class>, AllocError>
-    requires few { length below.now ≤ 4194304 }
+    requires few { length below.now ≤ most_bytes }
     ensures { IfOk result (λ variables. variables ≡ variables_of params.now below.now) }
 {
     let mut variables = Names::new(alloc);
@@ -58,7 +59,7 @@ fn ends_process(deep: u32, form: Form) -> bool
 
 /// How many blocks are open behind the line.
 fn deep_behind(deep: u32, form: Form) -> u32
-    requires { deep ≤ 4194304 }
+    requires { deep ≤ most_bytes }
     ensures { result ≡ deep_behind deep form }
 {
     if form.opens_block() {

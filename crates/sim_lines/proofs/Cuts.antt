@@ -58,7 +58,8 @@ keep_line (c ∷ []) none = by (c == 13) refl
     by false e = rw e refl
 keep_line (c ∷ d ∷ cs) none = ap (λ l. c ∷ l) (keep_line (d ∷ cs) (λ front e. none (c ∷ front) (ap (λ l. c ∷ l) e)))
 
-ends_as : (line suffix : Word) → pointwise eqb (drop (length line - length suffix) line) suffix ≡ true → line ≡ take (length line - length suffix) line ++ suffix
+ends_as : (line suffix : Word) → pointwise eqb (drop (length line - length suffix) line) suffix ≡ true
+    → line ≡ take (length line - length suffix) line ++ suffix
 ends_as line suffix same = sym (take-append-drop (length line - length suffix) line) ∙ ap (λ s. take (length line - length suffix) line ++ s) ((bytes_eq-Decides _ suffix).0 same)
 
 -- what `strip_suffix` says of one carriage return

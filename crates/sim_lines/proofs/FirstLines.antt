@@ -8,7 +8,7 @@ use Rattle.std.proofs.Math.Seq.{take-length, drop-length}
 use Rattle.std.proofs.lemmas.Bool.Decides.{nat_tests}
 use Rattle.std.proofs.lemmas.List.Quantifiers.{position-Some}
 use Rattle.sim_language.specs.Lines.{lines, is_line_feed}
-use Rattle.sim_language.proofs.Pieces.{pieces-at, pieces-none}
+use Rattle.sim_lines.proofs.Pieces.{pieces-at, pieces-none}
 
 pub take_rest : (k : ℕ) (l : List ℕ) → take (length l - k) (drop k l) ≡ drop k l
 take_rest k l = rw (← length-drop k l) (take-length (drop k l))

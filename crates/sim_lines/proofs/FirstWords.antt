@@ -10,7 +10,7 @@ use Rattle.std.proofs.lemmas.Bool.{true≢false}
 use Rattle.std.proofs.lemmas.List.{get_or-drop, length-take-le}
 use Rattle.std.proofs.lemmas.List.Quantifiers.{position-Some}
 use Rattle.sim_language.specs.Lines.{Word, is_blank, is_empty, pieces, words}
-use Rattle.sim_language.proofs.Pieces.{pieces-at, pieces-none}
+use Rattle.sim_lines.proofs.Pieces.{pieces-at, pieces-none}
 use Rattle.sim_lines.proofs.FirstLines.{none_is_far, take_rest}
 
 from_not : (b : Bool) → not b ≡ false → b ≡ true
@@ -47,7 +47,8 @@ kept : (word : Word) (rest : List Word) → 0 < length word → filter (λ w. no
 kept [] rest some = absurd (omega arith)
 kept (c ∷ cs) rest some = refl
 
-words_to_blank : (word : Word) (end : ℕ) → is_blank (get_or word 0 0) ≡ false → position is_blank word ≡ Some end → words word ≡ take end word ∷ words (drop (end + 1) word)
+words_to_blank : (word : Word) (end : ℕ) → is_blank (get_or word 0 0) ≡ false → position is_blank word ≡ Some end
+    → words word ≡ take end word ∷ words (drop (end + 1) word)
 words_to_blank word end first found =
     let h = position-Some is_blank word end 0 found in
     let some : 0 < end = first_is_no_blank word end first found in
@@ -75,7 +76,8 @@ begun line word start found is =
       rw rest (rw length-drop (omega (arith, h.0))),
     )
 
-pub word_to_blank : (line word : Word) (start end : ℕ) → position (λ c. not (is_blank c)) line ≡ Some start → word ≡ take (length line - start) (drop start line)
+pub word_to_blank : (line word : Word) (start end : ℕ) → position (λ c. not (is_blank c)) line ≡ Some start
+    → word ≡ take (length line - start) (drop start line)
     → position is_blank word ≡ Some end → words line ≡ take end word ∷ words (take (length word - (end + 1)) (drop (end + 1) word))
 word_to_blank line word start end found is at =
     let b = begun line word start found is in

@@ -4,4 +4,8 @@ mod Digits
 mod FirstLines
 mod FirstWords
 mod HeadsOfLines
+mod NamesSoFar
+mod Pieces
+mod SaidByLines
+mod SameWords
 mod SlotsOfWords

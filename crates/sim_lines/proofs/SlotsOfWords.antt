@@ -13,6 +13,7 @@ free_slots (w ∷ ws) = ap (λ slots. slot_of Free w ∷ slots) (free_slots ws)
 
 -- behind the last role the words are free
 pub free_behind : {A : Type 0} (role_of : A → Role) (xs : List A) (at : ℕ) (slots old : List Operand) (ws all : List Word) → length xs ≤ at
-    → slots ++ side_by_side (map role_of (drop at xs)) ws ≡ old ++ side_by_side (map role_of xs) all → slots ++ map (slot_of Free) ws ≡ old ++ side_by_side (map role_of xs) all
+    → slots ++ side_by_side (map role_of (drop at xs)) ws ≡ old ++ side_by_side (map role_of xs) all
+    → slots ++ map (slot_of Free) ws ≡ old ++ side_by_side (map role_of xs) all
 free_behind role_of xs at slots old ws all past h =
     ap (λ more. slots ++ more) (sym (ap (λ rest. side_by_side (map role_of rest) ws) (drop_all at xs past) ∙ free_slots ws)) ∙ h

@@ -1,2 +1,5 @@
+pub mod SettingOf
 pub mod LineOf
 pub mod OneWord
+pub mod Spans
+pub mod NamesAhead

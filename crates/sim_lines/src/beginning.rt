@@ -1,13 +1,15 @@
 //! The form that a line begins.
 ghost use Rattle.std.specs.Prelude.{◌≡◌, Some, map};
-ghost use Rattle.sim_language.specs.declared.form.Form.TheVariants.{UntilTime};
-ghost use Rattle.sim_language.specs.Forms.{begins, first_words, form_at, made_form, made_words, operands, told_by};
+ghost use Rattle.sim_language.specs.declared.form.Form.TheVariants.{Scenario, UntilTime};
+ghost use Rattle.sim_language.specs.declared.form.Version.{Version};
+ghost use Rattle.sim_language.specs.AnywhereInText.{sort_begun};
+ghost use Rattle.sim_language.specs.Forms.{begins, common_first_words, first_words, form_at, made_form, made_words, operands, told_by};
 
 use crate::words::Words;
-use sim_language::Form;
+use sim_language::{Form, Sort, Version};
 
-/// The words of all lines that begin with a word of their own.
-const FIRST_WORDS: [(&[u8], Form); 44] = [
+/// The words of all lines that begin with a word of their own, in both versions of the language.
+const COMMON_FIRST_WORDS: [(&[u8], Form); 44] = [
     (b"scenario", Form::Scenario),
     (b"until", Form::UntilTime),
     (b"seed", Form::Seed),
@@ -65,17 +67,25 @@ const MADE_WORDS: [(&[u8], Form); 7] = [
     (b"get", Form::NewGet),
 ];
 
-/// The form that the words of a line begin, if they begin one.
-pub fn begins(words: &Words<'_>) -> Option<Form>
-    ensures { result ≡ begins words.now }
+/// The form that the words of a line begin in this version of the language, if they begin one.
+pub fn begins(version: Version, words: &Words<'_>) -> Option<Form>
+    ensures { result ≡ begins version words.now }
 {
     let mut rest = words.again();
     let first = rest.next()?;
-    match first_form(first) {
-        Some(Form::UntilTime) => Some(until_form(&rest)),
+    match first_form(version, first) {
+        Some(Form::Scenario) => Some(header_form(&rest)),
+        Some(Form::UntilTime) => Some(until_form(version, &rest)),
         Some(form) => Some(form),
         None => made_form(&rest),
     }
+}
+
+/// What a line with this first word declares, if it declares something.
+pub fn sort_begun(first: &[u8]) -> Option<Sort>
+    ensures { result ≡ sort_begun first.now }
+{
+    common_first_form(first)?.sort()
 }
 
 /// The words of a line without those that tell its form.
@@ -93,13 +103,28 @@ pub fn operands<'t>(form: Form, words: &Words<'t>) -> Words<'t>
     }
 }
 
-/// The form of an `until` with these words behind it: with one that is not `empty` it gives a time.
-fn until_form(behind: &Words<'_>) -> Form
-    ensures { told_by (Some UntilTime) behind.now ≡ Some result }
+/// The form of a `scenario` with these words behind it: with `2` alone it is the header of the second version.
+fn header_form(behind: &Words<'_>) -> Form
+    ensures { (version : Version) → told_by version (Some Scenario) behind.now ≡ Some result }
 {
     let mut rest = behind.again();
     match rest.next() {
-        Some(word) if rest.is_empty() && word != b"empty".as_slice() => Form::UntilTime,
+        Some(number) if rest.is_empty() && number == b"2".as_slice() => Form::ScenarioTwo,
+        _ => Form::Scenario,
+    }
+}
+
+/// The form of an `until` with these words behind it: with one that is not `empty` it gives a time, and in the second
+/// version with two, of which the first is `event`, it names an event.
+fn until_form(version: Version, behind: &Words<'_>) -> Form
+    ensures { told_by version (Some UntilTime) behind.now ≡ Some result }
+{
+    let mut rest = behind.again();
+    match (version, rest.next(), rest.next()) {
+        (_, Some(time), None) if time != b"empty".as_slice() => Form::UntilTime,
+        (Version::Two, Some(event), Some(_)) if rest.is_empty() && event == b"event".as_slice() => {
+            Form::UntilEvent
+        }
         _ => Form::UntilEmpty,
     }
 }
@@ -118,10 +143,19 @@ fn made_form(behind: &Words<'_>) -> Option<Form>
     }
 }
 
-fn first_form(word: &[u8]) -> Option<Form>
-    ensures { result ≡ form_at word.now first_words }
+fn first_form(version: Version, word: &[u8]) -> Option<Form>
+    ensures { result ≡ form_at word.now (first_words version) }
 {
-    form_at(word, &FIRST_WORDS)
+    match version {
+        Version::Two if word == b"chain".as_slice() => Some(Form::Chain),
+        _ => common_first_form(word),
+    }
+}
+
+fn common_first_form(word: &[u8]) -> Option<Form>
+    ensures { result ≡ form_at word.now common_first_words }
+{
+    form_at(word, &COMMON_FIRST_WORDS)
 }
 
 fn form_of_made(word: &[u8]) -> Option<Form>

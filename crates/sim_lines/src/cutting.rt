@@ -5,8 +5,12 @@ ghost use Rattle.sim_language.specs.Lines.{cut, is_line_feed, is_text, lines, up
 
 /// The first line and what stands behind its line feed, or nothing where the text is empty.
 pub fn first_line(text: &[u8]) -> Option<(&[u8], &[u8])>
-    ensures lines { MatchOption result (lines text.now ≡ []) (λ parts. lines text.now ≡ parts.0.now ∷ lines parts.1.now) }
-    ensures shorter { MatchOption result (text.now ≡ []) (λ parts. length parts.1.now < length text.now) }
+    ensures lines { MatchOption result
+        (lines text.now ≡ [])
+        (λ parts. lines text.now ≡ parts.0.now ∷ lines parts.1.now) }
+    ensures shorter { MatchOption result
+        (text.now ≡ [])
+        (λ parts. length parts.1.now < length text.now) }
 {
     if text.is_empty() {
         return None;

@@ -12,6 +12,8 @@ mod operands;
 mod parameter;
 mod process_lines;
 mod say;
+mod setting;
+mod whole_text;
 mod words;
 
 pub use line::{Saying, TextLine};
@@ -20,3 +22,5 @@ pub use number::{decimal_within, literal};
 pub use operand::{Operand, capacity};
 pub use parameter::{parameter_class, parameter_name};
 pub use process_lines::ProcessLines;
+pub use setting::Setting;
+pub use whole_text::WholeText;

@@ -1,18 +1,17 @@
 //! A line with what it says.
 ghost use Rattle.std.specs.Prelude.{◌≡◌, [], OnOk};
-ghost use Rattle.sim_language.specs.Built.{is_built};
 ghost use Rattle.sim_language.specs.Lines.{is_empty};
-ghost use Rattle.sim_language.specs.OrderFaults.{is_header};
 ghost use Rattle.sim_language.specs.Sayings.{Blank, begins_with, line_of};
 ghost use Rattle.sim_language.specs.Said.{IsSaid};
 ghost use Rattle.sim_lines.specs.LineOf.{operands_of, without_operands};
+ghost use Rattle.sim_lines.specs.SettingOf.{setting_of};
 
 use crate::cutting::cut;
 use crate::operand::Operand;
-use crate::process_lines::ProcessLines;
 use crate::say::{begins_with, say};
+use crate::setting::Setting;
 use crate::words::Words;
-use sim_language::{Form, Section};
+use sim_language::Form;
 use sim_types::FaultKind;
 use std::alloc::{AllocError, Global};
 use std::marker::Model;
@@ -44,7 +43,8 @@ impl<'t> Model for TextLine<'t> {
 
     ghost Value = { TextLine };
 
-    ghost view = { λ a. record { words = words a.cut.now; saying = saying_of a.saying a.slots.items } };
+    ghost view = { λ a.
+        record { words = words a.cut.now; saying = saying_of a.saying a.slots.items } };
 
     ghost invariant = { λ a. IsSaid (saying_of a.saying a.slots.items) };
 }
@@ -61,21 +61,15 @@ impl<'t> TextLine<'t> {
         }
     }
 
-    /// Reads a line of a text where it stands in this section below so many `poster` lines. After want of memory it is not
-    /// told what it says, until it is read anew.
-    pub fn read(
-        &mut self,
-        line: &'t [u8],
-        heads: &ProcessLines<'_>,
-        section: Section,
-        posters: u32,
-    ) -> Result<(), AllocError>
-        ensures { OnOk result (self.new ≡ line_of (record { built = is_built; heads = heads.now; section = section; posters = posters }) line.now) }
+    /// Reads a line of a text where it stands in this setting. After want of memory it is not told what it says, until it
+    /// is read anew.
+    pub fn read(&mut self, line: &'t [u8], setting: &Setting<'_, '_>) -> Result<(), AllocError>
+        ensures { OnOk result (self.new ≡ line_of (setting_of setting.now) line.now) }
     {
         self.cut = cut(line);
         self.saying = Saying::Blank;
         self.slots.clear();
-        self.saying = say(&mut self.slots, heads, section, posters, self.cut)?;
+        self.saying = say(&mut self.slots, setting, self.cut)?;
         Ok(())
     }
 
@@ -109,18 +103,5 @@ impl<'t> TextLine<'t> {
         ensures { result ≡ begins_with word.now self.now.words }
     {
         begins_with(&Words::new(self.cut), word)
-    }
-
-    /// Whether its words are `scenario 1`.
-    pub fn is_header(&self) -> bool
-        ensures { result ≡ is_header self.now.words }
-    {
-        let mut words = Words::new(self.cut);
-        match (words.next(), words.next()) {
-            (Some(first), Some(second)) => {
-                first == b"scenario".as_slice() && second == b"1".as_slice() && words.is_empty()
-            }
-            _ => false,
-        }
     }
 }

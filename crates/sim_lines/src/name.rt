@@ -1,10 +1,13 @@
 //! Names.
 ghost use Rattle.std.specs.Prelude.{◌≡◌};
 ghost use Rattle.std.specs.List.{list_all};
-ghost use Rattle.sim_language.specs.Names.{is_name, is_reserved, is_small_letter, is_spelled, may_stand_in_name};
+ghost use Rattle.sim_language.specs.Lines.{is_among};
+ghost use Rattle.sim_language.specs.Names.{common_words, is_name, is_reserved, is_small_letter, is_spelled, may_stand_in_name};
 
-/// The words of the language, which are no names.
-const RESERVED: [&[u8]; 56] = [
+use sim_language::Version;
+
+/// The words of both versions of the language, which are no names.
+const COMMON_WORDS: [&[u8]; 56] = [
     b"scenario",
     b"until",
     b"seed",
@@ -63,11 +66,11 @@ const RESERVED: [&[u8]; 56] = [
     b"proc",
 ];
 
-/// Whether the word is a name.
-pub fn is_name(word: &[u8]) -> bool
-    ensures { result ≡ is_name word.now }
+/// Whether the word is a name in a text of this version.
+pub fn is_name(version: Version, word: &[u8]) -> bool
+    ensures { result ≡ is_name version word.now }
 {
-    is_spelled(word) && !is_reserved(word)
+    is_spelled(word) && !is_reserved(version, word)
 }
 
 fn is_spelled(word: &[u8]) -> bool
@@ -97,8 +100,18 @@ fn may_stand_in_name(byte: u8) -> bool
     is_small_letter(byte) || byte.is_ascii_digit() || byte == b'_'
 }
 
-fn is_reserved(word: &[u8]) -> bool
-    ensures { result ≡ is_reserved word.now }
+/// Whether the word is one of the language in this version.
+fn is_reserved(version: Version, word: &[u8]) -> bool
+    ensures { result ≡ is_reserved version word.now }
 {
-    RESERVED.contains(&word)
+    match version {
+        Version::One => is_common(word),
+        Version::Two => word == b"chain".as_slice() || is_common(word),
+    }
+}
+
+fn is_common(word: &[u8]) -> bool
+    ensures { result ≡ is_among word.now common_words }
+{
+    COMMON_WORDS.contains(&word)
 }

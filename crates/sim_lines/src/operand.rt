@@ -6,7 +6,7 @@ ghost use Rattle.sim_language.specs.Shapes.{Operand, capacity, slot_of};
 use crate::name::is_name;
 use crate::number::{literal_within, looks_numeric};
 use crate::parameter::is_parameter;
-use sim_language::Role;
+use sim_language::{Role, Version};
 use std::marker::Model;
 
 /// An operand: a word of a line, and what it is there for.
@@ -60,16 +60,18 @@ impl<'t> Operand<'t> {
         }
     }
 
-    /// Whether a name is wanted, and the word is none.
-    pub fn is_bad_name(&self) -> bool
-        ensures { result ≡ is_bad_name self.now }
+    /// Whether a name is wanted, and the word is none in a text of this version.
+    pub fn is_bad_name(&self, version: Version) -> bool
+        ensures { result ≡ is_bad_name version self.now }
     {
         match self.role {
-            Role::Declares | Role::Gives(_) | Role::Names(_) => !is_name(self.word),
-            Role::Parameter => !is_parameter(self.word),
-            Role::Value => !(is_now_or_val(self.word) || is_name(self.word)),
+            Role::Declares | Role::Gives(_) | Role::Names(_) | Role::EventAhead(_) => {
+                !is_name(version, self.word)
+            }
+            Role::Parameter => !is_parameter(version, self.word),
+            Role::Value => !(is_now_or_val(self.word) || is_name(version, self.word)),
             Role::Refers(reference) => {
-                !(reference.takes_me() && is_me(self.word) || is_name(self.word))
+                !(reference.takes_me() && is_me(self.word) || is_name(version, self.word))
             }
             Role::Within(..) | Role::Capacity(_) | Role::Free => false,
         }

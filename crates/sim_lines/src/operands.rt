@@ -1,10 +1,11 @@
 //! What the words of a line are there for.
-ghost use Rattle.std.specs.Prelude.{◌≡◌, ◌++◌, [], IfOk, OnOk, Some, None, cond, map, option_map};
+ghost use Rattle.std.specs.Prelude.{◌≡◌, ◌++◌, [], IfOk, OnOk, Some, None, cond, map};
 ghost use Rattle.sim_language.specs.Shapes.{fit, opening, side_by_side, slot_of, spawn_argument, start_argument};
-ghost use Rattle.sim_lines.specs.OneWord.{at_item};
+ghost use Rattle.sim_lines.specs.OneWord.{at_item, behind_all};
+ghost use Rattle.sim_lines.specs.SettingOf.{context_in};
 
 use crate::operand::{Operand, capacity};
-use crate::process_lines::ProcessLines;
+use crate::setting::Setting;
 use crate::words::Words;
 use sim_language::{Item, Role};
 use sim_types::{Class, MOST_LEVEL};
@@ -13,14 +14,16 @@ use std::alloc::AllocError;
 /// Fills the slots by the words, where they have this shape; else answers false.
 pub fn fit<'t>(
     slots: &mut Vec<Operand<'t>>,
-    heads: &ProcessLines<'_>,
-    posters: u32,
+    setting: &Setting<'_, '_>,
     shape: &[Item],
     words: &Words<'t>,
 ) -> Result<bool, AllocError>
     requires { slots.old.items ≡ [] }
-    ensures { IfOk result (λ fits. fit (record { heads = heads.now; posters = posters }) [] shape.now words.now ≡ cond fits (Some slots.new.items) None) }
+    ensures { IfOk result (λ fits.
+        fit (context_in setting.now) [] shape.now words.now
+        ≡ cond fits (Some slots.new.items) None) }
 {
+    let heads = setting.whole().heads();
     let mut words = words.again();
     let mut last: &'t [u8] = &[];
     for item in shape {
@@ -46,7 +49,7 @@ pub fn fit<'t>(
                 let Some(word) = words.next() else {
                     return Ok(false);
                 };
-                if !take_word(slots, posters, last, single, word)? {
+                if !take_word(slots, setting, last, single, word)? {
                     return Ok(false);
                 }
                 last = word;
@@ -59,19 +62,25 @@ pub fn fit<'t>(
 /// Takes a word for a part of a shape that takes one, where it fits; else answers false.
 fn take_word<'t>(
     slots: &mut Vec<Operand<'t>>,
-    posters: u32,
+    setting: &Setting<'_, '_>,
     last: &[u8],
     item: Item,
     word: &'t [u8],
 ) -> Result<bool, AllocError>
-    ensures { IfOk result (λ fits. option_map (λ more. slots.old.items ++ more) (at_item posters last.now item word.now) ≡ cond fits (Some slots.new.items) None) }
+    ensures { IfOk result (λ fits.
+        behind_all slots.old.items (at_item (context_in setting.now) last.now item word.now)
+        ≡ cond fits (Some slots.new.items) None) }
 {
     let role = match item {
         Item::Exactly(fixed) => return Ok(word == fixed.word()),
         Item::OneOf(choice) if choice.has(word) => Role::Free,
         Item::A(role) => role,
         Item::Opening => opening(last),
-        Item::NextPoster => Role::Within(i64::from(posters), i64::from(posters)),
+        Item::EventName => Role::EventAhead(setting.whole().ahead(word)),
+        Item::NextPoster => {
+            let number = i64::from(setting.posters());
+            Role::Within(number, number)
+        }
         _ => return Ok(false),
     };
     slots.push(Operand::of(role, word))?;
@@ -105,7 +114,9 @@ fn fill_spawn<'t>(
     classes: &[Class],
     mut words: Words<'t>,
 ) -> Result<(), AllocError>
-    ensures { OnOk result (slots.new.items ≡ slots.old.items ++ side_by_side (map spawn_argument classes.now) words.entry) }
+    ensures { OnOk result
+        (slots.new.items
+        ≡ slots.old.items ++ side_by_side (map spawn_argument classes.now) words.entry) }
 {
     for class in classes {
         let Some(word) = words.next() else {
@@ -122,7 +133,9 @@ fn fill_start<'t>(
     classes: &[Class],
     mut words: Words<'t>,
 ) -> Result<(), AllocError>
-    ensures { OnOk result (slots.new.items ≡ slots.old.items ++ side_by_side (map start_argument classes.now) words.entry) }
+    ensures { OnOk result
+        (slots.new.items
+        ≡ slots.old.items ++ side_by_side (map start_argument classes.now) words.entry) }
 {
     for class in classes {
         let Some(word) = words.next() else {

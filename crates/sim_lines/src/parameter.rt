@@ -5,6 +5,7 @@ ghost use Rattle.sim_language.specs.Parameters.{class_part, is_parameter, parame
 
 use crate::cutting::up_to;
 use crate::name::is_name;
+use sim_language::Version;
 use sim_types::Class;
 
 /// What stands in front of the first colon.
@@ -28,15 +29,18 @@ pub fn parameter_class(word: &[u8]) -> Class
     }
 }
 
-/// Whether the word is a name, alone or with `:event` or `:proc`.
-pub fn is_parameter(word: &[u8]) -> bool
-    ensures { result ≡ is_parameter word.now }
+/// Whether the word is a name in a text of this version, alone or with `:event` or `:proc`.
+pub fn is_parameter(version: Version, word: &[u8]) -> bool
+    ensures { result ≡ is_parameter version word.now }
 {
-    is_name(parameter_name(word)) && may_end_parameter(class_part(word))
+    is_name(version, parameter_name(word)) && may_end_parameter(class_part(word))
 }
 
 fn may_end_parameter(class: &[u8]) -> bool
-    ensures { result ≡ (is_empty class.now || same class.now (codes ":event") || same class.now (codes ":proc")) }
+    ensures { result
+        ≡ (is_empty class.now
+        || same class.now (codes ":event")
+        || same class.now (codes ":proc")) }
 {
     class.is_empty() || class == b":event".as_slice() || class == b":proc".as_slice()
 }

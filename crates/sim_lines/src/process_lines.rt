@@ -3,12 +3,15 @@ ghost use Rattle.std.specs.Prelude.{◌≡◌, ◌<◌, ◌≤◌, [], ◌∷◌
 ghost use Rattle.sim_language.specs.Lines.{lines};
 ghost use Rattle.sim_language.specs.Named.{is_named, place_of, with_all};
 ghost use Rattle.sim_language.specs.Parameters.{parameter_class};
+ghost use Rattle.sim_lines.specs.Spans.{head_by};
 ghost use Rattle.sim_language.specs.AnywhereInText.{head_of, heads_of, parameters};
+ghost use Rattle.sim_types.specs.Limits.{most_bytes};
 
 use crate::cutting::{cut, first_line};
 use crate::name::is_name;
 use crate::parameter::parameter_class;
 use crate::words::Words;
+use sim_language::Version;
 use sim_names::Names;
 use sim_types::Class;
 use std::alloc::{AllocError, Global};
@@ -30,21 +33,28 @@ pub struct ProcessLines<'t> {
 }
 
 impl<'t> Model for ProcessLines<'t> {
-    ghost use Rattle.std.specs.Prelude.{All, ◌≤◌, length, map, slice_range};
+    ghost use Rattle.std.specs.Prelude.{All, ◌≤◌, length};
     ghost use Rattle.sim_language.specs.AnywhereInText.{ProcessLines};
+    ghost use Rattle.sim_types.specs.Limits.{most_bytes};
+    ghost use Rattle.sim_lines.specs.Spans.{IsWithin, heads_in};
 
     ghost Value = { ProcessLines };
 
-    ghost view = { λ a. map (λ n. record { name = n.name; value = slice_range a.classes.items n.value.from n.value.to }) a.spans };
+    ghost view = { λ a. heads_in a.classes.items a.spans };
 
-    ghost invariant = { λ a. (length a.spans ≤ 4194304) × All (λ n. (n.value.from ≤ n.value.to) × (n.value.to ≤ length a.classes.items)) a.spans };
+    ghost invariant = { λ a.
+        (length a.spans ≤ most_bytes) × All (λ n. IsWithin a.classes.items n.value) a.spans };
 }
 
 impl<'t> ProcessLines<'t> {
-    /// The process lines of the text. They may stand anywhere, since a process may be named before it stands.
-    pub fn of_text(alloc: Global, text: &'t [u8]) -> Result<ProcessLines<'t>, AllocError>
-        requires { length text.now ≤ 4194304 }
-        ensures { IfOk result (λ heads. heads ≡ heads_of (lines text.now)) }
+    /// The process lines of a text of this version. They may stand anywhere, since a process may be named before it stands.
+    pub fn of_text(
+        alloc: Global,
+        version: Version,
+        text: &'t [u8],
+    ) -> Result<ProcessLines<'t>, AllocError>
+        requires { length text.now ≤ most_bytes }
+        ensures { IfOk result (λ heads. heads ≡ heads_of version (lines text.now)) }
     {
         let mut heads = ProcessLines {
             spans: Names::new(alloc),
@@ -52,18 +62,19 @@ impl<'t> ProcessLines<'t> {
         };
         let mut rest = text;
         while let Some((line, behind)) = first_line(rest) {
-            heads.add(&Words::new(cut(line)))?;
+            heads.add(version, &Words::new(cut(line)))?;
             rest = behind;
         }
         Ok(heads)
     }
 
     /// The process that the line declares behind the others, if it declares one and its name is not there.
-    fn add(&mut self, line: &Words<'t>) -> Result<(), AllocError>
-        requires { length self.old < 4194304 }
-        ensures { OnOk result (self.new ≡ with_all self.old (option_to_list (head_of line.now))) }
+    fn add(&mut self, version: Version, line: &Words<'t>) -> Result<(), AllocError>
+        requires { length self.old < most_bytes }
+        ensures { OnOk result
+            (self.new ≡ with_all self.old (option_to_list (head_of version line.now))) }
     {
-        match head_of(line) {
+        match head_of(version, line) {
             Some((name, parameters)) if !self.contains(name) => self.push(name, parameters),
             _ => Ok(()),
         }
@@ -71,9 +82,10 @@ impl<'t> ProcessLines<'t> {
 
     /// A process behind the others.
     fn push(&mut self, name: &'t [u8], parameters: Words<'t>) -> Result<(), AllocError>
-        requires few { length self.old < 4194304 }
+        requires few { length self.old < most_bytes }
         requires other { is_named name.now self.old ≡ false }
-        ensures { OnOk result (self.new ≡ self.old ++ record { name = name.now; value = map parameter_class parameters.entry } ∷ []) }
+        ensures { OnOk result
+            (self.new ≡ self.old ++ head_by name.now parameters.entry ∷ []) }
     {
         let from = self.classes.len();
         push_classes(&mut self.classes, parameters)?;
@@ -108,14 +120,14 @@ impl<'t> ProcessLines<'t> {
     }
 }
 
-/// The name and the parameters in a process line.
-fn head_of<'t>(line: &Words<'t>) -> Option<(&'t [u8], Words<'t>)>
-    ensures { option_map (λ head. record { name = head.0.now; value = map parameter_class head.1 }) result ≡ head_of line.now }
+/// The name and the parameters in a process line of a text of this version.
+fn head_of<'t>(version: Version, line: &Words<'t>) -> Option<(&'t [u8], Words<'t>)>
+    ensures { option_map (λ head. head_by head.0.now head.1) result ≡ head_of version line.now }
 {
     let mut words = line.again();
     let first = words.next()?;
     let name = words.next()?;
-    if first == b"process".as_slice() && is_name(name) {
+    if first == b"process".as_slice() && is_name(version, name) {
         Some((name, words))
     } else {
         None
@@ -124,7 +136,8 @@ fn head_of<'t>(line: &Words<'t>) -> Option<(&'t [u8], Words<'t>)>
 
 /// The classes of parameters behind the others.
 fn push_classes(classes: &mut Vec<Class>, mut words: Words<'_>) -> Result<(), AllocError>
-    ensures classes { OnOk result (classes.new.items ≡ classes.old.items ++ map parameter_class words.entry) }
+    ensures classes { OnOk result
+        (classes.new.items ≡ classes.old.items ++ map parameter_class words.entry) }
     ensures more { vec_len classes.old ≤ vec_len classes.new }
 {
     while let Some(word) = words.next() {

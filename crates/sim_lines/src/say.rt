@@ -5,32 +5,31 @@ ghost use Rattle.sim_language.specs.Built.{is_built};
 ghost use Rattle.sim_language.specs.Lines.{words};
 ghost use Rattle.sim_language.specs.Sayings.{begins_with, form_in, if_built, is_bad_name, is_bad_number, said_by_form, said_by_slots, saying};
 ghost use Rattle.sim_lines.specs.LineOf.{saying_of};
+ghost use Rattle.sim_lines.specs.SettingOf.{context_in, setting_of};
 
 use crate::beginning::{begins, operands};
 use crate::cutting::is_text;
 use crate::line::Saying;
 use crate::operand::Operand;
 use crate::operands::fit;
-use crate::process_lines::ProcessLines;
+use crate::setting::Setting;
 use crate::words::Words;
-use sim_language::{Form, Section};
+use sim_language::{Form, Section, Version};
 use sim_types::FaultKind;
 use std::alloc::AllocError;
 
 /// How many bytes a cut line has, at most.
 const LONGEST_LINE: usize = 200;
 
-/// What a cut line says where it stands in this section below so many `poster` lines. Where it says a form, the slots are
-/// filled by its operands.
+/// What a cut line says in this setting. Where it says a form, the slots are filled by its operands.
 pub fn say<'t>(
     slots: &mut Vec<Operand<'t>>,
-    heads: &ProcessLines<'_>,
-    section: Section,
-    posters: u32,
+    setting: &Setting<'_, '_>,
     line: &'t [u8],
 ) -> Result<Saying, AllocError>
     requires { slots.old.items ≡ [] }
-    ensures { IfOk result (λ what. saying_of what slots.new.items ≡ saying (record { built = is_built; heads = heads.now; section = section; posters = posters }) line.now (words line.now)) }
+    ensures { IfOk result (λ what.
+        saying_of what slots.new.items ≡ saying (setting_of setting.now) line.now (words line.now)) }
 {
     let words = Words::new(line);
     if words.is_empty() {
@@ -42,8 +41,8 @@ pub fn say<'t>(
     if line.len() > LONGEST_LINE {
         return Ok(Saying::Wrong(FaultKind::LineTooLong));
     }
-    match built_form(section, &words) {
-        Some(form) => say_form(slots, heads, posters, form, &words),
+    match built_form(setting, &words) {
+        Some(form) => say_form(slots, setting, form, &words),
         None => Ok(Saying::Wrong(FaultKind::UnknownWord)),
     }
 }
@@ -51,28 +50,29 @@ pub fn say<'t>(
 /// What words say that begin this form.
 fn say_form<'t>(
     slots: &mut Vec<Operand<'t>>,
-    heads: &ProcessLines<'_>,
-    posters: u32,
+    setting: &Setting<'_, '_>,
     form: Form,
     words: &Words<'t>,
 ) -> Result<Saying, AllocError>
     requires { slots.old.items ≡ [] }
-    ensures { IfOk result (λ what. saying_of what slots.new.items ≡ said_by_form (record { heads = heads.now; posters = posters }) (Some form) words.now) }
+    ensures { IfOk result (λ what.
+        saying_of what slots.new.items
+        ≡ said_by_form (context_in setting.now) (Some form) words.now) }
 {
-    if fit(slots, heads, posters, form.shape(), &operands(form, words))? {
-        Ok(say_operands(form, slots))
+    if fit(slots, setting, form.shape(), &operands(form, words))? {
+        Ok(say_operands(setting.whole().version(), form, slots))
     } else {
         Ok(Saying::Wrong(FaultKind::BadShape))
     }
 }
 
 /// What operands say that have the shape of this form.
-fn say_operands(form: Form, slots: &[Operand<'_>]) -> Saying
-    ensures { saying_of result slots.now ≡ said_by_slots form (Some slots.now) }
+fn say_operands(version: Version, form: Form, slots: &[Operand<'_>]) -> Saying
+    ensures { saying_of result slots.now ≡ said_by_slots version form (Some slots.now) }
 {
     if has_bad_number(slots) {
         Saying::Wrong(FaultKind::BadNumber)
-    } else if has_bad_name(slots) {
+    } else if has_bad_name(version, slots) {
         Saying::Wrong(FaultKind::BadName)
     } else {
         Saying::Says(form)
@@ -85,28 +85,32 @@ fn has_bad_number(slots: &[Operand<'_>]) -> bool
     slots.iter().any(|slot| slot.is_bad_number())
 }
 
-fn has_bad_name(slots: &[Operand<'_>]) -> bool
-    ensures { result ≡ list_any is_bad_name slots.now }
+fn has_bad_name(version: Version, slots: &[Operand<'_>]) -> bool
+    ensures { result ≡ list_any (is_bad_name version) slots.now }
 {
-    slots.iter().any(|slot| slot.is_bad_name())
+    slots.iter().any(|slot| slot.is_bad_name(version))
 }
 
-/// The form that the words of a line begin in this section, if they begin one that is built.
-fn built_form(section: Section, words: &Words<'_>) -> Option<Form>
-    ensures { result ≡ if_built is_built (form_in section words.now) }
+/// The form that the words of a line begin in this setting, if they begin one that is built. The header of a version that
+/// is not built counts as one of another shape.
+fn built_form(setting: &Setting<'_, '_>, words: &Words<'_>) -> Option<Form>
+    ensures { result
+        ≡ if_built is_built
+        (form_in setting.now.whole.version setting.now.section words.now) }
 {
-    match form_in(section, words) {
+    match form_in(setting, words) {
         Some(form) if form.is_built() => Some(form),
+        Some(Form::ScenarioTwo) => Some(Form::Scenario),
         _ => None,
     }
 }
 
-/// The form that the words of a line begin in this section, if they begin one.
-fn form_in(section: Section, words: &Words<'_>) -> Option<Form>
-    ensures { result ≡ form_in section words.now }
+/// The form that the words of a line begin in this setting, if they begin one.
+fn form_in(setting: &Setting<'_, '_>, words: &Words<'_>) -> Option<Form>
+    ensures { result ≡ form_in setting.now.whole.version setting.now.section words.now }
 {
-    match section {
-        Section::Plain => begins(words),
+    match setting.section() {
+        Section::Plain => begins(setting.whole().version(), words),
         Section::InJournal if begins_with(words, b"after") => Some(Form::After),
         Section::InJournal => None,
         Section::InPosters if begins_with(words, b"poster") => Some(Form::Poster),

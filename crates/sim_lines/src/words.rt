@@ -52,7 +52,9 @@ impl<'t> Words<'t> {
 
     /// The next word.
     pub fn next(&mut self) -> Option<&'t [u8]>
-        ensures { MatchOption result ((self.old ≡ []) × (self.new ≡ [])) (λ word. self.old ≡ word.now ∷ self.new) }
+        ensures { MatchOption result
+            ((self.old ≡ []) × (self.new ≡ []))
+            (λ word. self.old ≡ word.now ∷ self.new) }
     {
         let (word, rest) = self.first_and_rest()?;
         self.first = None;
@@ -75,7 +77,9 @@ impl<'t> Words<'t> {
 
     /// The first word, and the part of the line from the fourth on, where there are three.
     fn first_and_fourth(&self) -> Option<(&'t [u8], &'t [u8])>
-        ensures { MatchOption result (after_made self.now ≡ self.now) (λ parts. after_made self.now ≡ parts.0.now ∷ words parts.1.now) }
+        ensures { MatchOption result
+            (after_made self.now ≡ self.now)
+            (λ parts. after_made self.now ≡ parts.0.now ∷ words parts.1.now) }
     {
         let (first, behind) = self.first_and_rest()?;
         let (_, behind_second) = first_word(behind)?;
@@ -85,7 +89,9 @@ impl<'t> Words<'t> {
 
     /// The first word, and the part of the line that has the others.
     fn first_and_rest(&self) -> Option<(&'t [u8], &'t [u8])>
-        ensures { MatchOption result (self.now ≡ []) (λ parts. self.now ≡ parts.0.now ∷ words parts.1.now) }
+        ensures { MatchOption result
+            (self.now ≡ [])
+            (λ parts. self.now ≡ parts.0.now ∷ words parts.1.now) }
     {
         match self.first {
             Some(word) => Some((word, self.rest)),
@@ -96,7 +102,9 @@ impl<'t> Words<'t> {
 
 /// The first word and what stands behind it, or nothing where there is none.
 fn first_word(line: &[u8]) -> Option<(&[u8], &[u8])>
-    ensures { MatchOption result (words line.now ≡ []) (λ parts. words line.now ≡ parts.0.now ∷ words parts.1.now) }
+    ensures { MatchOption result
+        (words line.now ≡ [])
+        (λ parts. words line.now ≡ parts.0.now ∷ words parts.1.now) }
 {
     let start = first_of_word(line)?;
     let word = &line[start..];

@@ -11,6 +11,8 @@ mod desk;
 #[cfg(test)]
 mod devices;
 #[cfg(test)]
+mod lines;
+#[cfg(test)]
 mod sinks;
 #[cfg(test)]
 mod sources;

@@ -6,7 +6,7 @@ pub finish-requires-clause-few : goal.finish-requires-clause-few
 finish-requires-clause-few c = c.in_ok-draft.ensures.few
 
 pub finish-requires-clause-says : goal.finish-requires-clause-says
-finish-requires-clause-says c = draft_says c.args.text.now c.in_ok-heads.heads c.in_ok-draft.draft (omega (arith, c.if-text.false)) c.in_ok-heads.ensures c.in_ok-draft.ensures.gives
+finish-requires-clause-says c = draft_says c.args.text.now c.in_ok-whole.whole c.in_ok-draft.draft (omega (arith, c.if-text.false)) c.in_ok-whole.ensures c.in_ok-draft.ensures.gives
 
 pub returns : goal.returns
-returns c = draft_says c.args.text.now c.in_ok-heads.heads c.in_ok-draft.draft (omega (arith, c.if-text.false)) c.in_ok-heads.ensures c.in_ok-draft.ensures.gives ∙ ap Ok (sym c.in_ok-scenario.ensures)
+returns c = draft_says c.args.text.now c.in_ok-whole.whole c.in_ok-draft.draft (omega (arith, c.if-text.false)) c.in_ok-whole.ensures c.in_ok-draft.ensures.gives ∙ ap Ok (sym c.in_ok-scenario.ensures)

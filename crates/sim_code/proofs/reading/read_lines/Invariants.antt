@@ -8,8 +8,8 @@ use Rattle.sim_code.proofs.reading.read_lines.Given as goal
 -- what was read and what is left say what the text says
 abbrev pub invariant-loop-draft : goal.invariant-loop-draft
 invariant-loop-draft l = record {
-  heads : l.heads ≡ l.fn.heads;
-  reading : IsReading l.fn.heads (reads_text is_built l.fn.heads (lines l.fn.text)) l.number l.above l.variables l.draft l.lines;
+  heads : l.heads ≡ l.fn.whole.heads;
+  reading : IsReading l.fn.whole.heads (reads_text is_built l.fn.whole (lines l.fn.text)) l.number l.above l.variables l.draft l.lines;
 }
 
 abbrev pub decreases-loop-draft : goal.decreases-loop-draft

@@ -5,4 +5,5 @@ use Rattle.sim_lines.proofs.operands.fill_start.Given as goal
 -- the slots so far, and those of what is left
 abbrev pub invariant-loop-class : goal.invariant-loop-class
 invariant-loop-class l =
-    l.slots.items ++ side_by_side (map start_argument (drop l.class-index l.classes)) l.words ≡ l.fn.slots.items ++ side_by_side (map start_argument l.classes) l.fn.words
+    l.slots.items ++ side_by_side (map start_argument (drop l.class-index l.classes)) l.words
+    ≡ l.fn.slots.items ++ side_by_side (map start_argument l.classes) l.fn.words

@@ -9,7 +9,7 @@ use Rattle.sim_lines.proofs.process_lines.ProcessLines.of_text.Given as goal
 -- the process lines so far, and those of what is left
 abbrev pub invariant-loop-line : goal.invariant-loop-line
 invariant-loop-line l = record {
-  heads : with_all l.heads (filter_map head_of_line (lines l.rest)) ≡ heads_of (lines l.text);
+  heads : with_all l.heads (filter_map (head_of_line l.version) (lines l.rest)) ≡ heads_of l.version (lines l.text);
   few : length l.heads + length l.rest ≤ length l.text;
 }
 
