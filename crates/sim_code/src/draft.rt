@@ -202,7 +202,8 @@ impl Draft {
 
     fn push_store(&mut self, kind: ResourceKind, most: &Operand<'_>) -> Result<(), AllocError>
         ensures { OnOk result
-            (self.new ≡ with_resource self.old kind (capacity_of most_items most.now.word) (pos 0)) }
+            (self.new
+            ≡ with_resource self.old kind (capacity_of most_items most.now.word) (pos 0)) }
     {
         self.push_resource(kind, capacity_of(MOST_ITEMS, most.word()), 0)
     }
@@ -304,7 +305,8 @@ impl Draft {
     ) -> Result<(), AllocError>
         requires { Fits form slots.now }
         ensures { (heads : anywhere.ProcessLines)
-            → OnOk result (self.new ≡ add_of is_of_entries heads place.now form slots.now self.old) }
+            → OnOk result
+            (self.new ≡ add_of is_of_entries heads place.now form slots.now self.old) }
     {
         match (form, slots) {
             (Form::After, [after, poster, serial, port, value]) => {

@@ -1,11 +1,12 @@
 -- What a call on a text has written and answers.
-use Rattle.std.proofs.Common.{◌≡◌, ℕ, ◌<◌, Bool, true, false, List, [], length, take, refl, sym, subst, ap, ◌∙◌, Option, None, Some, Result, Ok, Err, arith}
+use Rattle.std.proofs.Common.{◌≡◌, ℕ, ◌+◌, ◌<◌, Bool, true, false, List, [], length, take, refl, sym, subst, ap, ◌∙◌, Option, None, Some, Result, Ok, Err, arith}
 use Rattle.std.specs.Prelude.{nat_le, if◌then◌else◌, IfSome, IsTrue}
 use Rattle.std.specs.Io.KnownBytes.{Appends}
 use Rattle.std.proofs.KnownBytes.{Appends-nil}
 use Rattle.std.proofs.lemmas.Bool.{false≢true}
 use Rattle.std.proofs.lemmas.Bool.Decides.{nat_tests}
 use Rattle.std.proofs.lemmas.List.{take_all, length-take-le}
+use Rattle.sim_types.specs.Limits.{most_bytes}
 use Rattle.sim_types.specs.Scenarios.{ScenarioOf}
 use Rattle.sim_command.specs.declared.commands.Command.{Command}
 use Rattle.sim_command.specs.declared.commands.Command.TheVariants as command
@@ -33,7 +34,7 @@ abbrev too_long : Fault
 too_long = record { line = 0; kind = fault.TooLong }
 
 -- its first fault is its length
-long_refused : (text : List ℕ) → 4194304 < length text → read_of text ≡ Err too_long
+long_refused : (text : List ℕ) → most_bytes < length text → read_of text ≡ Err too_long
 long_refused text long = by (is_too_long text) (grind (arith, nat_tests))
   where
     by : (b : Bool) → b ≡ true → (if b then Err too_long else reads_text is_built (heads_of (lines text)) (lines text)) ≡ Err too_long
@@ -41,13 +42,13 @@ long_refused text long = by (is_too_long text) (grind (arith, nat_tests))
     by false e = absurd (false≢true e)
 
 -- so one byte more than is allowed says as much as the whole text
-read_of_front : (text : List ℕ) → read_of (take 4194305 text) ≡ read_of text
-read_of_front text = by (nat_le (length text) 4194305) refl
+read_of_front : (text : List ℕ) → read_of (take (most_bytes + 1) text) ≡ read_of text
+read_of_front text = by (nat_le (length text) (most_bytes + 1)) refl
   where
-    by : (b : Bool) → nat_le (length text) 4194305 ≡ b → read_of (take 4194305 text) ≡ read_of text
-    by true short = ap read_of (take_all 4194305 text (grind (arith, nat_tests)))
+    by : (b : Bool) → nat_le (length text) (most_bytes + 1) ≡ b → read_of (take (most_bytes + 1) text) ≡ read_of text
+    by true short = ap read_of (take_all (most_bytes + 1) text (grind (arith, nat_tests)))
     by false long =
-        long_refused (take 4194305 text) (grind (arith, nat_tests, length-take-le 4194305 text (grind (arith, nat_tests))))
+        long_refused (take (most_bytes + 1) text) (grind (arith, nat_tests, length-take-le (most_bytes + 1) text (grind (arith, nat_tests))))
         ∙ sym (long_refused text (grind (arith, nat_tests)))
 
 -- ---- the text that was read
@@ -62,7 +63,7 @@ unfolding text_of
 text_told None bytes = tt
 text_told (Some left) bytes = refl
 
-same_reading : (left rest : Option (List ℕ)) (bytes : List ℕ) → TakesFirst 4194305 left rest bytes → read_of bytes ≡ read_of (text_of left bytes)
+same_reading : (left rest : Option (List ℕ)) (bytes : List ℕ) → TakesFirst (most_bytes + 1) left rest bytes → read_of bytes ≡ read_of (text_of left bytes)
 unfolding text_of
 same_reading None rest bytes takes = refl
 same_reading (Some left) rest bytes takes = ap read_of takes.0 ∙ read_of_front left
@@ -74,8 +75,9 @@ in_order_for (command.Run limit) text (Err fault) is = tt
 in_order_for (command.Run limit) text (Ok s) is = in_order s limit (read_well_formed is_built text s is) (read_built text s is)
 
 -- an answer to the bytes taken, which the text holds, is one to the text that was read
-pub whole_answer : (asked : Command) (left rest : Option (List ℕ)) (text bytes : List ℕ) (old new : SinkOf) (answer : Status) → TakesFirst 4194305 left rest bytes
-    → text ≡ bytes → Appends old.taken new.taken (answer_of asked text) → answer ≡ status_of asked text → AnswersWhole asked left old new answer
+pub whole_answer : (asked : Command) (left rest : Option (List ℕ)) (text bytes : List ℕ) (old new : SinkOf) (answer : Status)
+    → TakesFirst (most_bytes + 1) left rest bytes → text ≡ bytes → Appends old.taken new.taken (answer_of asked text)
+    → answer ≡ status_of asked text → AnswersWhole asked left old new answer
 whole_answer asked left rest text bytes old new answer takes held written is =
     let same = ap read_of held ∙ same_reading left rest bytes takes in
     record {
@@ -86,7 +88,7 @@ whole_answer asked left rest text bytes old new answer takes held written is =
       throughout = in_order_for asked (text_of left bytes) (read_of (text_of left bytes)) refl;
     }
 
-pub prefix_answer : (asked : Command) (left rest : Option (List ℕ)) (text bytes : List ℕ) (old new : SinkOf) → TakesFirst 4194305 left rest bytes → text ≡ bytes
+pub prefix_answer : (asked : Command) (left rest : Option (List ℕ)) (text bytes : List ℕ) (old new : SinkOf) → TakesFirst (most_bytes + 1) left rest bytes → text ≡ bytes
     → AppendsPrefix old.taken new.taken (answer_of asked text) → AnswersPrefix asked left old new
 prefix_answer asked left rest text bytes old new takes held written =
     let same = ap read_of held ∙ same_reading left rest bytes takes in
@@ -105,6 +107,9 @@ none_answered asked left old =
       told = text_told left [];
       written = record { rest = bytes; front = record { front = []; parts = refl; appended = Appends-nil old.taken } };
     }
+
+-- what is asked of an answer that was told: whole, cut off, or none
+pub ruleset answers = (whole_answer, prefix_answer, none_answered)
 
 -- ---- the status
 

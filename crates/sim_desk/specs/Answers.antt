@@ -1,6 +1,7 @@
 -- What a call on a command has written and answered.
-use Rattle.std.specs.Prelude.{◌≡◌, ℕ, List, drop, Bool, true, false, Option, Some, None, Result, Ok, IfSome, IsTrue, ◌⊎◌}
+use Rattle.std.specs.Prelude.{◌≡◌, ℕ, ◌+◌, List, drop, Bool, true, false, Option, Some, None, Result, Ok, IfSome, IsTrue, ◌⊎◌}
 use Rattle.std.specs.Io.KnownBytes.{Appends}
+use Rattle.sim_types.specs.Limits.{most_bytes}
 use Rattle.sim_types.specs.Scenarios.{ScenarioOf}
 use Rattle.sim_types.specs.declared.fault.Fault.{Fault}
 use Rattle.sim_command.specs.declared.commands.Command.{Command}
@@ -22,7 +23,7 @@ is_whole _ = false
 -- the bytes left were taken to their end, or one byte more than a text may have, where the source tells its bytes
 abbrev pub ReadsWhole : Option (List ℕ) → Option (List ℕ) → Type 0
 ReadsWhole None after = Unit {0}
-ReadsWhole (Some left) after = after ≡ Some (drop 4194305 left)
+ReadsWhole (Some left) after = after ≡ Some (drop (most_bytes + 1) left)
 
 -- every state of the run is in order, where the command is to run and the text says a scenario
 abbrev pub IsInOrderFor : Command → Result ScenarioOf Fault → Type 0

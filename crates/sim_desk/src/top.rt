@@ -20,7 +20,7 @@ use std::thread::Threads;
 
 /// Carries out the command that the words say: reads from the source, and writes to the sink. The answer says how it
 /// ended. The first argument lends threads to commands that run on several; no command that is built needs them.
-#[tactic(auto, using(crate::proofs::Telling::whole_answer, crate::proofs::Telling::prefix_answer, crate::proofs::Telling::none_answered))]
+#[tactic(auto, using(crate::proofs::Telling::answers))]
 pub fn desk<S: Source, K: Sink, R: Threads + Sync>(
     _rt: &R,
     alloc: Global,
@@ -49,18 +49,22 @@ pub fn desk<S: Source, K: Sink, R: Threads + Sync>(
     ensures not_written { result ≡ Status.Usage → out.new ≡ out.old }
 
     // A failed read: only where the source's count rose, and then nothing is written.
-    ensures read_fault { result ≡ Status.ReadFault → Rose (S.faults source.old) (S.faults source.new) }
+    ensures read_fault { result ≡ Status.ReadFault
+        → Rose (S.faults source.old) (S.faults source.new) }
     ensures unwritten { result ≡ Status.ReadFault → out.new ≡ out.old }
 
     // A failed write or flush: only where the sink's count rose.
-    ensures write_fault { result ≡ Status.WriteFault → Rose (K.tells out.old).faults (K.tells out.new).faults }
+    ensures write_fault { result ≡ Status.WriteFault
+        → Rose (K.tells out.old).faults (K.tells out.new).faults }
 
     // The counts rise for no other answer.
     ensures read_well { result ≢ Status.ReadFault → S.faults source.new ≡ S.faults source.old }
-    ensures wrote_well { result ≢ Status.WriteFault → (K.tells out.new).faults ≡ (K.tells out.old).faults }
+    ensures wrote_well { result ≢ Status.WriteFault
+        → (K.tells out.new).faults ≡ (K.tells out.old).faults }
 
     // After a whole answer the source was read to its end, or one byte more than a text may have was taken.
-    ensures read_whole { IsTrue (is_whole result) → ReadsWhole (S.left source.old) (S.left source.new) }
+    ensures read_whole { IsTrue (is_whole result)
+        → ReadsWhole (S.left source.old) (S.left source.new) }
 
     // Where the words are a command and neither count rises, the whole answer is written, unless memory is wanting.
     ensures complete { command words.now ≢ None → ¬ Rose (S.faults source.old) (S.faults source.new)
@@ -91,7 +95,8 @@ fn answer<K: Sink>(
 ) -> Result<Status, EngineFault>
     ensures status { IfOk result (λ status. status ≡ status_of asked text.now) }
     ensures whole_status { IfOk result (λ status. IsTrue (is_whole status)) }
-    ensures writes { Writes is_write (K.tells out.old) (K.tells out.new) result (answer_of asked text.now) }
+    ensures writes { Writes is_write (K.tells out.old) (K.tells out.new) result
+        (answer_of asked text.now) }
     ensures flushed { OnOk result (IsFlushedOnce (K.tells out.old) (K.tells out.new)) }
     ensures unflushed { OnErr result (IsUnflushed (K.tells out.old) (K.tells out.new)) }
 {
@@ -132,7 +137,8 @@ fn carry_out<K: Sink>(
 
 /// Writes why a text is no scenario.
 fn refuse<K: Sink>(alloc: Global, fault: &Fault, out: &mut K) -> Result<(), EngineFault>
-    ensures writes { Writes is_write (K.tells out.old) (K.tells out.new) result (fault_text fault.now) }
+    ensures writes { Writes is_write (K.tells out.old) (K.tells out.new) result
+        (fault_text fault.now) }
     ensures flushed { OnOk result (IsFlushedOnce (K.tells out.old) (K.tells out.new)) }
     ensures unflushed { OnErr result (IsUnflushed (K.tells out.old) (K.tells out.new)) }
 {

@@ -41,7 +41,8 @@ module _ (rs : List Resource) (t : State Script) where
   well_alive : (x : OpenScope) → is_scope_well rs t x ≡ true → is_alive x.process t ≡ true
   well_alive x h = grind (arith, h)
 
-  scope_alive : (e : EventId) (p : ProcId) (res : ℕ) (xs : List OpenScope) → list_any (λ x. is_same x.request e && is_process x.process p && (x.res == res)) xs ≡ true
+  scope_alive : (e : EventId) (p : ProcId) (res : ℕ) (xs : List OpenScope)
+      → list_any (λ x. is_same x.request e && is_process x.process p && (x.res == res)) xs ≡ true
       → list_all (is_scope_well rs t) xs ≡ true → is_alive p t ≡ true
   scope_alive e p res [] h well = absurd (false≢true h)
   scope_alive e p res (x ∷ xs) h well =
@@ -58,7 +59,8 @@ module _ (rs : List Resource) (t : State Script) where
           subst (λ q. is_alive q t ≡ true) same (well_alive x here)
       by false is h here later = later h
 
-  wants_alive : (w : Waiter) (want : Want) → request_has_scope t.scopes w want ≡ true → list_all (is_scope_well rs t) t.scopes ≡ true → is_of_living t want ≡ true
+  wants_alive : (w : Waiter) (want : Want) → request_has_scope t.scopes w want ≡ true
+      → list_all (is_scope_well rs t) t.scopes ≡ true → is_of_living t want ≡ true
   wants_alive w (Slot p key) h well =
       scope_alive w.event p w.res t.scopes h well
   wants_alive w (Give amount priority) h well = refl

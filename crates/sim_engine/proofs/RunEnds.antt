@@ -25,7 +25,8 @@ use Rattle.sim_engine.proofs.RunUnits.{no_arrival_left}
 
 -- ---- where the kernel stands tells how the run has ended
 
-empty_as_well : (c : Control) (scenario : ScenarioOf) (kept agenda : List Entry) → scenario.setup.until ≡ until.Never → length kept ≡ length agenda → ended_at (rest_of c kept) ≡ end_by (plan_of_scenario scenario) c agenda []
+empty_as_well : (c : Control) (scenario : ScenarioOf) (kept agenda : List Entry) → scenario.setup.until ≡ until.Never
+    → length kept ≡ length agenda → ended_at (rest_of c kept) ≡ end_by (plan_of_scenario scenario) c agenda []
 empty_as_well Idle scenario [] [] never same = rw never refl
 empty_as_well Idle scenario [] (x ∷ xs) never same = absurd (omega (arith, same))
 empty_as_well Idle scenario (y ∷ ys) [] never same = absurd (omega (arith, same))
@@ -42,7 +43,8 @@ rest_tells scenario n parts h =
     (rw (← h.stands.control) (empty_as_well parts.control scenario parts.calendar.agenda (calendar m.state).agenda h.until (length_permutation (calendar m.state).agenda parts.calendar.agenda h.stands.calendar.agenda)))
 
 -- so it tells how the run is said to have ended
-pub end_is : (scenario : ScenarioOf) (n : ℕ) (parts : PartsOf Script ScenarioOf) → StandsForRun scenario n parts → stopped_at (rest_of parts.control parts.calendar.agenda) ≡ end_of_scenario scenario n
+pub end_is : (scenario : ScenarioOf) (n : ℕ) (parts : PartsOf Script ScenarioOf) → StandsForRun scenario n parts
+    → stopped_at (rest_of parts.control parts.calendar.agenda) ≡ end_of_scenario scenario n
 end_is scenario n parts h = ap (λ o. unwrap_or o end.Limit) (rest_tells scenario n parts h)
 
 -- ---- a run that has ended
@@ -53,7 +55,8 @@ no_step_is_end rest.Idle h = absurd (cc)
 no_step_is_end rest.Empty h = (end.Empty, refl)
 no_step_is_end (rest.Over why) h = (why, refl)
 
-run_stays : (scenario : ScenarioOf) (n limit : ℕ) (parts : PartsOf Script ScenarioOf) → StandsForRun scenario n parts → can_step (rest_of parts.control parts.calendar.agenda) ≡ false → n ≤ limit
+run_stays : (scenario : ScenarioOf) (n limit : ℕ) (parts : PartsOf Script ScenarioOf) → StandsForRun scenario n parts
+    → can_step (rest_of parts.control parts.calendar.agenda) ≡ false → n ≤ limit
     → run_of_scenario scenario limit ≡ run_of_scenario scenario n
 run_stays scenario n limit parts h none within =
     let why = no_step_is_end (rest_of parts.control parts.calendar.agenda) none in
@@ -62,7 +65,8 @@ run_stays scenario n limit parts h none within =
     subst (λ k. run_of_scenario scenario k ≡ run_of_scenario scenario n) all stays
 
 -- the kernel that makes no more steps stands for the whole run
-pub stands_for_whole : (scenario : ScenarioOf) (n limit : ℕ) (parts : PartsOf Script ScenarioOf) → StandsForRun scenario n parts → can_step (rest_of parts.control parts.calendar.agenda) ≡ false → n ≤ limit
+pub stands_for_whole : (scenario : ScenarioOf) (n limit : ℕ) (parts : PartsOf Script ScenarioOf)
+    → StandsForRun scenario n parts → can_step (rest_of parts.control parts.calendar.agenda) ≡ false → n ≤ limit
     → StandsForRun scenario limit parts
 stands_for_whole scenario n limit parts h none within =
     let same = run_stays scenario n limit parts h none within in
@@ -78,6 +82,7 @@ stands_for_whole scenario n limit parts h none within =
     }
 
 -- and has written all lines
-pub lines_whole : (scenario : ScenarioOf) (n limit : ℕ) (parts : PartsOf Script ScenarioOf) → StandsForRun scenario n parts → can_step (rest_of parts.control parts.calendar.agenda) ≡ false → n ≤ limit
+pub lines_whole : (scenario : ScenarioOf) (n limit : ℕ) (parts : PartsOf Script ScenarioOf) → StandsForRun scenario n parts
+    → can_step (rest_of parts.control parts.calendar.agenda) ≡ false → n ≤ limit
     → (run_of_scenario scenario limit).state.lines ≡ (run_of_scenario scenario n).state.lines
 lines_whole scenario n limit parts h none within = ap (λ m. m.state.lines) (run_stays scenario n limit parts h none within)

@@ -88,7 +88,8 @@ added_at scenario k n old new answer same h = subst (λ m. Writes is_write old n
 abbrev pub text_behind : (scenario : ScenarioOf) (n limit : ℕ) → n ≤ limit → List ℕ
 text_behind scenario n limit within = trace_text [] (lines_front scenario n limit within).0
 
-pub text_front : (scenario : ScenarioOf) (n limit : ℕ) (within : n ≤ limit) → text_after scenario limit ≡ text_after scenario n ++ text_behind scenario n limit within
+pub text_front : (scenario : ScenarioOf) (n limit : ℕ) (within : n ≤ limit)
+    → text_after scenario limit ≡ text_after scenario n ++ text_behind scenario n limit within
 text_front scenario n limit within =
     let h = lines_front scenario n limit within in ap (trace_text []) h.1 ∙ text_append (lines_after scenario n) h.0
 
@@ -109,12 +110,14 @@ none_added scenario n answer h is = rw h (rw is refl)
 abbrev pub finish_of : PartsOf Script ScenarioOf → Line
 finish_of parts = line.Finish (stopped_at (rest_of parts.control parts.calendar.agenda)) parts.calendar.time parts.processed
 
-pub finish_is : (parts : PartsOf Script ScenarioOf) (rest : Rest) (end : End) (finish : Line) → rest ≡ rest_of parts.control parts.calendar.agenda → end ≡ stopped_at rest
+pub finish_is : (parts : PartsOf Script ScenarioOf) (rest : Rest) (end : End) (finish : Line)
+    → rest ≡ rest_of parts.control parts.calendar.agenda → end ≡ stopped_at rest
     → finish ≡ line.Finish end parts.calendar.time parts.processed → finish ≡ finish_of parts
 finish_is parts rest end finish stands ended is = is ∙ rw (ended, stands) refl
 
 -- the text of the whole trace
-pub trace_is : (scenario : ScenarioOf) (limit : ℕ) (parts : PartsOf Script ScenarioOf) (finish : Line) → StandsForRun scenario limit parts → finish ≡ finish_of parts
+pub trace_is : (scenario : ScenarioOf) (limit : ℕ) (parts : PartsOf Script ScenarioOf) (finish : Line)
+    → StandsForRun scenario limit parts → finish ≡ finish_of parts
     → trace_text [] (trace_of_scenario scenario limit) ≡ text_after scenario limit ++ line_text [] finish
 trace_is scenario limit parts finish h is =
     let m = run_of_scenario scenario limit in
@@ -128,5 +131,6 @@ finish_text scenario limit =
     let m = run_of_scenario scenario limit in
     trace_text [] (line.Finish (end_of_scenario scenario limit) (calendar m.state).time m.state.processed ∷ [])
 
-pub trace_begins : (scenario : ScenarioOf) (limit : ℕ) → trace_text [] (trace_of_scenario scenario limit) ≡ text_after scenario limit ++ finish_text scenario limit
+pub trace_begins : (scenario : ScenarioOf) (limit : ℕ)
+    → trace_text [] (trace_of_scenario scenario limit) ≡ text_after scenario limit ++ finish_text scenario limit
 trace_begins scenario limit = text_append (lines_after scenario limit) _

@@ -28,7 +28,8 @@ use Rattle.sim_engine.specs.StandsForRun.{StandsForRun, lines_after, lines_added
 paired : {X Y : Type 0} (p : X × Y) (x : X) (y : Y) → x ≡ p.0 → y ≡ p.1 → p ≡ (x, y)
 paired p x y a b = rw (a, b) refl
 
-poll_of_function : (g : Plan Script) (scenario : ScenarioOf) (p : ProcId) (x : Signal) (s t : State Script) → IsPoll g (IsScriptTurn scenario) p x s t → IsPoll g (OfFunction (script_turn scenario.code)) p x s t
+poll_of_function : (g : Plan Script) (scenario : ScenarioOf) (p : ProcId) (x : Signal) (s t : State Script)
+    → IsPoll g (IsScriptTurn scenario) p x s t → IsPoll g (OfFunction (script_turn scenario.code)) p x s t
 poll_of_function g scenario p x s t h =
     record {
       process = h.process;
@@ -39,42 +40,50 @@ poll_of_function g scenario p x s t h =
       then_is = h.then_is;
     }
 
-step_of_function : (g : Plan Script) (scenario : ScenarioOf) (s t : State Script) (c : Control) → IsStepAt g (IsScriptTurn scenario) s t c → IsStepAt g (OfFunction (script_turn scenario.code)) s t c
+step_of_function : (g : Plan Script) (scenario : ScenarioOf) (s t : State Script) (c : Control)
+    → IsStepAt g (IsScriptTurn scenario) s t c → IsStepAt g (OfFunction (script_turn scenario.code)) s t c
 step_of_function g scenario s t Idle h = h
 step_of_function g scenario s t (Calling e left) h = h
 step_of_function g scenario s t (Active e left p x) h = poll_of_function g scenario p x s t h
 step_of_function g scenario s t (Over why e left) h = h
 
-only_script_step : (g : Plan Script) (scenario : ScenarioOf) (s t : State Script) → IsStep g (IsScriptTurn scenario) s t → t ≡ step_of g (script_turn scenario.code) s
+only_script_step : (g : Plan Script) (scenario : ScenarioOf) (s t : State Script) → IsStep g (IsScriptTurn scenario) s t
+    → t ≡ step_of g (script_turn scenario.code) s
 only_script_step g scenario s t h = only_step g (script_turn scenario.code) s t (step_of_function g scenario s t s.control h)
 
 -- ---- nothing arrives, so a unit is a step
 
-no_arrival : {B : Type 0} (g : Plan B) (turn : TurnFunction B) (m : Course B) → m.left ≡ [] → unit_of g turn m ≡ record { state = step_of g turn m.state; left = [] }
+no_arrival : {B : Type 0} (g : Plan B) (turn : TurnFunction B) (m : Course B) → m.left ≡ []
+    → unit_of g turn m ≡ record { state = step_of g turn m.state; left = [] }
 no_arrival g turn m none = rw none refl
 
 none_left : {B : Type 0} (g : Plan B) (turn : TurnFunction B) (n : ℕ) → (after_units g turn n (opening_course g [])).left ≡ []
 none_left g turn zero = refl
 none_left g turn (suc n) = ap (λ m. m.left) (no_arrival g turn (after_units g turn n (opening_course g [])) (none_left g turn n))
 
-step_after : {B : Type 0} (g : Plan B) (turn : TurnFunction B) (n : ℕ) → (after_units g turn (n + 1) (opening_course g [])).state ≡ step_of g turn (after_units g turn n (opening_course g [])).state
+step_after : {B : Type 0} (g : Plan B) (turn : TurnFunction B) (n : ℕ)
+    → (after_units g turn (n + 1) (opening_course g [])).state
+    ≡ step_of g turn (after_units g turn n (opening_course g [])).state
 step_after g turn n = rw add-one (ap (λ m. m.state) (no_arrival g turn (after_units g turn n (opening_course g [])) (none_left g turn n)))
 
 pub no_arrival_left : (scenario : ScenarioOf) (n : ℕ) → scenario.journal ≡ [] → (run_of_scenario scenario n).left ≡ []
 no_arrival_left scenario n journal = rw journal (none_left (plan_of_scenario scenario) (script_turn scenario.code) n)
 
-next_step : (scenario : ScenarioOf) (n : ℕ) → scenario.journal ≡ [] → (run_of_scenario scenario (n + 1)).state ≡ step_of (plan_of_scenario scenario) (script_turn scenario.code) (run_of_scenario scenario n).state
+next_step : (scenario : ScenarioOf) (n : ℕ) → scenario.journal ≡ []
+    → (run_of_scenario scenario (n + 1)).state
+    ≡ step_of (plan_of_scenario scenario) (script_turn scenario.code) (run_of_scenario scenario n).state
 next_step scenario n journal = rw journal (step_after (plan_of_scenario scenario) (script_turn scenario.code) n)
 
 -- ---- a unit of the kernel
 
-plan_is : (scenario : ScenarioOf) (parts : PartsOf Script ScenarioOf) → parts.code ≡ scenario → parts.setup ≡ scenario.setup → parts.seed ≡ scenario.seed → plan_of script_body parts ≡ plan_of_scenario scenario
+plan_is : (scenario : ScenarioOf) (parts : PartsOf Script ScenarioOf) → parts.code ≡ scenario → parts.setup ≡ scenario.setup
+    → parts.seed ≡ scenario.seed → plan_of script_body parts ≡ plan_of_scenario scenario
 plan_is scenario parts code setup seed = rw (code, setup, seed) refl
 
 -- a kernel that was opened with the scenario stands for the opening state
-pub stands_for_opening : (scenario : ScenarioOf) (parts : PartsOf Script ScenarioOf) → parts.code ≡ scenario → parts.setup ≡ scenario.setup → parts.seed ≡ scenario.seed → IsTrue (is_built_scenario scenario) → scenario.journal ≡ [] → scenario.setup.until ≡ until.Never
-    → StandsForOpening script_body parts
-    → IsLawfulOpening script_body parts
+pub stands_for_opening : (scenario : ScenarioOf) (parts : PartsOf Script ScenarioOf) → parts.code ≡ scenario
+    → parts.setup ≡ scenario.setup → parts.seed ≡ scenario.seed → IsTrue (is_built_scenario scenario) → scenario.journal ≡ []
+    → scenario.setup.until ≡ until.Never → StandsForOpening script_body parts → IsLawfulOpening script_body parts
     → StandsForRun scenario 0 parts
 stands_for_opening scenario parts code setup seed built journal until stands lawful =
     let same = plan_is scenario parts code setup seed in
@@ -94,8 +103,9 @@ record UnitStands (scenario : ScenarioOf) (n : ℕ) (answer : Unit) (parts : Par
   pub stands : StandsForRun scenario (n + 1) parts
   pub added : lines_added scenario n ≡ lines_of answer
 
-unit_leads : (scenario : ScenarioOf) (n : ℕ) (old : PartsOf Script ScenarioOf) (answer : Unit) (later : PartsOf Script ScenarioOf) → StandsForRun scenario n old → IsOpenedAs old later
-    → (t : State Script) → t ≡ (run_of_scenario scenario (n + 1)).state → LawfulOf script_body later t → StandsFor later t
+unit_leads : (scenario : ScenarioOf) (n : ℕ) (old : PartsOf Script ScenarioOf) (answer : Unit)
+    (later : PartsOf Script ScenarioOf) → StandsForRun scenario n old → IsOpenedAs old later → (t : State Script)
+    → t ≡ (run_of_scenario scenario (n + 1)).state → LawfulOf script_body later t → StandsFor later t
     → t.lines ≡ lines_after scenario n ++ lines_of answer → UnitStands scenario n answer later
 unit_leads scenario n old answer later before opened t is lawful stands lines =
     record {
@@ -113,9 +123,9 @@ unit_leads scenario n old answer later before opened t is lawful stands lines =
       added = ap (drop (length (lines_after scenario n))) (sym (ap (λ s. s.lines) is) ∙ lines) ∙ drop-append_seam (lines_after scenario n) (lines_of answer);
     }
 
-unit_is_next : (scenario : ScenarioOf) (n : ℕ) (old : PartsOf Script ScenarioOf) (answer : Unit) (later : PartsOf Script ScenarioOf) → StandsForRun scenario n old → IsOpenedAs old later
-    → StepsFrom script_body old (run_of_scenario scenario n).state answer later
-    → UnitStands scenario n answer later
+unit_is_next : (scenario : ScenarioOf) (n : ℕ) (old : PartsOf Script ScenarioOf) (answer : Unit)
+    (later : PartsOf Script ScenarioOf) → StandsForRun scenario n old → IsOpenedAs old later
+    → StepsFrom script_body old (run_of_scenario scenario n).state answer later → UnitStands scenario n answer later
 unit_is_next scenario n old answer later before opened next =
     let same = plan_is scenario old before.code before.setup before.seed in
     let s = (run_of_scenario scenario n).state in
@@ -126,22 +136,22 @@ unit_is_next scenario n old answer later before opened next =
     in
     unit_leads scenario n old answer later before opened next.state is next.lawful next.stands next.lines
 
-unit_stands_too : (scenario : ScenarioOf) (n : ℕ) (old : PartsOf Script ScenarioOf) (answer : Unit) (later : PartsOf Script ScenarioOf) → StandsForRun scenario n old → IsOpenedAs old later
-    → MakesStep script_body old answer later
-    → UnitStands scenario n answer later
+unit_stands_too : (scenario : ScenarioOf) (n : ℕ) (old : PartsOf Script ScenarioOf) (answer : Unit)
+    (later : PartsOf Script ScenarioOf) → StandsForRun scenario n old → IsOpenedAs old later
+    → MakesStep script_body old answer later → UnitStands scenario n answer later
 unit_stands_too scenario n old answer later before opened makes =
     unit_is_next scenario n old answer later before opened (makes.each (run_of_scenario scenario n).state before.lawful before.stands)
 
 -- a unit of the kernel leads to what the next unit of the run comes to
-pub unit_stands : (scenario : ScenarioOf) (n : ℕ) (old : PartsOf Script ScenarioOf) (answer : Unit) (later : PartsOf Script ScenarioOf) → StandsForRun scenario n old → IsOpenedAs old later
-    → MakesStep script_body old answer later
-    → StandsForRun scenario (n + 1) later
+pub unit_stands : (scenario : ScenarioOf) (n : ℕ) (old : PartsOf Script ScenarioOf) (answer : Unit)
+    (later : PartsOf Script ScenarioOf) → StandsForRun scenario n old → IsOpenedAs old later
+    → MakesStep script_body old answer later → StandsForRun scenario (n + 1) later
 unit_stands scenario n old answer later before opened makes = (unit_stands_too scenario n old answer later before opened makes).stands
 
 -- and answers the line that this unit adds
-pub unit_adds_line : (scenario : ScenarioOf) (n : ℕ) (old : PartsOf Script ScenarioOf) (answer : Unit) (later : PartsOf Script ScenarioOf) → StandsForRun scenario n old → IsOpenedAs old later
-    → MakesStep script_body old answer later
-    → lines_added scenario n ≡ lines_of answer
+pub unit_adds_line : (scenario : ScenarioOf) (n : ℕ) (old : PartsOf Script ScenarioOf) (answer : Unit)
+    (later : PartsOf Script ScenarioOf) → StandsForRun scenario n old → IsOpenedAs old later
+    → MakesStep script_body old answer later → lines_added scenario n ≡ lines_of answer
 unit_adds_line scenario n old answer later before opened makes = (unit_stands_too scenario n old answer later before opened makes).added
 
 -- what holds anyway holds where a call went well

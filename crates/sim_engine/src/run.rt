@@ -25,7 +25,8 @@ pub fn run_scenario<K: Sink>(
     out: &mut K,
 ) -> Result<End, EngineFault>
     ensures end { IfOk result (λ end. end ≡ end_of_scenario scenario.now limit) }
-    ensures writes { Writes is_write (K.tells out.old) (K.tells out.new) result (printed_trace scenario.now limit) }
+    ensures writes { Writes is_write (K.tells out.old) (K.tells out.new) result
+        (printed_trace scenario.now limit) }
     ensures flushed { OnOk result (IsFlushedOnce (K.tells out.old) (K.tells out.new)) }
     ensures unflushed { OnErr result (IsUnflushed (K.tells out.old) (K.tells out.new)) }
 {
@@ -70,7 +71,8 @@ fn write_units<K: Sink>(
     requires opened { StandsForRun scenario.now 0 kernel.old.parts }
     requires units { kernel.old.units ≡ 0 }
     ensures stands { OnOk result (StandsForRun scenario.now limit kernel.new.parts) }
-    ensures writes { Writes is_write (K.tells out.old) (K.tells out.new) result (text_after scenario.now limit) }
+    ensures writes { Writes is_write (K.tells out.old) (K.tells out.new) result
+        (text_after scenario.now limit) }
     ensures unflushed { IsUnflushed (K.tells out.old) (K.tells out.new) }
 {
     for _unit in 0..limit {
@@ -93,7 +95,8 @@ fn write_unit<K: Sink>(
     requires can { CanStep kernel.old.parts }
     requires units { kernel.old.units < 2 ^ 32 }
     ensures units { OnOk result (kernel.new.units ≡ kernel.old.units + 1) }
-    ensures stands { OnOk result (StandsForRun scenario.now (kernel.old.units + 1) kernel.new.parts) }
+    ensures stands { OnOk result
+        (StandsForRun scenario.now (kernel.old.units + 1) kernel.new.parts) }
     ensures writes { Writes is_write (K.tells out.old) (K.tells out.new) result
         (added_text scenario.now kernel.old.units) }
     ensures unflushed { IsUnflushed (K.tells out.old) (K.tells out.new) }
@@ -109,7 +112,8 @@ fn write_unit<K: Sink>(
 
 /// Writes a line by way of the buffer. No port has a name yet.
 fn write_line<K: Sink>(line: &Line, buffer: &mut LineBuf, out: &mut K) -> Result<(), Failed>
-    ensures writes { Writes (λ _. true) (K.tells out.old) (K.tells out.new) result (line_text [] line.now) }
+    ensures writes { Writes (λ _. true) (K.tells out.old) (K.tells out.new) result
+        (line_text [] line.now) }
     ensures unflushed { IsUnflushed (K.tells out.old) (K.tells out.new) }
 {
     render(line, &[], buffer);

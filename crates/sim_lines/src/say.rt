@@ -29,7 +29,8 @@ pub fn say<'t>(
 ) -> Result<Saying, AllocError>
     requires { slots.old.items ≡ [] }
     ensures { IfOk result (λ what.
-        saying_of what slots.new.items ≡ saying (setting_of setting.now) line.now (words line.now)) }
+        saying_of what slots.new.items
+        ≡ saying (setting_of setting.now) line.now (words line.now)) }
 {
     let words = Words::new(line);
     if words.is_empty() {

@@ -145,7 +145,8 @@ impl<B> Procs<B> {
 
     /// A scope more is open, inside the others.
     pub fn push_scope(&mut self, id: ProcId, scope: Scope)
-        requires alive { IsSomeAnd (record_of id self.old.live) (λ r. length r.scopes < most_scopes) }
+        requires alive { IsSomeAnd (record_of id self.old.live)
+            (λ r. length r.scopes < most_scopes) }
         ensures { self.new
             ≡ with_record id (λ r. record r { scopes = r.scopes ++ scope ∷ [] }) self.old }
     {

@@ -6,7 +6,9 @@ behind_val : (xs : List ℤ) (n : ℕ) (v : ℤ) → set (pos 0 ∷ xs) (n + 1) 
 behind_val xs n v = rw (add-one n) refl
 
 -- one argument more is written over the first 0 behind the others
-pub written : (args : List ℤ) (n : ℕ) (variables : List ℤ) (v : ℤ) → n < length args → length args ≤ 63 → variables ≡ pos 0 ∷ take n args ++ replicate (63 - n) (pos 0) → v ≡ get_or args n (pos 0) → set variables (n + 1) v ≡ pos 0 ∷ take (n + 1) args ++ replicate (63 - (n + 1)) (pos 0)
+pub written : (args : List ℤ) (n : ℕ) (variables : List ℤ) (v : ℤ) → n < length args → length args ≤ 63
+    → variables ≡ pos 0 ∷ take n args ++ replicate (63 - n) (pos 0) → v ≡ get_or args n (pos 0)
+    → set variables (n + 1) v ≡ pos 0 ∷ take (n + 1) args ++ replicate (63 - (n + 1)) (pos 0)
 written args n variables v lt few is same =
     let left : 63 - n ≡ suc (63 - (n + 1)) = omega arith in
     let long : length (take n args) ≡ n = length-take-le n args (omega arith) in

@@ -2,8 +2,9 @@
 use Rattle.std.proofs.Common.{◌≡◌, ℕ, zero, suc, ◌-◌, ◌<◌, ℤ, pos, List, [], ◌∷◌, ◌++◌, length, get_or, replicate, refl, arith, None}
 use Rattle.sim_types.specs.Scenarios.{ScenarioOf}
 use Rattle.sim_types.specs.declared.script.Kind.{Kind}
-use Rattle.sim_script_model.specs.Scripts.{Running, classes_at, first_place}
+use Rattle.sim_script_model.specs.Scripts.{classes_at, first_place}
 use Rattle.sim_script_law.specs.ScriptMembers.{begun_script}
+use Rattle.sim_script.specs.Kept.{script_of_kind}
 
 read_classes : (kinds : List Kind) (k : ℕ) (d : Kind) → k < length kinds → classes_at kinds k ≡ (get_or kinds k d).classes
 read_classes [] k d lt = absurd (omega arith)
@@ -16,5 +17,6 @@ read_first (m ∷ kinds) zero d lt = refl
 read_first (m ∷ kinds) (suc k) d lt = read_first kinds k d (omega arith)
 
 -- the script of a kind
-pub begun : (x : ScenarioOf) (k : ℕ) (args : List ℤ) (kind : Kind) → k < length x.kinds → kind ≡ get_or x.kinds k kind → record { me = record { 0 = 0 }; kind = k; classes = kind.classes; place = kind.first; variables = pos 0 ∷ args ++ replicate (63 - length args) (pos 0); frames = []; mode = Running; asked = None } ≡ begun_script x k args
+pub begun : (x : ScenarioOf) (k : ℕ) (args : List ℤ) (kind : Kind) → k < length x.kinds → kind ≡ get_or x.kinds k kind
+    → script_of_kind k kind args ≡ begun_script x k args
 begun x k args kind lt is = rw (read_classes x.kinds k kind lt, read_first x.kinds k kind lt, ← is) refl

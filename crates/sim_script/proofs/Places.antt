@@ -44,7 +44,8 @@ is_no_number c (inr (inr (inr (inl e)))) = rw e refl
 is_no_number c (inr (inr (inr (inr e)))) = rw e refl
 
 -- any other place holds the event whose number stands in the variable
-pub other_holds : (cs : List Class) (vs : List ℤ) (at : ℕ) (c : Class) → c ≡ get_or cs at class.Number → OtherThanNumber c → (n : ℕ) → n ≡ nat_abs (get_or vs at (pos 0)) → record { 0 = n } ≡ event_at cs vs at
+pub other_holds : (cs : List Class) (vs : List ℤ) (at : ℕ) (c : Class) → c ≡ get_or cs at class.Number → OtherThanNumber c
+    → (n : ℕ) → n ≡ nat_abs (get_or vs at (pos 0)) → record { 0 = n } ≡ event_at cs vs at
 other_holds cs vs at c is other n number =
     let none : is_class c class.Number ≡ false = is_no_number c other in
     rw (event_held cs vs at, ← is, none, number) refl

@@ -1,6 +1,7 @@
 -- What a script keeps, as it is seen.
-use Rattle.std.specs.Prelude.{ℕ, ℤ, Option, Some, None, Result, Ok, Err}
+use Rattle.std.specs.Prelude.{ℕ, ◌-◌, ℤ, pos, List, [], ◌∷◌, ◌++◌, length, replicate, Option, Some, None, Result, Ok, Err}
 use Rattle.sim_types.specs.declared.op.Op.{Op}
+use Rattle.sim_types.specs.declared.script.Kind.{Kind}
 use Rattle.sim_memo.specs.declared.Memo.{Memo}
 use Rattle.sim_script_model.specs.Scripts as scripts
 use Rattle.sim_script_model.specs.Arithmetic as arithmetic
@@ -29,3 +30,18 @@ answer_of (Err number) = arithmetic.Error number
 abbrev pub asked_of : Option (Memo Op) → Option Op
 asked_of None = None
 asked_of (Some asked) = Some asked.value
+
+-- a script of a kind as it begins, before it is told its number: its arguments stand behind `val`, and 0 in all other
+-- variables
+abbrev pub script_of_kind : ℕ → Kind → List ℤ → scripts.Script
+script_of_kind kind declared args =
+    record {
+      me = record { 0 = 0 };
+      kind = kind;
+      classes = declared.classes;
+      place = declared.first;
+      variables = pos 0 ∷ args ++ replicate (63 - length args) (pos 0);
+      frames = [];
+      mode = scripts.Running;
+      asked = None;
+    }

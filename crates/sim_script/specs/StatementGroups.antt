@@ -1,5 +1,5 @@
 -- The statements by what they change, as the code groups them.
-use Rattle.std.specs.Prelude.{Bool, true, false}
+use Rattle.std.specs.Prelude.{Bool, true, false, ◌||◌}
 use Rattle.sim_types.specs.declared.script.Stmt.{Stmt}
 use Rattle.sim_types.specs.declared.script.Stmt.TheVariants as stmt
 
@@ -56,3 +56,7 @@ is_of_resources (stmt.Put to res a p) = true
 is_of_resources (stmt.Get to res lo hi) = true
 is_of_resources (stmt.Cancel on) = true
 is_of_resources other = false
+
+-- those that ask for an operation and change nothing themselves
+abbrev pub is_of_operations : Stmt → Bool
+is_of_operations s = is_of_processes s || is_of_resources s || is_of_events s

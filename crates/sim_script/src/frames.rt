@@ -50,7 +50,8 @@ impl Frames {
 
     /// The innermost block.
     pub(crate) fn innermost(&self) -> Option<Frame>
-        ensures { MatchOption result (self.now ≡ []) (λ frame. self.now ≡ frame_of frame ∷ tail_of self.now) }
+        ensures { MatchOption result (self.now ≡ [])
+            (λ frame. self.now ≡ frame_of frame ∷ tail_of self.now) }
     {
         if self.len == 0 {
             None

@@ -1,10 +1,11 @@
 //! The state of a script.
-ghost use Rattle.std.specs.Prelude.{◌≡◌, ◌+◌, ◌-◌, ◌^◌, ◌<◌, ◌≤◌, pos, None, [], ◌∷◌, ◌++◌, length, replicate, slice_index_or, IsTrue, MatchOption};
-ghost use Rattle.sim_script_model.specs.Scripts.{Running, Throwing, set_variable, set_place, set_mode, tail_of, push_frame, pop_frame, stmt_at, value_of_num, value_of_arg, event_in, event_of_ref, process_of_ref};
+ghost use Rattle.std.specs.Prelude.{◌≡◌, ◌+◌, ◌-◌, ◌^◌, ◌<◌, ◌≤◌, pos, [], ◌∷◌, ◌++◌, length, replicate, slice_index_or, IsTrue, MatchOption};
+ghost use Rattle.sim_types.specs.Throws.{error};
+ghost use Rattle.sim_script_model.specs.Scripts.{Throwing, set_variable, set_place, set_mode, tail_of, push_frame, pop_frame, stmt_at, value_of_num, value_of_arg, event_in, event_of_ref, process_of_ref};
 ghost use Rattle.sim_script_model.specs.Polls.{store, given_by, last_stmt, open_with, catch_by, leave_try, leave_loop, end_by_mode, do_stmt, take_in, unwind, ask_in_mode, script_turn};
 ghost use Rattle.sim_script_law.specs.Ready.{is_variable, has_variable, refers_within, argument_within, event_is_small, variables_within, has_room, scope_finds_room, can_take, can_do, can_leave, can_ask};
 ghost use Rattle.sim_script_law.specs.ScriptMembers.{script_holds};
-ghost use Rattle.sim_script.specs.Kept.{frame_of, mode_of};
+ghost use Rattle.sim_script.specs.Kept.{frame_of, mode_of, script_of_kind};
 
 use crate::frames::{Frame, Frames};
 use crate::mode::Mode;
@@ -38,7 +39,16 @@ impl Model for Script {
 
     ghost Value = { Script };
 
-    ghost view = { λ a. record { me = a.me; kind = a.kind; classes = a.classes; place = a.place; variables = a.variables; frames = a.frames; mode = mode_of a.mode; asked = asked_of a.asked } };
+    ghost view = { λ a. record {
+      me = a.me;
+      kind = a.kind;
+      classes = a.classes;
+      place = a.place;
+      variables = a.variables;
+      frames = a.frames;
+      mode = mode_of a.mode;
+      asked = asked_of a.asked;
+    } };
 
     ghost invariant = { λ a. a.me.0 < 2 ^ 63 };
 }
@@ -61,7 +71,7 @@ impl Script {
     /// Stands at the begin of a process of a kind, which has not been told its number.
     pub(crate) fn begin(&mut self, kind: u32, declared: &Kind, args: &[i64])
         requires { length args.now ≤ 63 }
-        ensures { self.new ≡ record { me = record { 0 = 0 }; kind = kind; classes = declared.now.classes; place = declared.now.first; variables = pos 0 ∷ args.now ++ replicate (63 - length args.now) (pos 0); frames = []; mode = Running; asked = None } }
+        ensures { self.new ≡ script_of_kind kind declared.now args.now }
     {
         self.me = ProcId(0);
         self.kind = kind;
@@ -150,7 +160,8 @@ impl Script {
 
     /// The innermost block that it stands in.
     pub(crate) fn innermost(&self) -> Option<Frame>
-        ensures { MatchOption result (self.now.frames ≡ []) (λ frame. self.now.frames ≡ frame_of frame ∷ tail_of self.now.frames) }
+        ensures { MatchOption result (self.now.frames ≡ [])
+            (λ frame. self.now.frames ≡ frame_of frame ∷ tail_of self.now.frames) }
     {
         self.frames.innermost()
     }
@@ -179,7 +190,8 @@ impl Script {
 
     /// Throws an error of its own.
     pub(crate) fn throw_error(&mut self, number: u8)
-        ensures { self.new ≡ set_mode (Throwing (record { kind = 4; value = pos number })) self.old }
+        ensures { self.new
+            ≡ set_mode (Throwing (record { kind = error; value = pos number })) self.old }
     {
         self.mode = Mode::Throwing(Throw {
             kind: ERROR,
@@ -269,7 +281,8 @@ impl Script {
     // Does the statement at its place.
     fn go_on(&mut self, code: &[Stmt], time: i64) -> Op
         requires { IsTrue (can_do code.now self.old) }
-        ensures { (result, self.new) ≡ do_stmt time (set_place (self.old.place + 1) self.old) (stmt_at code.now self.old.place) }
+        ensures { (result, self.new) ≡ do_stmt time
+            (set_place (self.old.place + 1) self.old) (stmt_at code.now self.old.place) }
     {
         let statement = &code[self.place];
         self.place += 1;

@@ -1,12 +1,12 @@
 //! How a script does a statement.
-ghost use Rattle.std.specs.Prelude.{◌≡◌, ◌||◌, IsTrue, map};
+ghost use Rattle.std.specs.Prelude.{◌≡◌, IsTrue, map};
 ghost use Rattle.std.specs.List.{list_all};
 ghost use Rattle.sim_types.specs.declared.op.Op.TheVariants as op;
 ghost use Rattle.sim_script_model.specs.Scripts.{event_of_ref, value_of_arg};
 ghost use Rattle.sim_script_model.specs.Polls.{answer_to, do_stmt, end_repeat};
 ghost use Rattle.sim_script_law.specs.Ready.{is_variable, refers_within, argument_within, event_is_small, events_are_small, enters_room, variables_within};
 ghost use Rattle.sim_script.specs.Kept.{answer_of};
-ghost use Rattle.sim_script.specs.StatementGroups.{is_of_changes, is_of_blocks, is_of_events, is_of_processes, is_of_resources};
+ghost use Rattle.sim_script.specs.StatementGroups.{is_of_changes, is_of_blocks, is_of_events, is_of_processes, is_of_resources, is_of_operations};
 
 use crate::arithmetic::compute;
 use crate::frames::Frame;
@@ -52,7 +52,7 @@ impl Script {
 
     // The statements that ask for an operation and change nothing themselves.
     fn operation(&self, statement: &Stmt, time: i64) -> Op
-        requires group { IsTrue (is_of_processes statement.now || is_of_resources statement.now || is_of_events statement.now) }
+        requires group { IsTrue (is_of_operations statement.now) }
         requires variables { IsTrue (variables_within statement.now) }
         requires small { IsTrue (events_are_small self.now statement.now) }
         ensures { (result, self.now) ≡ do_stmt time self.now statement.now }

@@ -100,8 +100,6 @@ fn arguments_have_roles(rt: HostRuntime) -> Result<(), Fail> {
     let text = b"start car -5 free x\nprocess car n done:event\nend";
     let whole = WholeText::of(rt.alloc(), text)?;
     let mut line = TextLine::new(rt.alloc());
-    assert!(rt;
-        Lines::of_text(text, &whole).next(&mut line)? && are_arguments(line.operands())
-    );
+    assert!(rt; Lines::of_text(text, &whole).next(&mut line)? && are_arguments(line.operands()));
     Ok(())
 }

@@ -6,7 +6,8 @@ use Rattle.sim_script_model.specs.Scripts.{Script}
 use Rattle.sim_script_model.specs.Polls.{remember, ask_in_mode}
 use Rattle.sim_script.proofs.script.Script.turn.Goals as goal
 
-remembered : (r : Op × Script) (asked : Op) (s t : Script) → ◌≡◌ {A = Op × Script} (asked, s) r → t ≡ record s { asked = Some asked } → ◌≡◌ {A = Op × Script} (asked, t) (remember r)
+remembered : (r : Op × Script) (asked : Op) (s t : Script) → ◌≡◌ {A = Op × Script} (asked, s) r
+    → t ≡ record s { asked = Some asked } → ◌≡◌ {A = Op × Script} (asked, t) (remember r)
 remembered r asked s t e h = rw (← e, h) refl
 
 pub returns : goal.returns
