@@ -17,7 +17,7 @@ use Rattle.sim_types.specs.declared.line.End.TheVariants as end
 use Rattle.sim_command.specs.declared.status.Status.{Status}
 use Rattle.sim_language.specs.Built.{is_built}
 use Rattle.sim_language.specs.Lines.{lines}
-use Rattle.sim_language.specs.AnywhereInText.{heads_of}
+use Rattle.sim_language.specs.AnywhereInText.{whole_text}
 use Rattle.sim_language.specs.Reads.{is_too_long, reads_text}
 use Rattle.sim_outside.specs.Reads.{TakesFirst}
 use Rattle.sim_outside.specs.Writes.{AppendsPrefix, SinkOf}
@@ -37,7 +37,7 @@ too_long = record { line = 0; kind = fault.TooLong }
 long_refused : (text : List ℕ) → most_bytes < length text → read_of text ≡ Err too_long
 long_refused text long = by (is_too_long text) (grind (arith, nat_tests))
   where
-    by : (b : Bool) → b ≡ true → (if b then Err too_long else reads_text is_built (heads_of (lines text)) (lines text)) ≡ Err too_long
+    by : (b : Bool) → b ≡ true → (if b then Err too_long else reads_text is_built (whole_text is_built (lines text)) (lines text)) ≡ Err too_long
     by true e = refl
     by false e = absurd (false≢true e)
 
