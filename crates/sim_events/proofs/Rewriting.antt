@@ -1,0 +1,121 @@
+-- The slot of an event is written, and what it has: the table stays sound, and shows that event changed.
+use Rattle.std.proofs.Common.{◌≡◌, ℕ, suc, Bool, true, false, cond, List, set, Option, Some, None, is_some, IsSome, IsTrue, refl, sym, ap, ◌∙◌, arith}
+use Rattle.std.specs.Option.{option_map}
+use Rattle.std.proofs.lemmas.Bool.{false≢true}
+use Rattle.std.proofs.lemmas.Option.{same_Some}
+use Rattle.slab.specs.Slab.{Slab, get, Updates, with_value, HasRoomFor}
+use Rattle.slab.proofs.SlabLemmas.{Updates-with_value}
+use Rattle.sim_index.specs.IndexOf.{place_of_number}
+use Rattle.sim_types.specs.declared.event.EventId.{EventId}
+use Rattle.sim_machine.specs.State.{ConditionOf}
+use Rattle.sim_events.specs.declared.chain.Node.{Node}
+use Rattle.sim_events.specs.declared.chain.Chain.{Chain}
+use Rattle.sim_events.specs.declared.slot.Slot.{Slot}
+use Rattle.sim_events.specs.declared.store.Store.{Store}
+use Rattle.sim_events.specs.Chains.{IsChain, Relinked}
+use Rattle.sim_events.specs.Slots.{kept_in, condition_in}
+use Rattle.sim_events.specs.Stores.{events_in, HasPart, IsStored, ArePlaced, IsSoundTable}
+use Rattle.sim_events.specs.TableOf.{Kept, IsKept, is_needed, kept_at}
+use Rattle.sim_events.specs.Changes.{change_kept, with_processed}
+use Rattle.sim_events.proofs.Slabs.{with_value_len, there_from}
+use Rattle.sim_events.proofs.Nodes.{KeepsNodes, nodes_same, nodes_relinked, nodes_begun}
+use Rattle.sim_events.proofs.Parts.{KeepsParts, parts_same, parts_updated, free_own}
+use Rattle.sim_events.proofs.Storing.{stored_with, others_with}
+use Rattle.sim_events.proofs.Placing.{kept_found, kept_is_placed, placed_changed, events_changed}
+use Rattle.sim_events.proofs.KeptLists.{needed_changed}
+
+-- the store is in order, and of all events only this one changed
+pub record Rewrites (places : List (Option ℕ)) (old new : Store) (calls : Chain) (e : EventId) (change : Kept → Kept) : Type 0 where
+  pub placed : ArePlaced places new.slots
+  pub stored : IsStored new calls
+  pub events : events_in places new ≡ change_kept e change (events_in places old)
+
+pub is_kept : (places : List (Option ℕ)) (s : Store) (left : Chain) → IsSoundTable places s left → (e : EventId) (key : ℕ)
+    → place_of_number e.0 places ≡ Some key → IsKept (events_in places s) e
+is_kept places s left t e key at = kept_is_placed places s t.placed e.0 ∙ ap is_some at
+
+pub sound_rewritten : (places : List (Option ℕ)) (old new : Store) (left calls : Chain) → IsSoundTable places old left → (e : EventId) (key : ℕ)
+    → place_of_number e.0 places ≡ Some key → (change : Kept → Kept) → Rewrites places old new calls e change
+    → IsTrue (is_needed (change (kept_at (events_in places old) e))) → IsSoundTable places new calls
+sound_rewritten places old new left calls t e key at change r needed = record {
+  placed = r.placed;
+  stored = r.stored;
+  needed = rw r.events (needed_changed (events_in places old) e change t.needed (is_kept places old left t e key at) needed);
+}
+
+module _ (places : List (Option ℕ)) (old new : Store) (left calls : Chain) (t : IsSoundTable places old left) (e : EventId) (key : ℕ) (x y : Slot) (change : Kept → Kept) where
+  pub rewrites : place_of_number e.0 places ≡ Some key → get old.slots key ≡ Some x → Updates old.slots new.slots key (Some y) → HasRoomFor new.slots 0
+      → KeepsNodes old.nodes new.nodes t.stored.owner t.stored.rank key (Some y) calls → KeepsParts old.parts new.parts t.stored.part_owner key (Some y)
+      → kept_in new.nodes new.parts y ≡ change (kept_in old.nodes old.parts x) → Rewrites places old new calls e change
+  rewrites at found updates fit n p is =
+      let others = others_with old new left calls t.stored key (Some y) updates n p in
+      let now : kept_in new.nodes new.parts y ≡ change (kept_at (events_in places old) e) = is ∙ ap change (sym (kept_found places old e key x at found)) in
+      record {
+        placed = placed_changed places old new t.placed key y updates;
+        stored = stored_with old new left calls t.stored key (Some y) updates n p fit;
+        events = events_changed places old new t.placed e.0 key at others
+            ∙ ap (set (events_in places old) e.0) (ap (option_map (kept_in new.nodes new.parts)) updates.changed ∙ ap (λ (k : Kept). let o : Option Kept = Some k in o) now);
+      }
+
+module _ (places : List (Option ℕ)) (s : Store) (left : Chain) (t : IsSoundTable places s left) (e : EventId) (key : ℕ) (x : Slot) (at : place_of_number e.0 places ≡ Some key) (found : get s.slots key ≡ Some x) where
+  still_fit : (y : Slot) → HasRoomFor (with_value s.slots key y) 0
+  still_fit y = omega (arith, t.stored.slots_fit, with_value_len s.slots key y (there_from s.slots key x found))
+
+  own_part : (y : Slot) → y.is_condition ≡ x.is_condition → y.part ≡ x.part → HasPart s.parts t.stored.part_owner key y
+  own_part y condition part holds = rw part (t.stored.parts key x found (sym condition ∙ holds))
+
+  own_parts : (y : Slot) → y.is_condition ≡ x.is_condition → y.part ≡ x.part → KeepsParts s.parts s.parts t.stored.part_owner key (Some y)
+  own_parts y condition part = parts_same s.parts t.stored.part_owner key (Some y) (λ z is. rw (sym (same_Some y z is)) (own_part y condition part)) t.stored.parts_fit
+
+  -- the slot alone
+  pub rewrites_slot : (y : Slot) (change : Kept → Kept) → y.callbacks ≡ x.callbacks → y.is_condition ≡ x.is_condition → y.part ≡ x.part
+      → kept_in s.nodes s.parts y ≡ change (kept_in s.nodes s.parts x) → Rewrites places s (record s { slots = with_value s.slots key y }) left e change
+  rewrites_slot y change chain condition part is =
+      let linked = nodes_same s.nodes t.stored.owner t.stored.rank key (Some y) left (λ z is. rw (sym (same_Some y z is), chain) (t.stored.chains key x found)) t.stored.left t.stored.nodes_fit in
+      rewrites places s (record s { slots = with_value s.slots key y }) left left t e key x y change at found (Updates-with_value s.slots key y (there_from s.slots key x found)) (still_fit y) linked (own_parts y condition part) is
+
+  -- its chain
+  pub own_chain : IsChain s.nodes x.callbacks
+  own_chain = record { owner = t.stored.owner; rank = t.stored.rank; whose = suc key; linked = t.stored.chains key x found }
+
+  pub rewrites_chain : (nodes : Slab Node) (chain : Chain) (change : Kept → Kept)
+      → (r : Relinked s.nodes nodes t.stored.owner t.stored.rank (suc key) chain) → HasRoomFor nodes 0
+      → kept_in nodes s.parts (record x { callbacks = chain }) ≡ change (kept_in s.nodes s.parts x)
+      → Rewrites places s (record s { slots = with_value s.slots key (record x { callbacks = chain }); nodes = nodes }) left e change
+  rewrites_chain nodes chain change r fit is =
+      let y : Slot = record x { callbacks = chain } in
+      let new : Store = record s { slots = with_value s.slots key y; nodes = nodes } in
+      let linked = nodes_relinked s.nodes nodes t.stored.owner t.stored.rank key (Some y) left chain r (λ z is. ap (λ (a : Slot). a.callbacks) (sym (same_Some y z is))) t.stored.left fit in
+      rewrites places s new left left t e key x y change at found (Updates-with_value s.slots key y (there_from s.slots key x found)) (still_fit y) linked (own_parts y refl refl) is
+
+  -- its part
+  pub part_there : x.is_condition ≡ true → IsSome (get s.parts x.part)
+  part_there holds = (t.stored.parts key x found holds).there
+
+  pub rewrites_part : (now : ConditionOf) (change : Kept → Kept) → x.is_condition ≡ true
+      → kept_in s.nodes (with_value s.parts x.part now) x ≡ change (kept_in s.nodes s.parts x)
+      → Rewrites places s (record s { parts = with_value s.parts x.part now }) left e change
+  rewrites_part now change holds is =
+      let new : Store = record s { parts = with_value s.parts x.part now } in
+      let updates : Updates s.slots s.slots key (Some x) = record { changed = found; others = λ k apart. refl } in
+      let linked = nodes_same s.nodes t.stored.owner t.stored.rank key (Some x) left (λ z is. rw (sym (same_Some x z is)) (t.stored.chains key x found)) t.stored.left t.stored.nodes_fit in
+      let fit : HasRoomFor (with_value s.parts x.part now) 0 = omega (arith, t.stored.parts_fit, with_value_len s.parts x.part now (part_there holds)) in
+      let parts = parts_updated s.parts (with_value s.parts x.part now) t.stored.part_owner key x.part (Some now) (Updates-with_value s.parts x.part now (part_there holds)) (Some x) (free_own s.parts t.stored.part_owner key x.part (t.stored.parts key x found holds).mine) (λ z is also. (ap (λ (a : Slot). a.part) (sym (same_Some x z is)), refl)) fit in
+      rewrites places s new left left t e key x x change at found updates t.stored.slots_fit linked parts is
+
+  -- ---- the event begins: its chain is handed over to what is left to call
+
+  pub rewrites_begun : (y : Slot) → y.callbacks.count ≡ 0 → y.is_condition ≡ x.is_condition → y.part ≡ x.part
+      → kept_in s.nodes s.parts y ≡ with_processed (kept_in s.nodes s.parts x)
+      → Rewrites places s (record s { slots = with_value s.slots key y }) x.callbacks e with_processed
+  rewrites_begun y none condition part is =
+      let begun = nodes_begun s.nodes t.stored.owner t.stored.rank key x y (t.stored.chains key x found) none t.stored.nodes_fit in
+      rewrites places s (record s { slots = with_value s.slots key y }) left x.callbacks t e key x y with_processed at found (Updates-with_value s.slots key y (there_from s.slots key x found)) (still_fit y) begun (own_parts y condition part) is
+
+  -- an event that is seen as a condition has a part
+  pub is_condition : IsSome (kept_at (events_in places s) e).event.condition → x.is_condition ≡ true
+  is_condition some = go x.is_condition (rw (kept_found places s e key x at found) at some)
+    where
+      go : (b : Bool) → IsSome (cond b (get s.parts x.part) None) → b ≡ true
+      go true h = refl
+      go false h = absurd (false≢true h)

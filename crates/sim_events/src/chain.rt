@@ -1,0 +1,180 @@
+//! Lists of callbacks that share one slab, so that one more takes no memory beyond what was reserved for all.
+ghost use Rattle.std.specs.Prelude.{◌≡◌, ◌≢◌, suc, ◌+◌, ◌-◌, ◌<◌, [], ◌∷◌, ◌++◌, MatchOption, if◌then◌else◌, false};
+ghost use Rattle.std.specs.List.{list_any};
+ghost use Rattle.slab.specs.Slab.{slab_len, HasRoomFor};
+ghost use Rattle.sim_machine.specs.Events.{without_first};
+ghost use Rattle.sim_machine.specs.Standing.{one_if};
+ghost use Rattle.sim_events.specs.Callbacks.{is_same_callback};
+ghost use Rattle.sim_events.specs.Chains.{callbacks_in, IsChain, KeepsOthers, LosesFirst, IsFoundAt, IsFirstWith, without_at};
+
+use crate::callback::is_same;
+use sim_types::Callback;
+use slab::Slab;
+
+/// A callback, and the key of the next node of its chain, if it is not the last.
+#[derive(Drop)]
+pub(crate) struct Node {
+    pub(crate) callback: Callback,
+    pub(crate) next: usize,
+}
+
+/// A list of callbacks: the keys of its first and of its last node, which count only where it has any.
+#[derive(Clone, Copy)]
+pub(crate) struct Chain {
+    pub(crate) first: usize,
+    pub(crate) last: usize,
+    pub(crate) count: usize,
+}
+
+/// Where a node stands: its place in the chain, its key, and the key of the node before it, which counts only where
+/// there is one.
+#[derive(Clone, Copy)]
+pub(crate) struct Found {
+    pub(crate) place: usize,
+    pub(crate) at: usize,
+    pub(crate) before: usize,
+}
+
+/// No callbacks.
+pub(crate) const EMPTY: Chain = Chain {
+    first: 0,
+    last: 0,
+    count: 0,
+};
+
+impl Chain {
+    /// Appends a callback.
+    pub(crate) fn append(&mut self, nodes: &mut Slab<Node>, callback: Callback)
+        requires room { HasRoomFor nodes.old 1 }
+        requires chain { IsChain nodes.old self.old }
+        ensures callbacks { callbacks_in nodes.new self.new
+            ≡ callbacks_in nodes.old self.old ++ callback ∷ [] }
+        ensures others { KeepsOthers nodes.old self.old nodes.new self.new }
+        ensures len { slab_len nodes.new ≡ slab_len nodes.old + 1 }
+        ensures capacity { nodes.new.capacity ≡ nodes.old.capacity }
+    {
+        let _room = nodes.capacity();
+        let key = nodes.insert_reserved(Node { callback, next: 0 });
+        if self.count == 0 {
+            *self = Chain {
+                first: key,
+                last: key,
+                count: 1,
+            };
+            return;
+        }
+        nodes[self.last].next = key;
+        self.last = key;
+        self.count += 1;
+    }
+
+    /// Takes out the first callback, if there is one.
+    pub(crate) fn take_first(&mut self, nodes: &mut Slab<Node>) -> Option<Callback>
+        requires chain { IsChain nodes.old self.old }
+        ensures callbacks { LosesFirst result nodes.old self.old nodes.new self.new }
+        ensures others { KeepsOthers nodes.old self.old nodes.new self.new }
+        ensures count { self.new.count ≡ self.old.count - 1 }
+        ensures len { MatchOption result
+            (slab_len nodes.new ≡ slab_len nodes.old)
+            (λ c. slab_len nodes.new + 1 ≡ slab_len nodes.old) }
+        ensures balance { slab_len nodes.new + self.old.count
+            ≡ slab_len nodes.old + self.new.count }
+        ensures capacity { nodes.new.capacity ≡ nodes.old.capacity }
+    {
+        if self.count == 0 {
+            return None;
+        }
+        let node = nodes.remove(self.first);
+        self.first = node.next;
+        self.count -= 1;
+        Some(node.callback)
+    }
+
+    // The first node with this callback.
+    #[tactic(auto, using(crate::proofs::Finding::looked_none, crate::proofs::Finding::looked_more, crate::proofs::Finding::looked_found, crate::proofs::Finding::looked_all))]
+    fn find(&self, nodes: &Slab<Node>, wanted: Callback) -> Option<Found>
+        requires { IsChain nodes.now self.now }
+        ensures { MatchOption result
+            (list_any (is_same_callback wanted) (callbacks_in nodes.now self.now) ≡ false)
+            (IsFirstWith nodes.now self.now wanted) }
+    {
+        let mut at = self.first;
+        let mut before = 0;
+        for place in 0..self.count {
+            let node = &nodes[at];
+            if is_same(wanted, node.callback) {
+                return Some(Found { place, at, before });
+            }
+            before = at;
+            at = node.next;
+        }
+        None
+    }
+
+    // The key of the last node once a node that is not the first is taken out.
+    fn last_without(&self, found: &Found) -> usize
+        requires { found.now.place < self.now.count }
+        ensures last { found.now.place + 1 ≡ self.now.count → result ≡ found.now.before }
+        ensures earlier { found.now.place + 1 ≢ self.now.count → result ≡ self.now.last }
+    {
+        if found.place + 1 == self.count {
+            found.before
+        } else {
+            self.last
+        }
+    }
+
+    // Takes out a node.
+    fn unlink(&mut self, nodes: &mut Slab<Node>, found: Found)
+        requires chain { IsChain nodes.old self.old }
+        requires found { IsFoundAt nodes.old self.old found }
+        ensures callbacks { callbacks_in nodes.new self.new
+            ≡ without_at found.place (callbacks_in nodes.old self.old) }
+        ensures others { KeepsOthers nodes.old self.old nodes.new self.new }
+        ensures len { slab_len nodes.new + 1 ≡ slab_len nodes.old }
+        ensures capacity { nodes.new.capacity ≡ nodes.old.capacity }
+    {
+        let node = nodes.remove(found.at);
+        if found.place == 0 {
+            self.first = node.next;
+            self.count -= 1;
+            return;
+        }
+        nodes[found.before].next = node.next;
+        self.last = self.last_without(&found);
+        self.count -= 1;
+    }
+
+    /// Takes out the first callback that is the same as this one. False where there is none.
+    pub(crate) fn take_out(&mut self, nodes: &mut Slab<Node>, wanted: Callback) -> bool
+        requires chain { IsChain nodes.old self.old }
+        ensures found { result
+            ≡ list_any (is_same_callback wanted) (callbacks_in nodes.old self.old) }
+        ensures callbacks { callbacks_in nodes.new self.new
+            ≡ without_first (is_same_callback wanted) (callbacks_in nodes.old self.old) }
+        ensures others { KeepsOthers nodes.old self.old nodes.new self.new }
+        ensures len { slab_len nodes.new + one_if result ≡ slab_len nodes.old }
+        ensures capacity { nodes.new.capacity ≡ nodes.old.capacity }
+    {
+        match self.find(nodes, wanted) {
+            Some(found) => {
+                self.unlink(nodes, found);
+                true
+            }
+            None => false,
+        }
+    }
+
+    /// Gives back all nodes.
+    #[tactic(auto, using(crate::proofs::Freeing::freed_none, crate::proofs::Freeing::freed_more))]
+    pub(crate) fn free(&mut self, nodes: &mut Slab<Node>)
+        requires chain { IsChain nodes.old self.old }
+        ensures others { KeepsOthers nodes.old self.old nodes.new self.new }
+        ensures len { slab_len nodes.new + self.old.count ≡ slab_len nodes.old }
+        ensures capacity { nodes.new.capacity ≡ nodes.old.capacity }
+    {
+        while self.count > 0 {
+            let _callback = self.take_first(nodes);
+        }
+    }
+}

@@ -1,0 +1,105 @@
+ghost use Rattle.std.specs.Prelude.{◌≡◌, is_none};
+ghost use Rattle.sim_events.specs.Slots.{new_slot, outcome_in, slot_with_outcome, is_slot_needed};
+
+use crate::chain::{Chain, EMPTY};
+use sim_types::{EventKind, Outcome, Throw};
+
+/// Whether an event has an outcome, and which.
+#[derive(Clone, Copy)]
+pub(crate) enum Stage {
+    Pending,
+    Succeeded,
+    Failed,
+}
+
+/// An event that is kept, with its callbacks and how many hold it.
+///
+/// The outcome stands in three fields, so that it is read and written in place: a copy of an enum with payloads waits
+/// for its bytes. What is looked at most comes first.
+#[derive(Drop)]
+pub(crate) struct Slot {
+    /// The value of the outcome, which counts only where there is one.
+    pub(crate) value: i64,
+    pub(crate) holders: u64,
+    pub(crate) callbacks: Chain,
+    /// The key of what it has as a condition, which counts only where it is one.
+    pub(crate) part: usize,
+    pub(crate) kind: EventKind,
+    pub(crate) stage: Stage,
+    /// The kind of what was thrown, which counts only where the event failed.
+    pub(crate) throw: u8,
+    pub(crate) defused: bool,
+    pub(crate) processed: bool,
+    pub(crate) cancelled: bool,
+    pub(crate) is_condition: bool,
+}
+
+impl Slot {
+    /// The slot of a pending event that nobody holds.
+    pub(crate) fn new(kind: EventKind) -> Slot
+        ensures { result ≡ new_slot kind }
+    {
+        Slot {
+            value: 0,
+            holders: 0,
+            callbacks: EMPTY,
+            part: 0,
+            kind,
+            stage: Stage::Pending,
+            throw: 0,
+            defused: false,
+            processed: false,
+            cancelled: false,
+            is_condition: false,
+        }
+    }
+
+    /// Whether the event has no outcome.
+    pub(crate) fn is_pending(&self) -> bool
+        ensures { result ≡ is_none (outcome_in self.now) }
+    {
+        match self.stage {
+            Stage::Pending => true,
+            Stage::Succeeded => false,
+            Stage::Failed => false,
+        }
+    }
+
+    /// The outcome of the event, if it has one.
+    pub(crate) fn outcome(&self) -> Option<Outcome>
+        ensures { result ≡ outcome_in self.now }
+    {
+        match self.stage {
+            Stage::Pending => None,
+            Stage::Succeeded => Some(Outcome::Ok(self.value)),
+            Stage::Failed => Some(Outcome::Fail(Throw {
+                kind: self.throw,
+                value: self.value,
+            })),
+        }
+    }
+
+    /// The event gets an outcome.
+    pub(crate) fn set_outcome(&mut self, outcome: Outcome)
+        ensures { self.new ≡ slot_with_outcome outcome self.old }
+    {
+        match outcome {
+            Outcome::Ok(value) => {
+                self.stage = Stage::Succeeded;
+                self.value = value;
+            }
+            Outcome::Fail(thrown) => {
+                self.stage = Stage::Failed;
+                self.value = thrown.value;
+                self.throw = thrown.kind;
+            }
+        }
+    }
+
+    /// Whether the event is to be kept: it is neither processed nor cancelled, or has a holder.
+    pub(crate) fn is_needed(&self) -> bool
+        ensures { result ≡ is_slot_needed self.now }
+    {
+        !(self.processed || self.cancelled) || 0 < self.holders
+    }
+}

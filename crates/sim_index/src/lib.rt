@@ -1,0 +1,7 @@
+//! Numbers that rise, and the place of each that has one.
+#![tactic(auto)]
+
+mod entries;
+mod index;
+
+pub use index::Index;
