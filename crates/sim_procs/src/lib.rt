@@ -8,6 +8,3 @@ mod record;
 pub use body::Body;
 pub use procs::Procs;
 pub use record::ProcRecord;
-
-#[cfg(test)]
-mod tests;
