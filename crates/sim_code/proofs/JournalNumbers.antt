@@ -1,5 +1,5 @@
 -- The numbers of a journal entry are as small as its shape says.
-use Rattle.std.proofs.Common.{◌≡◌, refl, sym, ap, ◌∙◌, ℕ, ◌^◌, ◌<◌, ◌≤◌, Bool, true, false, List, [], ◌∷◌, length, get_or, ℤ, pos, negsuc, nat_abs, Option, Some, None, lit<, is_none, unwrap_or, nat_le, if◌then◌else◌, arith}
+use Rattle.std.proofs.Common.{◌≡◌, refl, sym, ap, ◌∙◌, ℕ, ◌^◌, ◌<◌, ◌≤◌, Bool, true, false, List, [], ◌∷◌, length, get_or, ℤ, pos, negsuc, nat_abs, Option, Some, None, lit<, is_none, unwrap_or, nat_le, arith}
 use Rattle.std.proofs.lemmas.Bool.{false≢true}
 use Rattle.std.proofs.lemmas.Bool.Decides.{nat_tests}
 use Rattle.std.proofs.lemmas.Option.{same_Some}
@@ -15,7 +15,7 @@ use Rattle.sim_language.specs.Shapes.{Operand, Context, shape, fit, slot_of, any
 use Rattle.sim_language.specs.AnywhereInText.{ProcessLines}
 use Rattle.sim_language.specs.Sayings.{is_bad_number}
 use Rattle.sim_language.specs.Said.{Fits}
-use Rattle.sim_language.specs.Reads.{natural_of, add, with_arrival}
+use Rattle.sim_language.specs.Reads.{natural_of, with_arrival}
 use Rattle.sim_language.specs.Statements.{literal_of, number_declared}
 use Rattle.sim_language.specs.Places.{LineInText}
 use Rattle.sim_types.specs.Scenarios.{ScenarioOf}

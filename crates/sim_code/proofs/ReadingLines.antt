@@ -1,7 +1,8 @@
 -- A text is read line by line.
-use Rattle.std.proofs.Common.{subst, ◌≡◌, refl, sym, ap, ◌∙◌, ℕ, suc, ◌+◌, ◌≤◌, List, [], ◌∷◌, length, Option, Some, None, Result, Ok, Err, true, false, ◌<◌, arith}
-use Rattle.std.specs.Prelude.{IsErrAnd, nat_lt}
+use Rattle.std.proofs.Common.{subst, ◌≡◌, refl, sym, ap, ◌∙◌, ℕ, suc, ◌+◌, ◌≤◌, List, [], ◌∷◌, length, Option, Some, None, Result, Ok, Err, Bool, true, false, ◌<◌, arith}
+use Rattle.std.specs.Prelude.{IfOk, IsErrAnd, nat_lt}
 use Rattle.std.proofs.lemmas.Bool.Decides.{nat_tests}
+use Rattle.std.proofs.lemmas.Option.{none-some, same_Some}
 use Rattle.std.proofs.lemmas.Result.{err_from_is_err_and}
 use Rattle.sim_types.specs.Limits.{most_bytes}
 use Rattle.sim_types.specs.Scenarios.{ScenarioOf}
@@ -18,10 +19,10 @@ use Rattle.sim_language.specs.Variables.{variables_at, variables_then}
 use Rattle.sim_language.specs.Places.{Above, LineInText, above_of, places}
 use Rattle.sim_language.specs.Faults.{at_line, fault_at, fault_past, end_fault}
 use Rattle.sim_language.specs.Reads.{add_said, nothing_said, outcome, reads, reads_text, unless_faulty}
-use Rattle.sim_faults.specs.AboveOf.{IsBelow, above_behind}
+use Rattle.sim_faults.specs.AboveOf.{above_behind}
 use Rattle.sim_code.specs.declared.reading.ReadError.{ReadError}
 use Rattle.sim_code.specs.declared.reading.ReadError.TheVariants as error
-use Rattle.sim_code.specs.Readings.{Gives, GivesDraft, IsReading, end_from, with_links}
+use Rattle.sim_code.specs.Readings.{AddsLine, Gives, GivesDraft, GoesOn, IsReading, IsSmall, ReadingOf, TakesLine, end_from, passed_on, place_of, with_links}
 use Rattle.sim_code.proofs.AddedParts.{OneMore, line_adds}
 use Rattle.sim_code.proofs.AboveBounds.{below_most}
 
@@ -33,113 +34,202 @@ end-later n above l below = let same : n + suc (length below) ≡ n + 1 + length
 
 -- ---- in front of the first line
 
-starts-with : (heads : ProcessLines) (ls : List TextLine) → length ls ≤ most_bytes
-    → IsReading heads (outcome heads nothing_said (places 1 [] ls) (end_fault ls)) 1 (above_of []) [] nothing_said ls
-starts-with heads ls few = record {
-  before = [];
-  above_is = refl;
-  number_is = refl;
-  variables_are = refl;
-  few = omega (arith, few);
-  few_events = omega arith;
-  few_statements = omega arith;
-  outcome_is = ap (outcome heads nothing_said (places 1 [] ls)) (end-start ls);
-}
+pub reading_starts : (whole : WholeText) (ls : List Word) (r : ReadingOf)
+    → r.above ≡ above_of [] → r.number ≡ 1 → r.variables ≡ [] → r.draft ≡ nothing_said → r.lines ≡ sayings is_built whole ls → length r.lines ≤ most_bytes
+    → IsReading whole.heads (reads_text is_built whole ls) r
+reading_starts whole ls r above_is number_is variables_are draft_is lines_are few =
+    let start = outcome whole.heads nothing_said (places 1 [] (sayings is_built whole ls)) in
+    let events : r.draft.setup.events ≡ 0 = ap (λ (s : ScenarioOf). s.setup.events) draft_is in
+    let statements : length r.draft.code ≡ 0 = ap (λ (s : ScenarioOf). length s.code) draft_is in
+    record {
+      before = [];
+      above_is = above_is;
+      number_is = number_is;
+      variables_are = variables_are;
+      few = omega (arith, few);
+      few_events = omega (arith, events);
+      few_statements = omega (arith, statements);
+      outcome_is = rw (number_is, draft_is, lines_are) (ap start (end-start (sayings is_built whole ls)));
+    }
 
-pub reading_starts : (whole : WholeText) (ls : List Word) (above : Above) (variables : List (Named Class)) (draft : ScenarioOf) (lines : List TextLine)
-    → above ≡ above_of [] → variables ≡ [] → draft ≡ nothing_said → lines ≡ sayings is_built whole ls → length lines ≤ most_bytes
-    → IsReading whole.heads (reads_text is_built whole ls) 1 above variables draft lines
-reading_starts whole ls above variables draft lines above_is variables_are draft_is lines_are few =
-    rw (above_is, variables_are, draft_is, lines_are) (starts-with whole.heads (sayings is_built whole ls) (rw lines_are at few))
+pub reading_small : (heads : ProcessLines) (answer : Result ScenarioOf Fault) (r : ReadingOf) → IsReading heads answer r → IsSmall r
+reading_small heads answer r is = record {
+  lines = omega (arith, is.few);
+  number = omega (arith, is.few, is.number_is);
+  above = rw is.above_is (below_most most_bytes is.before (omega (arith, is.few)));
+  events = omega (arith, is.few, is.few_events);
+}
 
 -- ---- a line
 
--- the line at its place
-abbrev pub place_of : ℕ → Above → List (Named Class) → TextLine → LineInText
-place_of n above variables l = record { number = n; above = above; variables = variables; line = l }
-
-same_place : {n : ℕ} {a b : Above} {vs ws : List (Named Class)} {l : TextLine} → vs ≡ ws → a ≡ b → place_of n a vs l ≡ place_of n b ws l
-same_place e f = rw (e, f) refl
+-- a line at its place
+abbrev place_at : ℕ → Above → List (Named Class) → TextLine → LineInText
+place_at n above variables l = record { number = n; above = above; variables = variables; line = l }
 
 module _ (heads : ProcessLines) (s : ScenarioOf) (place : LineInText) (ps : List LineInText) (end : Option Fault) where
   faultless-outcome : fault_at heads place ≡ None → outcome heads s (place ∷ ps) end ≡ outcome heads (add_said heads place place.line.saying s) ps end
   faultless-outcome none = rw none refl
 
-  faulty-outcome : (kind : FaultKind) → fault_at heads place ≡ Some kind → outcome heads s (place ∷ ps) end ≡ Err (record { line = place.number; kind = kind })
-  faulty-outcome kind some = rw some refl
+  faulty-outcome : (f : Fault) → at_line place.number (fault_at heads place) ≡ Some f → outcome heads s (place ∷ ps) end ≡ Err f
+  faulty-outcome f some = by (fault_at heads place) refl
+    where
+      by : (o : Option FaultKind) → fault_at heads place ≡ o → outcome heads s (place ∷ ps) end ≡ Err f
+      by None e = absurd (none-some f (sym (ap (at_line place.number) e) ∙ some))
+      by (Some kind) e = rw e (ap Err (same_Some _ f (sym (ap (at_line place.number) e) ∙ some)))
 
-module _ (heads : ProcessLines) (answer : Result ScenarioOf Fault) (n : ℕ) (above : Above) (variables next : List (Named Class))
-    (draft : ScenarioOf) (l : TextLine) (below : List TextLine)
-    (r : IsReading heads answer n above variables draft (l ∷ below))
-    (next_is : next ≡ variables_then l.saying below variables) where
+-- t is r with the next line taken
+module _ (heads : ProcessLines) (answer : Result ScenarioOf Fault) (r t : ReadingOf) (is : IsReading heads answer r) (taken : TakesLine r true t) where
   -- the line at its place among the lines of the text
   abbrev its-place : LineInText
-  its-place = place_of n (above_of r.before) (variables_at (l ∷ r.before) below) l
+  its-place = place_at r.number (above_of is.before) (variables_at (t.line ∷ is.before) t.lines) t.line
 
   abbrev its-rest : List LineInText
-  its-rest = places (n + 1) (l ∷ r.before) below
+  its-rest = places (r.number + 1) (t.line ∷ is.before) t.lines
 
-  stands-there : place_of n above next l ≡ its-place
-  stands-there = same_place (next_is ∙ ap (variables_then l.saying below) r.variables_are) r.above_is
+  its-variables : t.variables ≡ variables_at (t.line ∷ is.before) t.lines
+  its-variables =
+      ap (λ (u : ReadingOf). u.variables) taken.1
+      ∙ ap (variables_then t.line.saying t.lines) (is.variables_are ∙ ap (variables_at is.before) taken.0)
 
-  pub reading_fault : (kind : FaultKind) → fault_at heads (place_of n above next l) ≡ Some kind → answer ≡ Err (record { line = n; kind = kind })
-  reading_fault kind some =
-      sym r.outcome_is ∙ faulty-outcome heads draft its-place its-rest (end_from n r.before (l ∷ below)) kind (ap (fault_at heads) (sym stands-there) ∙ some)
+  its-number : t.number ≡ r.number
+  its-number = ap (λ (u : ReadingOf). u.number) taken.1
 
-  goes-on-so : (later : ScenarioOf) → fault_at heads (place_of n above next l) ≡ None → later ≡ add_said heads (place_of n above next l) l.saying draft
-      → outcome heads later its-rest (end_from (n + 1) (l ∷ r.before) below) ≡ answer
-  goes-on-so later none later_is =
-      ap (λ d. outcome heads d its-rest (end_from (n + 1) (l ∷ r.before) below)) (later_is ∙ ap (λ p. add_said heads p l.saying draft) stands-there)
-      ∙ ap (outcome heads (add_said heads its-place l.saying draft) its-rest) (sym (end-later n r.before l below))
-      ∙ sym (faultless-outcome heads draft its-place its-rest (end_from n r.before (l ∷ below)) (ap (fault_at heads) (sym stands-there) ∙ none))
-      ∙ r.outcome_is
+  its-above : t.above ≡ above_of is.before
+  its-above = ap (λ (u : ReadingOf). u.above) taken.1 ∙ is.above_is
 
-  pub reading_goes_on : (later : ScenarioOf) (behind : Above) → fault_at heads (place_of n above next l) ≡ None
-      → later ≡ add_said heads (place_of n above next l) l.saying draft → behind ≡ above_behind above l
-      → IsReading heads answer (n + 1) behind next later below
-  reading_goes_on later behind none later_is behind_is =
-      let number : n ≡ length r.before + 1 = r.number_is in
-      let one : length (l ∷ r.before) ≡ length r.before + 1 = omega arith in
-      let two : length (l ∷ below) ≡ length below + 1 = omega arith in
-      let few : length r.before + length (l ∷ below) ≤ most_bytes = r.few in
-      let events : draft.setup.events ≤ length r.before = r.few_events in
-      let statements : length draft.code ≤ length r.before = r.few_statements in
-      let added : OneMore draft later = subst (OneMore draft) (sym later_is) (line_adds heads (place_of n above next l) l.saying draft) in
+  its-draft : t.draft ≡ r.draft
+  its-draft = ap (λ (u : ReadingOf). u.draft) taken.1
+
+  stands-there : place_of t ≡ its-place
+  stands-there = rw (its-number, its-above, its-variables) refl
+
+  says-so : outcome heads t.draft (its-place ∷ its-rest) (end_from r.number is.before (t.line ∷ t.lines)) ≡ answer
+  says-so =
+      ap (λ d. outcome heads d (its-place ∷ its-rest) (end_from r.number is.before (t.line ∷ t.lines))) its-draft
+      ∙ ap (λ ls. outcome heads r.draft (places r.number is.before ls) (end_from r.number is.before ls)) (sym taken.0)
+      ∙ is.outcome_is
+
+  pub reading_fault : (f : Fault) → at_line t.number (fault_at heads (place_of t)) ≡ Some f → answer ≡ Err f
+  reading_fault f some =
+      sym says-so
+      ∙ faulty-outcome heads t.draft its-place its-rest (end_from r.number is.before (t.line ∷ t.lines)) f
+      (ap (λ (p : LineInText). at_line p.number (fault_at heads p)) (sym stands-there) ∙ some)
+
+  -- u is t with what the line says added
+  module _ (u : ReadingOf) (added : AddsLine heads t (Ok tt) u) where
+    abbrev more : ScenarioOf
+    more = add_said heads (place_of t) t.line.saying t.draft
+
+    goes-on-so : outcome heads more its-rest (end_from (r.number + 1) (t.line ∷ is.before) t.lines) ≡ answer
+    goes-on-so =
+        ap (λ (p : LineInText). outcome heads (add_said heads p t.line.saying t.draft) its-rest (end_from (r.number + 1) (t.line ∷ is.before) t.lines)) stands-there
+        ∙ ap (outcome heads (add_said heads its-place t.line.saying t.draft) its-rest) (sym (end-later r.number is.before t.line t.lines))
+        ∙ sym (faultless-outcome heads t.draft its-place its-rest (end_from r.number is.before (t.line ∷ t.lines)) (ap (fault_at heads) (sym stands-there) ∙ added.0))
+        ∙ says-so
+
+    pub reading_goes_on : IsReading heads answer (passed_on u) × (length (passed_on u).lines < length r.lines)
+    reading_goes_on =
+        let one : length (t.line ∷ is.before) ≡ length is.before + 1 = omega arith in
+        let two : length r.lines ≡ length t.lines + 1 = ap length taken.0 ∙ omega arith in
+        let grown : OneMore t.draft more = line_adds heads (place_of t) t.line.saying t.draft in
+        let events : t.draft.setup.events ≡ r.draft.setup.events = ap (λ (s : ScenarioOf). s.setup.events) its-draft in
+        let statements : length t.draft.code ≡ length r.draft.code = ap (λ (s : ScenarioOf). length s.code) its-draft in
+        let at : IsReading heads answer (passed_on (record t { draft = more })) × (length t.lines < length r.lines) = (
+          record {
+            before = t.line ∷ is.before;
+            above_is = ap (λ a. above_behind a t.line) its-above;
+            number_is = omega (arith, its-number, is.number_is, one);
+            variables_are = its-variables;
+            few = omega (arith, is.few, one, two);
+            few_events = omega (arith, is.few_events, grown.events, events, one);
+            few_statements = omega (arith, is.few_statements, grown.statements, statements, one);
+            outcome_is = rw its-number goes-on-so;
+          },
+          omega (arith, two),
+        ) in
+        let P : ReadingOf → Type 0 = λ v. IsReading heads answer (passed_on v) × (length (passed_on v).lines < length r.lines) in
+        subst P (sym added.1) at
+
+-- the same from what the code tests
+pub line_goes_on : (heads : ProcessLines) (answer : Result ScenarioOf Fault) (r t u s : ReadingOf) (more : Bool) → more ≡ true
+    → TakesLine r more t → AddsLine heads t (Ok tt) u → s ≡ passed_on u → IsReading heads answer r
+    → IsReading heads answer s × (length s.lines < length r.lines)
+line_goes_on heads answer r t u s more is_more takes adds s_is is =
+    rw s_is (reading_goes_on heads answer r t is (subst (λ b. TakesLine r b t) is_more takes) u adds)
+
+-- no line is left
+pub reading_stays : (heads : ProcessLines) (answer : Result ScenarioOf Fault) (r s : ReadingOf) → IsReading heads answer r → TakesLine r false s
+    → IsReading heads answer s × (s.lines ≡ [])
+reading_stays heads answer r s is taken =
+    let at : IsReading heads answer (record r { line = s.line }) × (r.lines ≡ []) = (
       record {
-        before = l ∷ r.before;
-        above_is = behind_is ∙ ap (λ a. above_behind a l) r.above_is;
-        number_is = omega (arith, number, one);
-        variables_are = next_is ∙ ap (variables_then l.saying below) r.variables_are;
-        few = omega (arith, few, one, two);
-        few_events = omega (arith, events, added.events, one);
-        few_statements = omega (arith, statements, added.statements, one);
-        outcome_is = goes-on-so later none later_is;
-      }
-
--- the counts above, and the events so far, are small
-pub reading_below : (heads : ProcessLines) (answer : Result ScenarioOf Fault) (n : ℕ) (above : Above) (variables : List (Named Class))
-    (draft : ScenarioOf) (lines : List TextLine)
-    → IsReading heads answer n above variables draft lines → IsBelow most_bytes above
-reading_below heads answer n above variables draft lines r = rw r.above_is (below_most most_bytes r.before (omega (arith, r.few)))
-
-pub reading_few : (heads : ProcessLines) (answer : Result ScenarioOf Fault) (n : ℕ) (above : Above) (variables : List (Named Class))
-    (draft : ScenarioOf) (lines : List TextLine)
-    → IsReading heads answer n above variables draft lines → length draft.code ≤ most_bytes
-reading_few heads answer n above variables draft lines r = omega (arith, r.few, r.few_statements)
+        before = is.before;
+        above_is = is.above_is;
+        number_is = is.number_is;
+        variables_are = is.variables_are;
+        few = is.few;
+        few_events = is.few_events;
+        few_statements = is.few_statements;
+        outcome_is = is.outcome_is;
+      },
+      taken.0,
+    ) in
+    let P : ReadingOf → Type 0 = λ v. IsReading heads answer v × (v.lines ≡ []) in
+    subst P (sym taken.1) at
 
 -- ---- behind the last line
 
-ends-with : (draft : ScenarioOf) (n : ℕ) (above : Above) → (past : Option FaultKind) → fault_past above ≡ past
+ends-with : (n : ℕ) (above : Above) (past : Option FaultKind) (draft : ScenarioOf) → fault_past above ≡ past
     → unless_faulty (at_line (n + 0) (fault_past above)) draft ≡ unless_faulty (at_line n past) draft
-ends-with draft n above past is = let same : n + 0 ≡ n = omega arith in rw (same, is) refl
+ends-with n above past draft is = let same : n + 0 ≡ n = omega arith in rw (same, is) refl
 
-module _ (heads : ProcessLines) (answer : Result ScenarioOf Fault) (n : ℕ) (above : Above) (variables : List (Named Class)) (draft : ScenarioOf)
-    (r : IsReading heads answer n above variables draft []) where
-  pub reading_ends : fault_past above ≡ None → answer ≡ Ok (with_links draft)
-  reading_ends past = sym r.outcome_is ∙ ends-with draft n (above_of r.before) None (ap fault_past (sym r.above_is) ∙ past)
+module _ (heads : ProcessLines) (answer : Result ScenarioOf Fault) (r : ReadingOf) (is : IsReading heads answer r) (none : r.lines ≡ []) where
+  ends-so : (past : Option FaultKind) → fault_past r.above ≡ past → answer ≡ unless_faulty (at_line r.number past) r.draft
+  ends-so past says =
+      sym is.outcome_is
+      ∙ ap (λ ls. outcome heads r.draft (places r.number is.before ls) (end_from r.number is.before ls)) none
+      ∙ ends-with r.number (above_of is.before) past r.draft (ap fault_past (sym is.above_is) ∙ says)
 
-  pub reading_ends_faulty : (kind : FaultKind) → fault_past above ≡ Some kind → answer ≡ Err (record { line = n; kind = kind })
-  reading_ends_faulty kind past = sym r.outcome_is ∙ ends-with draft n (above_of r.before) (Some kind) (ap fault_past (sym r.above_is) ∙ past)
+  pub reading_ends : fault_past r.above ≡ None → answer ≡ Ok (with_links r.draft)
+  reading_ends says = ends-so None says
+
+  pub reading_ends_faulty : (kind : FaultKind) → fault_past r.above ≡ Some kind → answer ≡ Err (record { line = r.number; kind = kind })
+  reading_ends_faulty kind says = ends-so (Some kind) says
+
+  few_so : length r.draft.code ≤ most_bytes
+  few_so = omega (arith, is.few, is.few_statements)
+
+  pub reading_few : (result : Result ScenarioOf ReadError) → IfOk result (λ draft. draft ≡ r.draft) → IfOk result (λ draft. length draft.code ≤ most_bytes)
+  reading_few (Ok draft) same = rw same few_so
+  reading_few (Err why) same = same
+
+-- ---- what the loop takes from it
+
+module _ (heads : ProcessLines) (answer : Result ScenarioOf Fault) (r s : ReadingOf) (more : Bool) (goes : GoesOn heads answer r (Ok more) s) where
+  one_more : more ≡ true → IsReading heads answer s × (length s.lines < length r.lines)
+  one_more is = subst (λ b. GoesOn heads answer r (Ok b) s) is goes
+
+  pub no_more : more ≡ false → IsReading heads answer s × (s.lines ≡ [])
+  no_more is = subst (λ b. GoesOn heads answer r (Ok b) s) is goes
+
+  pub still_reading : more ≡ true → IsReading heads answer s
+  still_reading is = (one_more is).0
+
+  pub fewer_lines : more ≡ true → length s.lines < length r.lines
+  fewer_lines is = (one_more is).1
+
+-- ---- a line that is refused, and want of memory
+
+refused_so : (heads : ProcessLines) (answer : Result ScenarioOf Fault) (r s : ReadingOf) (why : ReadError) → GoesOn heads answer r (Err why) s
+    → GivesDraft (Err why) answer
+refused_so heads answer r s (error.Fault f) h = h
+refused_so heads answer r s error.Memory h = h
+
+pub refused : (heads : ProcessLines) (answer : Result ScenarioOf Fault) (r s : ReadingOf) (why : ReadError) (result : Result ScenarioOf ReadError)
+    → GoesOn heads answer r (Err why) s → IsErrAnd result (λ told. told ≡ why) → GivesDraft result answer
+refused heads answer r s why result goes err =
+    let told = err_from_is_err_and result err in
+    rw (told.1, told.2) (refused_so heads answer r s why goes)
 
 -- ---- want of memory
 
