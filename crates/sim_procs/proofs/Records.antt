@@ -1,14 +1,13 @@
 -- Records that are told apart by their numbers: one more, one that is found, one that is changed, one that is taken out.
-use Rattle.std.proofs.Common.{◌≡◌, ◌≢◌, ℕ, suc, ◌+◌, ◌<◌, ◌≤◌, Bool, true, false, List, [], ◌∷◌, ◌++◌, length, refl, sym, ap, ◌∙◌, arith, Option, Some, None, ◌⊎◌, inl, inr, cond, slice_get, slice_index_or, slice_set}
-use Rattle.std.specs.Prelude.{All, AllPairs, MatchOption, ◌==◌, nat_lt, not}
-use Rattle.std.specs.List.{position, position_or_len, swap_remove}
+use Rattle.std.proofs.Common.{◌≡◌, ◌≢◌, ℕ, suc, ◌<◌, List, [], ◌∷◌, ◌++◌, length, refl, sym, ap, ◌∙◌, arith, Option, Some, None, ◌⊎◌, inl, inr, cond, slice_get, slice_index_or, slice_set}
+use Rattle.std.specs.Prelude.{All, AllPairs, ◌==◌}
+use Rattle.std.specs.List.{swap_remove}
 use Rattle.std.specs.List.Sorted.{IsPermutation}
 use Rattle.std.proofs.lemmas.Bool.{cases_eq}
 use Rattle.std.proofs.lemmas.Bool.Decides.{nat_tests}
 use Rattle.std.proofs.lemmas.Option.{none-some, same_Some, slice_get-get_or}
 use Rattle.std.proofs.lemmas.List.Elements.{All-cons, All-head, All-tail, All-nil, All-weaker}
 use Rattle.std.proofs.lemmas.List.Sorted.{IsPermutation-sym, IsPermutation-to_front, IsPermutation-swap_remove}
-use Rattle.std.proofs.lemmas.List.Kept.{AllPairs-cons}
 use Rattle.std.proofs.lemmas.List.Folds.{find-append}
 use Rattle.std.specs.Option.{option_or}
 use Rattle.sim_types.specs.declared.event.ProcId.{ProcId}
@@ -32,12 +31,6 @@ none_has p (x ∷ xs) h =
 pub added : {B : Type 0} (x : RecordOf B) (xs : List (RecordOf B)) → IsPermutation (x ∷ xs) (xs ++ x ∷ [])
 added x xs = IsPermutation-sym _ _ (IsPermutation-to_front xs x)
 
-pub added_apart : {B : Type 0} (x : RecordOf B) (xs : List (RecordOf B)) → AllPairs HasOtherId xs → record_of x.id xs ≡ None
-    → AllPairs HasOtherId (xs ++ x ∷ [])
-added_apart x xs apart new =
-    AllPairs-IsPermutation HasOtherId (λ a b d. λ e. d (sym e)) (x ∷ xs) (xs ++ x ∷ []) (added x xs)
-    (AllPairs-cons HasOtherId x xs (All-weaker (λ r. r.id.0 ≢ x.id.0) (HasOtherId x) (λ r d. λ e. d (sym e)) xs (none_has x.id xs new)) apart)
-
 -- ---- one that is found
 
 kept : {X : Type 0} {xs ys : List X} (a b : ℕ) (y x : X) → a ≢ b → xs ≡ ys → cond (a == b) y x ∷ xs ≡ x ∷ ys
@@ -55,7 +48,7 @@ kept_first a b y x same h = grind (arith, nat_tests)
 skips : {X : Type 0} (a b : ℕ) → a ≢ b → (o : Option X) (x : X) → cond (a == b) (Some x) o ≡ o
 skips a b h o x = grind (arith, nat_tests)
 
-first_stands : {B : Type 0} (p : ProcId) (x : RecordOf B) (xs : List (RecordOf B)) → x.id.0 ≡ p.0 → AllPairs HasOtherId (x ∷ xs) → StandsAt p (x ∷ xs) 0
+pub first_stands : {B : Type 0} (p : ProcId) (x : RecordOf B) (xs : List (RecordOf B)) → x.id.0 ≡ p.0 → AllPairs HasOtherId (x ∷ xs) → StandsAt p (x ∷ xs) 0
 first_stands p x xs same apart =
     let others : All (λ r. r.id.0 ≢ p.0) xs = All-weaker (HasOtherId x) (λ r. r.id.0 ≢ p.0) (λ r d. λ e. d (same ∙ sym e)) xs (AllPairs-head HasOtherId x xs apart) in
     record {
@@ -70,52 +63,13 @@ set_by_get : {B : Type 0} (x : RecordOf B) (xs : List (RecordOf B)) (i : ℕ) (c
     ≡ elim o [ None ↦ x ∷ xs | Some y ↦ x ∷ slice_set xs i (change y) ]
 set_by_get x xs i change o r h = rw h refl
 
-later_stands : {B : Type 0} (p : ProcId) (x : RecordOf B) (xs : List (RecordOf B)) (i : ℕ) → x.id.0 ≢ p.0 → StandsAt p xs i → StandsAt p (x ∷ xs) (suc i)
+pub later_stands : {B : Type 0} (p : ProcId) (x : RecordOf B) (xs : List (RecordOf B)) (i : ℕ) → x.id.0 ≢ p.0 → StandsAt p xs i → StandsAt p (x ∷ xs) (suc i)
 later_stands p x xs i differ h =
     record {
       below = omega (arith, h.below);
       found = λ d. skips x.id.0 p.0 differ (record_of p xs) x ∙ h.found d;
       changed = λ change. kept x.id.0 p.0 (change x) x differ (h.changed change) ∙ set_by_get x xs i change (slice_get xs i) (slice_index_or xs i x) (slice_get-get_or xs i x h.below);
     }
-
-counts_none : (a b n : ℕ) → a ≡ b → cond (not (a == b)) (1 + n) 0 ≡ 0
-counts_none a b n h = grind (arith, nat_tests)
-
-counts_more : (a b n : ℕ) → a ≢ b → cond (not (a == b)) (1 + n) 0 ≡ suc n
-counts_more a b n h = grind (arith, nat_tests)
-
-place_more : {B : Type 0} (p : ProcId) (x : RecordOf B) (xs : List (RecordOf B)) (n m : ℕ) → AllPairs HasOtherId (x ∷ xs)
-    → n ≡ cond (not (x.id.0 == p.0)) (1 + m) 0 → (m < length xs → StandsAt p xs m) × (length xs ≤ m → record_of p xs ≡ None)
-    → (x.id.0 ≡ p.0) ⊎ (x.id.0 ≢ p.0)
-    → (n < suc (length xs) → StandsAt p (x ∷ xs) n) × (suc (length xs) ≤ n → record_of p (x ∷ xs) ≡ None)
-place_more p x xs n m apart h later (inl same) =
-    let none : n ≡ 0 = h ∙ counts_none x.id.0 p.0 m same in
-    (λ below. rw none (first_stands p x xs same apart), λ past. absurd (omega (arith, past, none)))
-place_more p x xs n m apart h later (inr differ) =
-    let more : n ≡ suc m = h ∙ counts_more x.id.0 p.0 m differ in
-    (λ below. rw more (later_stands p x xs m differ (later.0 (omega (arith, below, more)))), λ past. skips x.id.0 p.0 differ (record_of p xs) x ∙ later.1 (omega (arith, past, more)))
-
--- the place of the first record with the number, or the end
-place_or_end : {B : Type 0} (p : ProcId) (xs : List (RecordOf B)) (n : ℕ) → AllPairs HasOtherId xs
-    → n ≡ position_or_len (λ r. r.id.0 == p.0) xs
-    → (n < length xs → StandsAt p xs n) × (length xs ≤ n → record_of p xs ≡ None)
-place_or_end p [] n apart h = (λ below. absurd (omega (arith, below)), λ past. refl)
-place_or_end p (x ∷ xs) n apart h =
-    let m = position_or_len (λ r. r.id.0 == p.0) xs in
-    place_more p x xs n m apart h (place_or_end p xs m (AllPairs-tail HasOtherId x xs apart) refl) (cases_eq x.id.0 p.0)
-
-by_test : {B : Type 0} (p : ProcId) (xs : List (RecordOf B)) (n : ℕ) (b : Bool) → nat_lt n (length xs) ≡ b
-    → (n < length xs → StandsAt p xs n) × (length xs ≤ n → record_of p xs ≡ None)
-    → MatchOption (cond b (Some n) None) (record_of p xs ≡ None) (λ i. StandsAt p xs i)
-by_test p xs n true h f = f.0 (grind (arith, nat_tests, h))
-by_test p xs n false h f = f.1 (grind (arith, nat_tests, h))
-
--- the record of a process stands at the first place with its number, if there is one
-pub found_at : {B : Type 0} (p : ProcId) (xs : List (RecordOf B)) (o : Option ℕ) → AllPairs HasOtherId xs
-    → o ≡ position (λ r. r.id.0 == p.0) xs → MatchOption o (record_of p xs ≡ None) (λ i. StandsAt p xs i)
-found_at p xs o apart h =
-    let n = position_or_len (λ r. r.id.0 == p.0) xs in
-    rw h (by_test p xs n (nat_lt n (length xs)) refl (place_or_end p xs n apart refl))
 
 -- a process that is not alive has no record to change
 pub unchanged_where_none : {B : Type 0} (p : ProcId) (change : RecordOf B → RecordOf B) (xs : List (RecordOf B))
@@ -133,12 +87,6 @@ pub taken_apart : {B : Type 0} (xs : List (RecordOf B)) (i : ℕ) (x : RecordOf 
 taken_apart xs i x apart below is =
     AllPairs-tail HasOtherId x (swap_remove xs i x) (AllPairs-IsPermutation HasOtherId (λ a b d. λ e. d (sym e)) xs (x ∷ swap_remove xs i x) (taken xs i x below is) apart)
 
-chosen : {X : Type 0} (a b : ℕ) (y x : X) → a ≡ b → cond (a == b) y x ≡ y
-chosen a b y x h = grind (arith, nat_tests)
-
-not_chosen : {X : Type 0} (a b : ℕ) (y x : X) → a ≢ b → cond (a == b) y x ≡ x
-not_chosen a b y x h = grind (arith, nat_tests)
-
 -- ---- what is found once a record was added or taken out
 
 same_number : {B : Type 0} (x y : RecordOf B) → x ≡ y → x.id.0 ≡ y.id.0
@@ -151,11 +99,11 @@ found_by_number : {B : Type 0} (p : ProcId) (x y : RecordOf B) (o : Option (Reco
 found_by_number p x y o h later (inl same) = sym (same_number x y (same_Some x y (sym (passes x.id.0 p.0 same o x) ∙ h))) ∙ same
 found_by_number p x y o h later (inr differ) = later (sym (skips x.id.0 p.0 differ o x) ∙ h)
 
-found_number : {B : Type 0} (p : ProcId) (xs : List (RecordOf B)) (y : RecordOf B) → record_of p xs ≡ Some y → y.id.0 ≡ p.0
+pub found_number : {B : Type 0} (p : ProcId) (xs : List (RecordOf B)) (y : RecordOf B) → record_of p xs ≡ Some y → y.id.0 ≡ p.0
 found_number p [] y h = absurd (none-some y h)
 found_number p (x ∷ xs) y h = found_by_number p x y (record_of p xs) h (λ found. found_number p xs y found) (cases_eq x.id.0 p.0)
 
-none_found : {B : Type 0} (p : ProcId) (xs : List (RecordOf B)) → All (λ r. r.id.0 ≢ p.0) xs → record_of p xs ≡ None
+pub none_found : {B : Type 0} (p : ProcId) (xs : List (RecordOf B)) → All (λ r. r.id.0 ≢ p.0) xs → record_of p xs ≡ None
 none_found p [] h = refl
 none_found p (x ∷ xs) h =
     skips x.id.0 p.0 (All-head (λ r. r.id.0 ≢ p.0) x xs h) (record_of p xs) x ∙ none_found p xs (All-tail (λ r. r.id.0 ≢ p.0) x xs h)
@@ -189,26 +137,6 @@ or_none (Some x) = refl
 pub others_once_added : {B : Type 0} (q : ProcId) (x : RecordOf B) (xs : List (RecordOf B)) → q.0 ≢ x.id.0 → record_of q (xs ++ x ∷ []) ≡ record_of q xs
 others_once_added q x xs other =
     find-append (λ r. r.id.0 == q.0) xs (x ∷ []) ∙ rw (skips x.id.0 q.0 (λ e. other (sym e)) None x) (or_none (record_of q xs))
-
-found_in_changed : {B : Type 0} (p : ProcId) (change : RecordOf B → RecordOf B) (x r : RecordOf B) (xs : List (RecordOf B))
-    → ((y : RecordOf B) → (change y).id.0 ≡ y.id.0) → cond (x.id.0 == p.0) (Some x) (record_of p xs) ≡ Some r
-    → (record_of p xs ≡ Some r → record_of p (change_record p change xs) ≡ Some (change r)) → (x.id.0 ≡ p.0) ⊎ (x.id.0 ≢ p.0)
-    → record_of p (cond (x.id.0 == p.0) (change x) x ∷ change_record p change xs) ≡ Some (change r)
-found_in_changed p change x r xs keeps found later (inl same) =
-    let is : cond (x.id.0 == p.0) (change x) x ≡ change x = chosen x.id.0 p.0 (change x) x same in
-    let here : x ≡ r = same_Some x r (sym (passes x.id.0 p.0 same (record_of p xs) x) ∙ found) in
-    rw is (passes (change x).id.0 p.0 (keeps x ∙ same) (record_of p (change_record p change xs)) (change x) ∙ ap (λ y. Some (change y)) here)
-found_in_changed p change x r xs keeps found later (inr differ) =
-    let is : cond (x.id.0 == p.0) (change x) x ≡ x = not_chosen x.id.0 p.0 (change x) x differ in
-    rw is (skips x.id.0 p.0 differ (record_of p (change_record p change xs)) x ∙ later (sym (skips x.id.0 p.0 differ (record_of p xs) x) ∙ found))
-
--- a record that is changed, and keeps its number, is found as changed
-pub found_once_changed : {B : Type 0} (p : ProcId) (change : RecordOf B → RecordOf B) (xs : List (RecordOf B))
-    (r : RecordOf B) → ((y : RecordOf B) → (change y).id.0 ≡ y.id.0) → record_of p xs ≡ Some r
-    → record_of p (change_record p change xs) ≡ Some (change r)
-found_once_changed p change [] r keeps found = absurd (none-some r found)
-found_once_changed p change (x ∷ xs) r keeps found =
-    found_in_changed p change x r xs keeps found (λ h. found_once_changed p change xs r keeps h) (cases_eq x.id.0 p.0)
 
 -- what is asked of a record that is added, and of one that is taken out
 pub ruleset adding = (added, found_once_added, others_once_added)

@@ -1,11 +1,14 @@
-ghost use Rattle.std.specs.Prelude.{◌≡◌, ℕ, ◌+◌, ◌<◌, ◌≤◌, ◌==◌, List, [], ◌∷◌, ◌++◌, length, IfOk, OnOk, IsOk, IfSome, IsSome, IsNone, MatchOption, IsSomeAnd, is_some, option_and_then, slice_index_or};
+ghost use Rattle.std.specs.Prelude.{◌≡◌, ℕ, ◌+◌, ◌<◌, ◌≤◌, ◌==◌, List, [], ◌∷◌, ◌++◌, length, IfOk, OnOk, IsOk, IfSome, IsSome, IsNone, MatchOption, IsSomeAnd, Some, None, ◌-◌, ◌^◌, is_some, option_and_then, slice_index_or};
 ghost use Rattle.std.specs.Option.{option_map};
-ghost use Rattle.std.specs.List.{position};
 ghost use Rattle.std.specs.List.Sorted.{IsPermutation};
 ghost use Rattle.sim_machine.specs.MayAsk.{most_scopes};
+ghost use Rattle.sim_machine.specs.NumberBounds.{most_events};
 ghost use Rattle.sim_procs.specs.RecordOf.{record_of, begun_record, with_record, scope_of, innermost, without_innermost, KeepsOthers, StandsAt};
+ghost use Rattle.sim_index.specs.IndexOf.{place_of_number};
+ghost use Rattle.sim_procs.specs.Indexed.{IsFoundSomewhere, SetsPlace, found_there, numbers};
 
 use crate::record::ProcRecord;
+use sim_index::Index;
 use sim_types::{EventId, ProcId, Scope};
 use std::alloc::{AllocError, Global};
 use std::marker::Model;
@@ -13,20 +16,23 @@ use std::marker::Model;
 /// The live processes, each with its body, its target and its open scopes. It must be spent by `abandon`.
 pub struct Procs<B> {
     records: Vec<ProcRecord<B>>,
+    // Where the record of each process stands.
+    index: Index,
 }
 
 impl<B> Model for Procs<B> {
-    ghost use Rattle.std.specs.Prelude.{◌-◌, vec_len, vec_capacity, AllPairs};
-    ghost use Rattle.sim_procs.specs.RecordOf.{ProcsOf, HasOtherId};
+    ghost use Rattle.std.specs.Prelude.{◌-◌, min, vec_len, vec_capacity};
+    ghost use Rattle.sim_procs.specs.RecordOf.{ProcsOf};
+    ghost use Rattle.sim_procs.specs.Indexed.{AreIndexed};
 
     ghost Value = { ProcsOf B };
 
     ghost view = { λ a. record {
       live = a.records.items;
-      spare = vec_capacity a.records - vec_len a.records;
+      spare = min (vec_capacity a.records - vec_len a.records) a.index.spare;
     } };
 
-    ghost invariant = { λ a. AllPairs HasOtherId a.records.items };
+    ghost invariant = { λ a. AreIndexed a.index.places a.records.items };
 }
 
 impl<B> Procs<B> {
@@ -36,6 +42,7 @@ impl<B> Procs<B> {
     {
         Ok(Procs {
             records: Vec::new(alloc),
+            index: Index::new(alloc),
         })
     }
 
@@ -46,7 +53,8 @@ impl<B> Procs<B> {
         ensures never_less { self.old.spare ≤ self.new.spare }
         ensures succeeds { 1 ≤ self.old.spare → IsOk result }
     {
-        self.records.reserve(1)
+        self.records.reserve(1)?;
+        self.index.reserve(1)
     }
 
     /// A process more is alive.
@@ -54,6 +62,7 @@ impl<B> Procs<B> {
     pub fn add(&mut self, id: ProcId, body: B, target: EventId)
         requires room { 1 ≤ self.old.spare }
         requires new { record_of id self.old.live ≡ None }
+        requires number { id.0 < most_events }
         ensures live { IsPermutation (begun_record id body target ∷ self.old.live) self.new.live }
 
         // By their numbers, this one is found, and the others are as before.
@@ -62,25 +71,20 @@ impl<B> Procs<B> {
 
         ensures spare { self.new.spare + 1 ≡ self.old.spare }
     {
+        let place = self.records.as_slice().len();
+        give_place(&mut self.index, id.0, place);
         self.records
             .push_reserved(ProcRecord::new(id, body, target));
     }
 
-    // The first place with a number.
-    fn first_place(&self, id: ProcId) -> Option<usize>
-        ensures { result ≡ position (λ r. r.id.0 == id.0) self.now.live }
-    {
-        self.records.iter().position(|record| record.id().0 == id.0)
-    }
-
     // The place of a record, found by its number.
-    #[tactic(auto, using(crate::proofs::Records::found_at))]
+    #[tactic(auto, using(crate::proofs::Places::found_at))]
     fn place(&self, id: ProcId) -> Option<usize>
         ensures { MatchOption result (record_of id self.now.live ≡ None)
             (λ i. StandsAt id self.now.live i) }
     {
         let _ = &self.records;
-        self.first_place(id)
+        self.index.get(id.0)
     }
 
     /// Whether the process has not ended.
@@ -184,7 +188,10 @@ impl<B> Procs<B> {
         ensures spare { IfSome result (λ r. self.new.spare ≡ self.old.spare + 1) }
     {
         let at = self.place(id)?;
-        Some(self.records.swap_remove(at))
+        self.index.remove(id.0);
+        let taken = self.records.swap_remove(at);
+        find_at(&mut self.index, self.records.as_slice(), at);
+        Some(taken)
     }
 
     /// Spends all records.
@@ -192,10 +199,41 @@ impl<B> Procs<B> {
     where
         B: Drop,
     {
-        let Procs { mut records } = self;
+        let Procs {
+            mut records,
+            index: _,
+        } = self;
         while let Some(record) = records.pop() {
             record.abandon();
         }
         records.destroy_empty();
+    }
+}
+
+// Gives a place to a number that has none. Numbers mostly rise, and then no entry of the index moves.
+#[tactic(auto, using(crate::proofs::Places::inserted, crate::proofs::Places::set_there))]
+fn give_place(index: &mut Index, number: u64, place: usize)
+    requires spare { 0 < index.old.spare }
+    requires none { place_of_number number index.old.places ≡ None }
+    requires number { number < most_events }
+    requires place { place < 2 ^ 64 - 1 }
+    ensures places { SetsPlace number (Some place) index.old.places index.new.places }
+    ensures spare { index.new.spare + 1 ≡ index.old.spare }
+{
+    if number < index.next() {
+        index.insert_earlier(number, place);
+    } else {
+        index.insert(number, place);
+    }
+}
+
+// The record at a place, if one stands there, is found there.
+fn find_at<B>(index: &mut Index, records: &[ProcRecord<B>], at: usize)
+    requires { IsFoundSomewhere index.old.places (numbers records.now) at }
+    ensures places { index.new.places ≡ found_there index.old.places (numbers records.now) at }
+    ensures spare { index.new.spare ≡ index.old.spare }
+{
+    if at < records.len() {
+        index.set(records[at].id().0, at);
     }
 }
