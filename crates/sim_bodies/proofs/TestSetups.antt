@@ -1,5 +1,5 @@
 -- The setups of the tests fit the bodies of the tests.
-use Rattle.std.proofs.Common.{◌≡◌, ℤ, ◌≤◌, lit≤, true, refl, List, [], ◌∷◌, length, IsTrue}
+use Rattle.std.proofs.Common.{◌≡◌, ℕ, zero, suc, ℤ, ◌<◌, ◌≤◌, arith, lit≤, true, refl, List, [], ◌∷◌, length, IsTrue}
 use Rattle.std.specs.List.{AllPass}
 use Rattle.std.proofs.lemmas.List.Elements.{All-nil, All-cons}
 use Rattle.sim_types.specs.declared.setup.Start.{Start}
@@ -21,6 +21,14 @@ plain_built (op.Draw lo hi) h = refl
 plain_built (op.Finish value) h = refl
 plain_built (op.Die t) h = refl
 plain_built _ h = absurd cc
+
+-- a traveller of each kind is given two numbers
+pub traveller_start_fits : (kind : ℕ) (first second : ℤ) → kind < 3 →
+    IsTrue (start_fits traveller_facts (record { kind = kind; args = first ∷ second ∷ [] }))
+traveller_start_fits zero first second h = refl
+traveller_start_fits (suc zero) first second h = refl
+traveller_start_fits (suc (suc zero)) first second h = refl
+traveller_start_fits (suc (suc (suc kind))) first second h = absurd (omega (arith, h))
 
 -- a setup with such starts
 pub land_fits : (until : Until) (starts : List Start) → IsTrue (until_fits 0 until) → length starts ≤ 65536 → AllPass (start_fits traveller_facts) starts →

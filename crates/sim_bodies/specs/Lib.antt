@@ -1,2 +1,4 @@
 pub mod Travellers
 pub mod Clocks
+pub mod Cars
+pub mod CarLaw

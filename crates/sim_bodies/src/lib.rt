@@ -1,7 +1,8 @@
-//! Two bodies written by hand, a clock and a traveller: examples for who writes one, and the bodies with which the tests
-//! run the kernel. No crate stands on this one.
+//! Three bodies written by hand, a clock, a traveller and a car: examples for who writes one. With the first two the tests
+//! run the kernel; the car has a scope, which no kernel opens yet, and is polled alone. No crate stands on this one.
 #![tactic(auto)]
 
+mod car;
 mod clock;
 #[cfg(test)]
 mod laws;
@@ -9,5 +10,6 @@ mod laws;
 mod tests;
 mod traveller;
 
+pub use car::{Car, Road};
 pub use clock::{Clock, Pace};
 pub use traveller::{Land, Traveller};

@@ -1,17 +1,21 @@
-ghost use Rattle.std.specs.Prelude.{◌≡◌, ◌<◌, ◌≤◌, IfOk, IsTrue, length};
+ghost use Rattle.std.specs.Prelude.{◌≡◌, ◌<◌, ◌≤◌, [], ◌∷◌, IfOk, IsTrue, length, pos};
 ghost use Rattle.std.specs.List.{AllPass};
+ghost use Rattle.sim_machine.specs.Bodies.{start_of};
+ghost use Rattle.sim_machine.specs.NumberBounds.{most_events};
 ghost use Rattle.sim_machine.specs.Setups.{FitsCode, start_fits, until_fits};
+ghost use Rattle.sim_procs.specs.Premises.{CanBegin, CanBeTold};
 ghost use Rattle.sim_kernel.specs.Built.{AsksForBuilt};
 ghost use Rattle.sim_bodies.specs.Travellers.{traveller_facts};
 
-use crate::{Clock, Land, Pace, Traveller};
+use crate::{Car, Clock, Land, Pace, Road, Traveller};
 use rand_core::SeedableRng;
 use rand_core::utils::NextWord;
 use rand_pcg::Pcg64;
 use sim_kernel::{Kernel, Rest, Unit};
 use sim_procs::Body;
 use sim_types::{
-    Args, End, EventId, EventKind, Line, List, Outcome, ProcId, Setup, Start, Throw, Until,
+    Args, End, EventId, EventKind, Line, List, Op, Outcome, ProcId, Setup, Signal, Start, Throw,
+    Until,
 };
 use std::alloc::{AllocError, Global};
 use std::process::Abort;
@@ -75,15 +79,26 @@ fn lines_of_run<B: Body>(
     Ok(lines)
 }
 
-// The start of a traveller that is given two numbers.
-fn traveller_start(kind: u32, first: i64, second: i64) -> Start
-    requires { kind < 3 }
-    ensures { IsTrue (start_fits traveller_facts result) }
+// Two numbers as arguments.
+fn two(first: i64, second: i64) -> Args
+    ensures { result ≡ first ∷ second ∷ [] }
 {
     let mut args = Args::new();
     args.push(first);
     args.push(second);
-    Start { kind, args }
+    args
+}
+
+// The start of a traveller that is given two numbers.
+#[tactic(auto, using(crate::proofs::TestSetups::traveller_start_fits))]
+fn traveller_start(kind: u32, first: i64, second: i64) -> Start
+    requires { kind < 3 }
+    ensures { IsTrue (start_fits traveller_facts result) }
+{
+    Start {
+        kind,
+        args: two(first, second),
+    }
 }
 
 // The starts of these travellers.
@@ -103,14 +118,13 @@ fn land_starts(
     Ok(starts)
 }
 
-// The lines of a run of these travellers.
+// The lines of a run of these travellers, of 100 units at most.
 #[tactic(auto, using(crate::proofs::TestSetups::land_fits, crate::proofs::TestSetups::travellers_ask_for_built))]
 fn land_run(
     rt: &impl Abort,
     alloc: Global,
     until: Until,
     travellers: &[(u32, i64, i64)],
-    limit: u32,
 ) -> Result<Vec<Line>, AllocError>
     requires { IsTrue (until_fits 0 until) }
 {
@@ -123,7 +137,23 @@ fn land_run(
         ports: List::new(alloc),
         starts,
     };
-    lines_of_run::<Traveller>(alloc, &Land {}, &setup, 7, limit)
+    lines_of_run::<Traveller>(alloc, &Land {}, &setup, 7, 100)
+}
+
+// Whether these are the lines of a run of these travellers.
+fn land_runs_so(
+    rt: &impl Abort,
+    alloc: Global,
+    until: Until,
+    travellers: &[(u32, i64, i64)],
+    want: &[Line],
+) -> bool
+    requires { IsTrue (until_fits 0 until) }
+{
+    match land_run(rt, alloc, until, travellers) {
+        Ok(lines) => lines.as_slice() == want,
+        Err(AllocError) => false,
+    }
 }
 
 // The lines of a run of so many clocks.
@@ -142,6 +172,42 @@ fn clock_run(alloc: Global, delay: i64, limit: u32) -> Result<Vec<Line>, AllocEr
         starts,
     };
     lines_of_run::<Clock>(alloc, &Pace { delay }, &setup, 0, limit)
+}
+
+// Whether a run of so many units of a clock of pace 2 has these lines, and ends at this time.
+fn clock_runs_so(alloc: Global, limit: u32, want: &[Line], time: i64) -> bool {
+    match clock_run(alloc, 2, limit) {
+        Ok(lines) => match lines.as_slice().split_last() {
+            Some((last, front)) => {
+                let processed = want.len().div_ceil(2) as u64;
+                front == want && *last == end(End::Limit, time, processed)
+            }
+            None => false,
+        },
+        Err(AllocError) => false,
+    }
+}
+
+// ---- polls
+
+// A body of this kind as it starts, by the trait alone.
+fn started<B: Body>(alloc: Global, code: &B::Code, kind: u32, id: ProcId) -> Result<B, AllocError>
+    requires can { CanBegin (B.body.facts code.now) kind [] }
+    requires bound { id.0 < most_events }
+    ensures { IfOk result (λ b. b ≡ start_of B.body code.now kind [] id) }
+{
+    let mut body = B::blank(alloc, code)?;
+    body.fill(code, kind, Args::new());
+    body.own(id);
+    Ok(body)
+}
+
+// One poll at time 0, by the trait alone.
+fn polled<B: Body>(body: &mut B, code: &B::Code, signal: Signal) -> Op
+    requires { CanBeTold B.body code.now body.old signal }
+    ensures { B.body.turn code.now body.old (pos 0) signal result body.new }
+{
+    body.poll(code, 0, signal)
 }
 
 // ---- lines
@@ -212,24 +278,25 @@ fn end(end: End, time: i64, processed: u64) -> Line {
 // next number, an entry of the agenda gets the next scheduling number, and of two that are due at one time the urgent
 // one, and then the earlier scheduled one, comes first.
 #[test]
-fn travellers_are_told_what_the_machine_says(rt: HostRuntime) -> Result<(), Fail> {
-    let told = [
-        (0, 5, 7, 7),
-        (0, 0, 7, 7),
-        (0, 4_611_686_018_427_387_904, 7, 7),
-    ];
-    for (kind, first, second, value) in told {
-        let lines = land_run(&rt, rt.alloc(), Until::Never, &[(kind, first, second)], 100)?;
+fn travellers_are_told_when_they_paused(rt: HostRuntime) {
+    for first in [5, 0, 4_611_686_018_427_387_904] {
         let want = [
             init(0, 2),
-            timeout(first, 1, 3, value),
-            log(first, 1, value),
-            finished(first, 2, 1, value),
+            timeout(first, 1, 3, 7),
+            log(first, 1, 7),
+            finished(first, 2, 1, 7),
             end(End::Empty, first, 3),
         ];
-        assert_eq!(rt; lines.as_slice(), want.as_slice(), "pause of {first}");
+        assert!(rt;
+            land_runs_so(&rt, rt.alloc(), Until::Never, &[(0, first, 7)], &want),
+            "pause of {first}"
+        );
     }
-    let at_once = [
+}
+
+#[test]
+fn travellers_are_told_at_once(rt: HostRuntime) {
+    let rows = [
         (0, -1, 7, 1),
         (0, i64::MIN, 7, 1),
         (0, 4_611_686_018_427_387_905, 7, 9),
@@ -237,23 +304,29 @@ fn travellers_are_told_what_the_machine_says(rt: HostRuntime) -> Result<(), Fail
         (1, 4, 4, 4),
         (1, i64::MIN, i64::MIN, i64::MIN),
     ];
-    for (kind, first, second, value) in at_once {
-        let lines = land_run(&rt, rt.alloc(), Until::Never, &[(kind, first, second)], 100)?;
+    for (kind, first, second, value) in rows {
         let want = [
             init(0, 2),
             log(0, 1, value),
             finished(0, 1, 1, second),
             end(End::Empty, 0, 2),
         ];
-        assert_eq!(rt; lines.as_slice(), want.as_slice(), "kind {kind} of {first}");
+        assert!(rt;
+            land_runs_so(
+                &rt,
+                rt.alloc(),
+                Until::Never,
+                &[(kind, first, second)],
+                &want
+            ),
+            "kind {kind} of {first}"
+        );
     }
-    Ok(())
 }
 
 // The failure of a process that nobody waits for ends the run.
 #[test]
-fn a_failure_that_nobody_defused_ends_the_run(rt: HostRuntime) -> Result<(), Fail> {
-    let lines = land_run(&rt, rt.alloc(), Until::Never, &[(2, 0, 9), (0, 5, 7)], 100)?;
+fn a_failure_that_nobody_defused_ends_the_run(rt: HostRuntime) {
     let thrown = Throw { kind: 1, value: 9 };
     let want = [
         init(0, 2),
@@ -262,14 +335,20 @@ fn a_failure_that_nobody_defused_ends_the_run(rt: HostRuntime) -> Result<(), Fai
         line(0, 1, 2, EventKind::Process, 1, Outcome::Fail(thrown)),
         end(End::Crash, 0, 3),
     ];
-    assert_eq!(rt; lines.as_slice(), want.as_slice());
-    Ok(())
+    assert!(rt;
+        land_runs_so(
+            &rt,
+            rt.alloc(),
+            Until::Never,
+            &[(2, 0, 9), (0, 5, 7)],
+            &want
+        )
+    );
 }
 
 // Two timeouts are due at one time: the one that was scheduled first comes first.
 #[test]
-fn ties_go_by_the_order_of_scheduling(rt: HostRuntime) -> Result<(), Fail> {
-    let lines = land_run(&rt, rt.alloc(), Until::Never, &[(0, 3, 1), (0, 3, 2)], 100)?;
+fn ties_go_by_the_order_of_scheduling(rt: HostRuntime) {
     let want = [
         init(0, 2),
         init(1, 4),
@@ -281,38 +360,46 @@ fn ties_go_by_the_order_of_scheduling(rt: HostRuntime) -> Result<(), Fail> {
         finished(3, 5, 3, 2),
         end(End::Empty, 3, 6),
     ];
-    assert_eq!(rt; lines.as_slice(), want.as_slice());
-    Ok(())
+    assert!(rt;
+        land_runs_so(
+            &rt,
+            rt.alloc(),
+            Until::Never,
+            &[(0, 3, 1), (0, 3, 2)],
+            &want
+        )
+    );
 }
 
 // What stops a run at a time is urgent, so what else is due then is not processed.
 #[test]
-fn a_run_is_stopped_at_its_time(rt: HostRuntime) -> Result<(), Fail> {
-    let lines = land_run(&rt, rt.alloc(), Until::At(5), &[(0, 5, 7)], 100)?;
+fn a_run_is_stopped_at_its_time(rt: HostRuntime) {
     let want = [
         init(0, 2),
         line(5, 0, 1, EventKind::Stop, 3, Outcome::Ok(0)),
         end(End::Until, 5, 2),
     ];
-    assert_eq!(rt; lines.as_slice(), want.as_slice());
-    Ok(())
+    assert!(rt; land_runs_so(&rt, rt.alloc(), Until::At(5), &[(0, 5, 7)], &want));
 }
 
 // A number is drawn by the first word of the generator that the seed, which is 7 here, gives.
 #[test]
-fn numbers_are_drawn_by_the_words_of_the_generator(rt: HostRuntime) -> Result<(), Fail> {
+fn numbers_are_drawn_by_the_words_of_the_generator(rt: HostRuntime) {
     let word = Pcg64::seed_from_u64(7).next_word();
-    let lines = land_run(&rt, rt.alloc(), Until::Never, &[(1, 1, 6)], 100)?;
     let drawn = 1 + (word % 6) as i64;
-    assert!(rt; lines.len() == 4);
-    assert_eq!(rt; lines[1], log(0, 1, drawn));
-    Ok(())
+    let want = [
+        init(0, 2),
+        log(0, 1, drawn),
+        finished(0, 1, 1, 6),
+        end(End::Empty, 0, 2),
+    ];
+    assert!(rt; land_runs_so(&rt, rt.alloc(), Until::Never, &[(1, 1, 6)], &want));
 }
 
 // Five units make a turn of the clock: an event is popped, its callback is called, the clock logs, pauses, and the event
 // is settled.
 #[test]
-fn a_clock_ticks_until_the_limit(rt: HostRuntime) -> Result<(), Fail> {
+fn a_clock_ticks_until_the_limit(rt: HostRuntime) {
     let whole = [
         init(0, 2),
         log(0, 1, 0),
@@ -333,15 +420,34 @@ fn a_clock_ticks_until_the_limit(rt: HostRuntime) -> Result<(), Fail> {
         (11, 5, 4),
     ];
     for (limit, count, time) in rows {
-        let lines = clock_run(rt.alloc(), 2, limit)?;
-        let processed = (count as u64).div_ceil(2);
-        assert!(rt; count <= lines.len() && count <= whole.len());
-        assert_eq!(rt; &lines[..count], &whole[..count], "limit {limit}");
-        assert_eq!(rt;
-            &lines[count..],
-            [end(End::Limit, time, processed)].as_slice(),
+        let want = whole.get(..count).unwrap_or(&[]);
+        assert!(rt;
+            clock_runs_so(rt.alloc(), limit, want, time),
             "limit {limit}"
         );
     }
+}
+
+// A car that is to charge asks for the station, leaves it as soon as it was let in, and ends; the other ends at once.
+#[test]
+fn polls_bodies_by_the_trait(rt: HostRuntime) -> Result<(), Fail> {
+    let road = Road {};
+    let mut charging = started::<Car>(rt.alloc(), &road, 0, ProcId(2))?;
+    let mut passing = started::<Car>(rt.alloc(), &road, 1, ProcId(4))?;
+    assert!(rt;
+        matches!(
+            polled(&mut charging, &road, Signal::Begin),
+            Op::Enter(0, 0, false)
+        )
+    );
+    assert!(rt;
+        matches!(
+            polled(&mut charging, &road, Signal::Made(EventId(6))),
+            Op::Leave
+        )
+    );
+    assert!(rt; matches!(polled(&mut charging, &road, Signal::Done), Op::Finish(0)));
+    assert!(rt; matches!(polled(&mut passing, &road, Signal::Begin), Op::Finish(0)));
+    assert_eq!(rt; charging.place(63).0, 0);
     Ok(())
 }

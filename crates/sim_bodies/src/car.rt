@@ -1,0 +1,91 @@
+//! Cars: a body that opens a scope and leaves it.
+use sim_machine::LawfulBody;
+use sim_procs::Body;
+use sim_types::{Args, EventId, Op, ProcId, Signal};
+use std::alloc::{AllocError, Global};
+use std::marker::Model;
+
+/// The code of cars: the road that they are on. It has nothing; beside it stands one station.
+#[derive(Drop)]
+pub struct Road {}
+
+/// One of kind 0 charges at the station: it asks for it, and leaves as soon as it was let in. One of kind 1 passes by.
+#[derive(Drop)]
+pub struct Car {
+    own: ProcId,
+    charges: bool,
+    last: Option<Op>,
+}
+
+impl Model for Car {
+    ghost use Rattle.sim_bodies.specs.Cars.{CarOf};
+
+    ghost Value = { CarOf };
+
+    ghost view = { λ a. record { own = a.own; charges = a.charges; last = a.last } };
+}
+
+impl LawfulBody for Car {
+    ghost use Rattle.sim_bodies.specs.Cars.{car_body};
+    ghost use Rattle.sim_bodies.specs.CarLaw.{car_lawful};
+
+    type Code = Road;
+
+    ghost body = { car_body };
+
+    ghost lawful = { car_lawful };
+}
+
+impl Body for Car {
+    ghost use Rattle.std.specs.Prelude.{[], refl};
+    ghost use Rattle.std.proofs.Common.{lit≤};
+
+    ghost events_held = { λ b. [] };
+
+    ghost places = { λ code b sound. refl };
+
+    ghost few_places = { λ code b sound. lit≤ tt };
+
+    fn blank(_alloc: Global, _code: &Road) -> Result<Car, AllocError> {
+        Ok(Car {
+            own: ProcId(0),
+            charges: false,
+            last: None,
+        })
+    }
+
+    fn fill(&mut self, _code: &Road, kind: u32, _args: Args) {
+        self.own = ProcId(0);
+        self.charges = kind == 0;
+        self.last = None;
+    }
+
+    fn own(&mut self, id: ProcId) {
+        self.own = id;
+    }
+
+    fn poll(&mut self, _code: &Road, _now: i64, signal: Signal) -> Op {
+        match &self.last {
+            None => {
+                if self.charges {
+                    self.last = Some(Op::Enter(0, 0, false));
+                    return Op::Enter(0, 0, false);
+                }
+            }
+            Some(Op::Enter(..)) => match signal {
+                Signal::Raised(_) => {}
+                _ => {
+                    self.last = Some(Op::Leave);
+                    return Op::Leave;
+                }
+            },
+            Some(_) => {}
+        }
+        self.last = Some(Op::Finish(0));
+        Op::Finish(0)
+    }
+
+    fn place(&self, _at: u8) -> EventId {
+        EventId(0)
+    }
+}
