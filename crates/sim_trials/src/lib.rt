@@ -1,17 +1,16 @@
-//! Public calls, tried where memory is ample: that they succeed there, and that devices really read, write, flush and fail, is
-//! in no clause. A file has the trials of one crate, or of a part of it.
+//! Public calls, tried where memory is ample: that they succeed there, and that devices really read, write, flush and
+//! fail, is in no clause. A file has the trials of one crate, or of a part of it. What a text and its answer can show is
+//! a row of `sim_rows`, and no trial.
 #![tactic(auto)]
 
 #[cfg(test)]
 mod agenda;
 #[cfg(test)]
-mod code;
-#[cfg(test)]
 mod desk;
 #[cfg(test)]
 mod devices;
 #[cfg(test)]
-mod lines;
+mod records;
 #[cfg(test)]
 mod sinks;
 #[cfg(test)]
