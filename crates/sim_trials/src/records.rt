@@ -1,4 +1,7 @@
 //! Live processes and their records.
+ghost use Rattle.std.specs.Prelude.{◌<◌};
+ghost use Rattle.sim_machine.specs.NumberBounds.{most_events};
+
 use sim_procs::{ProcRecord, Procs};
 use sim_types::{EventId, ProcId, Scope};
 use std::process::Abort;
@@ -8,7 +11,9 @@ use std::test::Fail;
 const REQUEST: EventId = EventId(21);
 
 /// A process more, which waits for an event and has a scope open.
-fn comes(rt: &impl Abort, procs: &mut Procs<u8>, id: ProcId, target: u64) {
+fn comes(rt: &impl Abort, procs: &mut Procs<u8>, id: ProcId, target: u64)
+    requires { id.0 < most_events }
+{
     assert!(rt; procs.reserve().is_ok());
     assert!(rt; !procs.is_alive(id));
     procs.add(id, 0, EventId(target));
