@@ -1,5 +1,5 @@
 -- What contracts see of an agenda (SimPy's Environment has a queue that is a heap).
-use Rattle.std.specs.Prelude.{◌≡◌, ◌<◌, ℕ, Option, List, [], ◌∷◌, length, slice_index_or, All, MatchOption}
+use Rattle.std.specs.Prelude.{◌≡◌, ℕ, Option, List, [], ◌∷◌, All, MatchOption}
 use Rattle.std.specs.List.Sorted.{IsPermutation}
 use Rattle.sim_types.specs.Keys.{IsLess}
 use Rattle.sim_types.specs.declared.event.Entry.{Entry}
@@ -8,11 +8,6 @@ use Rattle.sim_types.specs.declared.event.Entry.{Entry}
 pub record AgendaOf : Type 0 where
   pub entries : List Entry
   pub spare : ℕ
-
--- no entry comes before the one at this place
-abbrev pub IsFirstPlace : List Entry → ℕ → Type 0
-IsFirstPlace entries i =
-    (k : ℕ) (d : Entry) → k < length entries → ¬ IsLess (slice_index_or entries k d).key (slice_index_or entries i d).key
 
 -- an entry that no other comes before is taken out
 pub record TakesFirst (old : List Entry) (x : Entry) (new : List Entry) : Type 0 where

@@ -1,12 +1,14 @@
-ghost use Rattle.std.specs.Prelude.{◌≡◌, ◌↔◌, ◌+◌, ◌<◌, ◌≤◌, [], ◌∷◌, length, IsTrue, IsOk, OnOk, IfSome};
+ghost use Rattle.std.specs.Prelude.{◌≡◌, ◌↔◌, ◌+◌, ◌<◌, ◌≤◌, ◌^◌, [], ◌∷◌, length, IsTrue, IsOk, OnOk, IfSome};
 ghost use Rattle.std.specs.List.Sorted.{IsPermutation};
-ghost use Rattle.sim_agenda.specs.Agendas.{IsFirstPlace, PopsFirst};
+ghost use Rattle.sim_agenda.specs.Agendas.{PopsFirst};
+ghost use Rattle.sim_agenda.specs.Comparisons.{most_comparisons};
 
+use crate::heap::{put_first_last, put_last_in};
 use sim_types::{Count, Entry};
 use std::alloc::{AllocError, Global};
 use std::marker::Model;
 
-/// The entries of what is scheduled, in no order that counts. The one that is due is searched for.
+/// The entries of what is scheduled, in no order that counts. No entry comes before the first.
 #[derive(Drop)]
 pub struct Agenda {
     entries: Vec<Entry>,
@@ -15,6 +17,7 @@ pub struct Agenda {
 impl Model for Agenda {
     ghost use Rattle.std.specs.Prelude.{◌-◌, vec_len, vec_capacity};
     ghost use Rattle.sim_agenda.specs.Agendas.{AgendaOf};
+    ghost use Rattle.sim_agenda.specs.Heaps.{IsHeap};
 
     ghost Value = { AgendaOf };
 
@@ -22,22 +25,8 @@ impl Model for Agenda {
       entries = a.entries.items;
       spare = vec_capacity a.entries - vec_len a.entries;
     } };
-}
 
-// The place of the entry that no other comes before.
-fn first_place(entries: &[Entry]) -> usize
-    requires { 0 < length entries.now }
-    ensures within { result < length entries.now }
-    ensures first { IsFirstPlace entries.now result }
-{
-    let mut count = Count::new();
-    let mut first = 0;
-    for at in 1..entries.len() {
-        if entries[at].key.less(&entries[first].key, &mut count) {
-            first = at;
-        }
-    }
-    first
+    ghost invariant = { λ a. IsHeap a.entries.items };
 }
 
 impl Agenda {
@@ -60,14 +49,24 @@ impl Agenda {
         self.entries.reserve(more)
     }
 
-    /// An entry more.
-    #[tactic(auto, using(crate::proofs::Due::entry_added))]
-    pub fn insert(&mut self, entry: Entry)
+    /// An entry more. It takes no memory.
+    pub fn push(&mut self, entry: Entry, count: &mut Count)
         requires room { 1 ≤ self.old.spare }
+        requires count { count.old ≤ 2 ^ 63 }
         ensures entries { IsPermutation (entry ∷ self.old.entries) self.new.entries }
         ensures spare { self.new.spare + 1 ≡ self.old.spare }
+        ensures rises { count.old ≤ count.new }
+        ensures count { count.new ≤ count.old + most_comparisons (length self.old.entries) }
     {
         self.entries.push_reserved(entry);
+        put_last_in(&mut self.entries, count);
+    }
+
+    /// How many entries there are.
+    pub fn len(&self) -> u64
+        ensures { result ≡ length self.now.entries }
+    {
+        self.entries.len() as u64
     }
 
     /// Whether nothing is scheduled.
@@ -77,16 +76,18 @@ impl Agenda {
         self.entries.is_empty()
     }
 
-    /// Takes the entry out that is due: no other comes before it.
-    #[tactic(auto, using(crate::proofs::Due::first_taken))]
-    pub fn pop(&mut self) -> Option<Entry>
+    /// Takes the entry out that is due: no other comes before it. It takes no memory.
+    pub fn pop(&mut self, count: &mut Count) -> Option<Entry>
+        requires count { count.old ≤ 2 ^ 63 }
         ensures due { PopsFirst result self.old self.new }
         ensures spare { IfSome result (λ x. self.new.spare ≡ self.old.spare + 1) }
+        ensures rises { count.old ≤ count.new }
+        ensures count { count.new ≤ count.old + most_comparisons (length self.old.entries) }
     {
         if self.entries.is_empty() {
             return None;
         }
-        let first = first_place(self.entries.as_slice());
-        Some(self.entries.swap_remove(first))
+        put_first_last(&mut self.entries, count);
+        self.entries.pop()
     }
 }

@@ -2,5 +2,6 @@
 #![tactic(auto)]
 
 mod agenda;
+mod heap;
 
 pub use agenda::Agenda;

@@ -1,4 +1,4 @@
-ghost use Rattle.std.specs.Prelude.{◌≡◌, ◌↔◌, IsTrue, ◌+◌, ◌<◌, ◌≤◌, ◌^◌, pos, ◌≤ℤ◌, ◌+ℤ◌, length, IfOk, OnOk, [], not, ◌==◌};
+ghost use Rattle.std.specs.Prelude.{◌≡◌, ◌↔◌, IsTrue, ◌+◌, ◌<◌, ◌≤◌, ◌^◌, pos, ◌≤ℤ◌, ◌+ℤ◌, length, IfNone, IfOk, OnOk, [], not, ◌==◌};
 ghost use Rattle.std.specs.VecDeque.{deque_capacity};
 ghost use Rattle.sim_machine.specs.Events as events;
 ghost use Rattle.sim_machine.specs.Triggering as triggering;
@@ -9,13 +9,13 @@ ghost use Rattle.sim_happen.specs.Popping.{PopsDue};
 
 use crate::event::{Event, Registration};
 use sim_agenda::Agenda;
-use sim_types::{Callback, Entry, EventId, EventKind, Key, Line, Outcome, Signal};
+use sim_types::{Callback, Count, Entry, EventId, EventKind, Key, Line, Outcome, Signal};
 use std::alloc::{AllocError, Global};
 use std::collections::VecDeque;
 use std::marker::Model;
 
-/// Time and what happens in it, in plain lists: each event stands at its number, and the agenda is searched. Times and
-/// delays are whole numbers, and their unit is the model's own.
+/// Time and what happens in it, in plain lists: each event stands at its number. Times and delays are whole numbers, and
+/// their unit is the model's own.
 #[derive(Drop)]
 pub struct Calendar {
     time: i64,
@@ -200,7 +200,7 @@ impl Calendar {
     {
         let key = Key::new(self.time + delay, priority, self.scheduled);
         self.scheduled += 1;
-        self.agenda.insert(Entry { key, event });
+        self.agenda.push(Entry { key, event }, &mut Count::new());
         self.events[event.0 as usize].trigger(outcome);
     }
 
@@ -248,8 +248,9 @@ impl Calendar {
         requires room { length self.old.calendar.registered ≤ deque_capacity left.old }
         requires made { AreEntriesMade self.old.calendar }
         ensures popped { PopsDue result self.old.calendar self.new.calendar left.new.items }
+        ensures none { IfNone result (self.new ≡ self.old) }
     {
-        let Entry { key, event } = self.agenda.pop()?;
+        let Entry { key, event } = self.agenda.pop(&mut Count::new())?;
         let (time, priority, number) = key.parts();
         let (kind, outcome) = self.process(event);
         self.time = time;

@@ -14,4 +14,4 @@ returns-clause-calendar c =
     let a : FitsSigned w64 inside.time = search rules in
     let b : FitsSigned w64 c.args.delay = search rules in
     let time = sum_kept inside.time c.args.delay a b (time_fits inside.time c.args.delay low c.requires.not_past high) in
-    rw (← c.self.view_is) (schedule_same inside c.args.event c.args.outcome c.args.priority c.args.delay _ c.index_mut.result.now c.trigger.new.self c.insert.new.self.entries time (rw c.new-key.ensures at c.insert.ensures.entries) (c.index_mut.ensures.value ∙ changed_at inside.events c.args.event.0 c.index_mut.result.now (pending_event kind.Plain) (rw (← c.self.view_is) at c.requires.made)) c.trigger.ensures)
+    rw (← c.self.view_is) (schedule_same inside c.args.event c.args.outcome c.args.priority c.args.delay _ c.index_mut.result.now c.trigger.new.self c.push.new.self.entries time (rw c.new-key.ensures at c.push.ensures.entries) (c.index_mut.ensures.value ∙ changed_at inside.events c.args.event.0 c.index_mut.result.now (pending_event kind.Plain) (rw (← c.self.view_is) at c.requires.made)) c.trigger.ensures)

@@ -1,0 +1,16 @@
+use Rattle.std.proofs.Common.{◌-◌, ◌<◌, length}
+use Rattle.sim_agenda.specs.Comparisons.{ComparesAtLevels}
+use Rattle.sim_agenda.specs.Heaps.{IsReached}
+use Rattle.sim_agenda.proofs.heap.bottom.Given as goal
+
+-- the place is reached with at most one comparison for each level
+abbrev pub invariant-loop-place : goal.invariant-loop-place
+invariant-loop-place l =
+    record {
+      within : l.place < length l.entries;
+      reached : IsReached l.entries l.place;
+      count : ComparesAtLevels l.place l.initial.count l.count;
+    }
+
+abbrev pub decreases-loop-place : goal.decreases-loop-place
+decreases-loop-place l = length l.entries - l.place
