@@ -1,35 +1,33 @@
 -- A slot is given back with what it has, where its event is not to be kept.
-use Rattle.std.proofs.Common.{◌≡◌, ◌≢◌, ℕ, suc, ◌+◌, ◌-◌, ◌≤◌, min, Bool, true, false, List, [], length, set, Option, Some, None, is_some, IsSome, IsTrue, cond, refl, sym, ap, ◌∙◌, arith}
+use Rattle.std.proofs.Common.{◌≡◌, ℕ, suc, ◌+◌, ◌-◌, min, Bool, true, false, [], length, set, Some, None, is_some, cond, refl, sym, ap, ◌∙◌, arith}
 use Rattle.std.specs.Option.{option_map}
 use Rattle.std.proofs.lemmas.Option.{same_Some}
-use Rattle.std.proofs.lemmas.Bool.{false≢true}
 use Rattle.slab.specs.Slab.{Slab, get, slab_len, Updates, with_value, HasRoomFor}
 use Rattle.sim_index.specs.IndexOf.{IndexOf, place_of_number}
 use Rattle.sim_types.specs.declared.event.EventId.{EventId}
 use Rattle.sim_machine.specs.State.{ConditionOf}
-use Rattle.sim_machine.specs.Standing.{one_if}
-use Rattle.sim_events.specs.declared.chain.Chain.{Chain}
+use Rattle.sim_chains.specs.declared.chain.Chain.{Chain}
 use Rattle.sim_events.specs.declared.slot.Slot.{Slot}
 use Rattle.sim_events.specs.declared.store.Store.{Store}
-use Rattle.sim_events.specs.Chains.{callbacks_in, IsChain, KeepsOthers}
+use Rattle.sim_chains.specs.Chains.{callbacks_in, spare_in, IsChain}
+use Rattle.sim_chains.specs.Keeping.{KeepsOthers}
 use Rattle.sim_events.specs.Slots.{kept_in, condition_in, is_slot_needed}
-use Rattle.sim_events.specs.Stores.{spare_of, kept_by_key, events_in, table_of, HasPart, IsStored, IsStore, ArePlaced, IsSoundTable, GivesBack, Forgets, ForgetsSlot, FreesPart}
-use Rattle.sim_events.specs.TableOf.{Kept, TableOf, IsKept, is_needed, kept_at, kept_count, kept_and_spare}
-use Rattle.sim_events.specs.Changes.{change_kept, change_or_forget, callbacks_freed, conditions_freed}
+use Rattle.sim_events.specs.Stores.{spare_of, kept_by_key, events_in, table_of, IsStored, ArePlaced, IsSoundTable, GivesBack, ForgetsSlot, FreesPart}
+use Rattle.sim_events.specs.TableOf.{Kept, IsKept, is_needed, kept_at, kept_count, kept_and_spare}
+use Rattle.sim_events.specs.Changes.{change_or_forget, callbacks_freed, conditions_freed}
 use Rattle.sim_events.proofs.Slabs.{with_value_len, there_from}
-use Rattle.sim_events.proofs.Links.{length_from}
 use Rattle.sim_events.proofs.Nodes.{KeepsNodes, nodes_relinked}
 use Rattle.sim_events.proofs.Parts.{KeepsParts, parts_same, parts_updated, free_own}
 use Rattle.sim_events.proofs.Storing.{stored_with, others_with}
 use Rattle.sim_events.proofs.Placing.{event_found, kept_found, kept_is_placed, placed_less, events_less}
-use Rattle.sim_events.proofs.KeptLists.{kept_is, count_changed, kept_changed, still_kept, forgotten_changed, forgotten_needed, forgotten_unneeded, count_forgotten, needed_forgotten}
+use Rattle.sim_events.proofs.KeptLists.{kept_is, count_changed, kept_changed, forgotten_changed, forgotten_needed, forgotten_unneeded, count_forgotten, needed_forgotten}
 use Rattle.sim_events.proofs.Rewriting.{Rewrites, is_kept}
 
 -- ---- the store
 
 module _ (s : Store) (calls : Chain) (w : IsStored s calls) (key : ℕ) (x : Slot) (found : get s.slots key ≡ Some x) where
   pub chain_there : IsChain s.nodes x.callbacks
-  chain_there = record { owner = w.owner; rank = w.rank; whose = suc key; linked = w.chains key x found }
+  chain_there = record { owners = w.owners; whose = suc key; linked = w.chains key x found }
 
   pub condition_there : is_some (condition_in s.parts x) ≡ x.is_condition
   condition_there = go x.is_condition refl
@@ -50,11 +48,11 @@ module _ (s : Store) (calls : Chain) (w : IsStored s calls) (key : ℕ) (x : Slo
 
   pub gives_back : (new : Store) (chain : Chain) → Updates s.slots new.slots key None → slab_len new.slots + 1 ≡ slab_len s.slots
       → new.slots.capacity ≡ s.slots.capacity → KeepsOthers s.nodes x.callbacks new.nodes chain
-      → slab_len new.nodes + x.callbacks.count ≡ slab_len s.nodes → new.nodes.capacity ≡ s.nodes.capacity
+      → spare_in new.nodes ≡ spare_in s.nodes + length (callbacks_in s.nodes x.callbacks)
       → FreesPart x.is_condition x.part s.parts new.parts → GivesBack s key new calls
-  gives_back new chain updates len capacity others nodes_len nodes_capacity f =
-      let r = others w.owner w.rank (suc key) (w.chains key x found) in
-      let n : KeepsNodes s.nodes new.nodes w.owner w.rank key None calls = nodes_relinked s.nodes new.nodes w.owner w.rank key None calls chain r (λ y is. absurd (cc)) w.left (omega (arith, w.nodes_fit)) in
+  gives_back new chain updates len capacity others spare f =
+      let r = others w.owners (suc key) (w.chains key x found) in
+      let n : KeepsNodes s.nodes new.nodes w.owners key None calls = nodes_relinked s.nodes new.nodes w.owners key None calls chain r (λ y is. absurd (cc)) w.left in
       let p = parts_freed new.parts f in
       let is : kept_by_key s key ≡ Some (kept_in s.nodes s.parts x) = ap (option_map (kept_in s.nodes s.parts)) found in
       record {
@@ -63,7 +61,7 @@ module _ (s : Store) (calls : Chain) (w : IsStored s calls) (key : ℕ) (x : Slo
         others = others_with s new calls calls w key None updates n p;
         left = r.same 0 calls (λ e. omega (arith, e)) w.left;
         slots = omega (arith, w.slots_fit);
-        nodes = λ k h. let same = same_Some _ k (sym is ∙ h) in rw (sym same) (omega (arith, w.nodes_fit, length_from s.nodes x.callbacks.count x.callbacks.first));
+        nodes = λ k h. let same = same_Some _ k (sym is ∙ h) in rw (sym same) spare;
         parts = λ k h. let same = same_Some _ k (sym is ∙ h) in rw (sym same, condition_there) (omega (arith, w.parts_fit, f.len, f.capacity));
       }
 
@@ -120,7 +118,7 @@ pub record Forgotten (index : IndexOf) (old : Store) (was : Chain) (later : Inde
   pub events : events_in later.places new ≡ change_or_forget e change (events_in index.places old)
   pub left : callbacks_in new.nodes calls ≡ callbacks_in old.nodes calls
   pub all : kept_and_spare (table_of later new calls) ≡ kept_and_spare (table_of index old was)
-  pub callbacks : spare_of new.nodes ≡ spare_of old.nodes + callbacks_freed (change (kept_at (events_in index.places old) e))
+  pub callbacks : spare_in new.nodes ≡ spare_in old.nodes + callbacks_freed (change (kept_at (events_in index.places old) e))
   pub conditions : spare_of new.parts ≡ spare_of old.parts + conditions_freed (change (kept_at (events_in index.places old) e))
 
 module _ (index later : IndexOf) (old mid new : Store) (left calls : Chain) (t : IsSoundTable index.places old left) (e : EventId) (key : ℕ) (change : Kept → Kept) where
@@ -137,7 +135,7 @@ module _ (index later : IndexOf) (old mid new : Store) (left calls : Chain) (t :
         events = events;
         left = d.forgets.left ∙ ap (λ ns. callbacks_in ns calls) nodes;
         all = d.forgets.all ∙ rw (count, slots) refl;
-        callbacks = d.forgets.callbacks ∙ ap (λ ns. spare_of ns + callbacks_freed (kept_at (events_in index.places mid) e)) nodes ∙ ap (λ k. spare_of old.nodes + callbacks_freed k) is;
+        callbacks = d.forgets.callbacks ∙ ap (λ ns. spare_in ns + callbacks_freed (kept_at (events_in index.places mid) e)) nodes ∙ ap (λ k. spare_in old.nodes + callbacks_freed k) is;
         conditions = d.forgets.conditions ∙ ap (λ n. n + conditions_freed (kept_at (events_in index.places mid) e)) parts ∙ ap (λ k. spare_of old.parts + conditions_freed k) is;
       }
 

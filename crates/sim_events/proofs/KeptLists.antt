@@ -1,8 +1,8 @@
 -- Lists of kept events, as one event changes, comes or goes.
-use Rattle.std.proofs.Common.{◌≡◌, ◌≢◌, ℕ, suc, ◌+◌, ◌<◌, Bool, true, false, List, [], ◌∷◌, ◌++◌, length, get_or, set, Option, Some, None, is_some, IsSome, IsTrue, cond, count_by, refl, sym, ap, ◌∙◌, inl, inr, arith, not, ◌||◌}
+use Rattle.std.proofs.Common.{◌≡◌, ◌+◌, ◌<◌, Bool, true, false, List, [], ◌∷◌, ◌++◌, length, get_or, set, Option, Some, None, is_some, IsSome, IsTrue, cond, refl, sym, ap, ◌∙◌, inl, inr, arith, not, ◌||◌}
 use Rattle.std.proofs.lemmas.Bool.{cases_eq, cases_lt, false≢true, lt-ltb}
 use Rattle.std.proofs.lemmas.List.{get_or-set_same, get_or-set_other, get_or_append_left, get_or_push, get_or_past, length_push, set-set, set-get_or}
-use Rattle.std.proofs.lemmas.List.Sums.{sum_by-set, sum_by_push}
+use Rattle.std.proofs.lemmas.List.Sums.{sum_by-set}
 use Rattle.sim_types.specs.declared.event.EventId.{EventId}
 use Rattle.sim_events.specs.TableOf.{Kept, kept_at, kept_or_new, IsKept, AreNeeded, is_needed, kept_count}
 use Rattle.sim_events.specs.Changes.{change_kept, change_or_forget, some_if_needed}

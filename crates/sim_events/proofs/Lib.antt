@@ -1,10 +1,5 @@
 -- slabs
 pub mod Slabs
--- chains of callbacks
-pub mod Links
-pub mod Relinking
-pub mod Finding
-pub mod Freeing
 -- the store: what one slot's change leaves of all others
 pub mod Nodes
 pub mod Parts

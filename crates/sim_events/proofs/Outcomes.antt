@@ -1,14 +1,14 @@
 -- An event gets its outcome.
-use Rattle.std.proofs.Common.{◌≡◌, ℕ, List, Option, Some, refl, ap}
+use Rattle.std.proofs.Common.{◌≡◌, ℕ, List, Option, Some, refl}
 use Rattle.slab.specs.Slab.{get, with_value}
 use Rattle.sim_index.specs.IndexOf.{place_of_number}
 use Rattle.sim_types.specs.declared.event.EventId.{EventId}
 use Rattle.sim_types.specs.declared.event.Outcome.{Outcome}
 use Rattle.sim_types.specs.declared.event.Outcome.TheVariants as outcome
-use Rattle.sim_events.specs.declared.chain.Chain.{Chain}
+use Rattle.sim_chains.specs.declared.chain.Chain.{Chain}
 use Rattle.sim_events.specs.declared.slot.Slot.{Slot}
 use Rattle.sim_events.specs.declared.store.Store.{Store}
-use Rattle.sim_events.specs.Slots.{kept_in, slot_with_outcome}
+use Rattle.sim_events.specs.Slots.{slot_with_outcome}
 use Rattle.sim_events.specs.Stores.{IsSoundTable}
 use Rattle.sim_events.specs.Changes.{with_outcome}
 use Rattle.sim_events.proofs.Rewriting.{Rewrites, rewrites_slot}

@@ -1,5 +1,5 @@
 -- Which events contracts see, as places, and the slots at them, come, change and go.
-use Rattle.std.proofs.Common.{◌≡◌, ◌≢◌, ℕ, zero, suc, ◌+◌, ◌-◌, ◌<◌, ◌≤◌, Bool, true, List, [], ◌∷◌, ◌++◌, length, get_or, set, map, replicate, Option, Some, None, is_some, IsSome, cond, count_by, refl, sym, ap, ◌∙◌, inl, inr, ◌⊎◌, arith}
+use Rattle.std.proofs.Common.{◌≡◌, ◌≢◌, ℕ, suc, ◌-◌, ◌<◌, true, List, [], ◌∷◌, ◌++◌, length, get_or, set, Option, Some, None, is_some, IsSome, cond, count_by, refl, sym, ap, ◌∙◌, inl, inr, ◌⊎◌, arith}
 use Rattle.std.specs.Prelude.{option_and_then}
 use Rattle.std.specs.Option.{option_map}
 use Rattle.std.proofs.Math.ListN.{get_or-map}
@@ -7,14 +7,14 @@ use Rattle.std.proofs.lemmas.Bool.{cases_eq, cases_lt, false≢true}
 use Rattle.std.proofs.lemmas.Option.{same_Some}
 use Rattle.std.proofs.lemmas.List.{length-map, length-set, length_push, get_or-set_same, get_or-set_other, get_or_append_left, get_or_push, get_or_past, ext_get_or, append-nil, map-append}
 use Rattle.std.proofs.lemmas.List.Sums.{sum_by-cons}
-use Rattle.slab.specs.Slab.{Slab, get, Updates}
+use Rattle.slab.specs.Slab.{get, Updates}
 use Rattle.sim_index.specs.IndexOf.{place_of_number, with_number}
 use Rattle.sim_types.specs.declared.event.EventId.{EventId}
 use Rattle.sim_events.specs.declared.slot.Slot.{Slot}
 use Rattle.sim_events.specs.declared.store.Store.{Store}
 use Rattle.sim_events.specs.Slots.{kept_in}
 use Rattle.sim_events.specs.Stores.{kept_by_key, events_in, ArePlaced}
-use Rattle.sim_events.specs.TableOf.{Kept, kept_at, kept_or_new, kept_count}
+use Rattle.sim_events.specs.TableOf.{kept_at, kept_or_new, kept_count}
 use Rattle.sim_events.proofs.Slabs.{vacant_apart}
 
 -- ---- an event is read

@@ -8,12 +8,13 @@ use Rattle.slab.proofs.SlabLemmas.{Updates-with_value}
 use Rattle.sim_index.specs.IndexOf.{place_of_number}
 use Rattle.sim_types.specs.declared.event.EventId.{EventId}
 use Rattle.sim_machine.specs.State.{ConditionOf}
-use Rattle.sim_events.specs.declared.chain.Node.{Node}
-use Rattle.sim_events.specs.declared.chain.Chain.{Chain}
+use Rattle.sim_chains.specs.declared.chain.Node.{Node}
+use Rattle.sim_chains.specs.declared.chain.Chain.{Chain}
 use Rattle.sim_events.specs.declared.slot.Slot.{Slot}
 use Rattle.sim_events.specs.declared.store.Store.{Store}
-use Rattle.sim_events.specs.Chains.{IsChain, Relinked}
-use Rattle.sim_events.specs.Slots.{kept_in, condition_in}
+use Rattle.sim_chains.specs.Chains.{IsChain, IsEmpty}
+use Rattle.sim_chains.specs.Keeping.{Relinked, MayBePassedOn}
+use Rattle.sim_events.specs.Slots.{kept_in}
 use Rattle.sim_events.specs.Stores.{events_in, HasPart, IsStored, ArePlaced, IsSoundTable}
 use Rattle.sim_events.specs.TableOf.{Kept, IsKept, is_needed, kept_at}
 use Rattle.sim_events.specs.Changes.{change_kept, with_processed}
@@ -45,7 +46,7 @@ sound_rewritten places old new left calls t e key at change r needed = record {
 
 module _ (places : List (Option ℕ)) (old new : Store) (left calls : Chain) (t : IsSoundTable places old left) (e : EventId) (key : ℕ) (x y : Slot) (change : Kept → Kept) where
   pub rewrites : place_of_number e.0 places ≡ Some key → get old.slots key ≡ Some x → Updates old.slots new.slots key (Some y) → HasRoomFor new.slots 0
-      → KeepsNodes old.nodes new.nodes t.stored.owner t.stored.rank key (Some y) calls → KeepsParts old.parts new.parts t.stored.part_owner key (Some y)
+      → KeepsNodes old.nodes new.nodes t.stored.owners key (Some y) calls → KeepsParts old.parts new.parts t.stored.part_owner key (Some y)
       → kept_in new.nodes new.parts y ≡ change (kept_in old.nodes old.parts x) → Rewrites places old new calls e change
   rewrites at found updates fit n p is =
       let others = others_with old new left calls t.stored key (Some y) updates n p in
@@ -71,21 +72,21 @@ module _ (places : List (Option ℕ)) (s : Store) (left : Chain) (t : IsSoundTab
   pub rewrites_slot : (y : Slot) (change : Kept → Kept) → y.callbacks ≡ x.callbacks → y.is_condition ≡ x.is_condition → y.part ≡ x.part
       → kept_in s.nodes s.parts y ≡ change (kept_in s.nodes s.parts x) → Rewrites places s (record s { slots = with_value s.slots key y }) left e change
   rewrites_slot y change chain condition part is =
-      let linked = nodes_same s.nodes t.stored.owner t.stored.rank key (Some y) left (λ z is. rw (sym (same_Some y z is), chain) (t.stored.chains key x found)) t.stored.left t.stored.nodes_fit in
+      let linked = nodes_same s.nodes t.stored.owners key (Some y) left (λ z is. rw (sym (same_Some y z is), chain) (t.stored.chains key x found)) t.stored.left in
       rewrites places s (record s { slots = with_value s.slots key y }) left left t e key x y change at found (Updates-with_value s.slots key y (there_from s.slots key x found)) (still_fit y) linked (own_parts y condition part) is
 
   -- its chain
   pub own_chain : IsChain s.nodes x.callbacks
-  own_chain = record { owner = t.stored.owner; rank = t.stored.rank; whose = suc key; linked = t.stored.chains key x found }
+  own_chain = record { owners = t.stored.owners; whose = suc key; linked = t.stored.chains key x found }
 
   pub rewrites_chain : (nodes : Slab Node) (chain : Chain) (change : Kept → Kept)
-      → (r : Relinked s.nodes nodes t.stored.owner t.stored.rank (suc key) chain) → HasRoomFor nodes 0
+      → (r : Relinked s.nodes nodes t.stored.owners (suc key) chain)
       → kept_in nodes s.parts (record x { callbacks = chain }) ≡ change (kept_in s.nodes s.parts x)
       → Rewrites places s (record s { slots = with_value s.slots key (record x { callbacks = chain }); nodes = nodes }) left e change
-  rewrites_chain nodes chain change r fit is =
+  rewrites_chain nodes chain change r is =
       let y : Slot = record x { callbacks = chain } in
       let new : Store = record s { slots = with_value s.slots key y; nodes = nodes } in
-      let linked = nodes_relinked s.nodes nodes t.stored.owner t.stored.rank key (Some y) left chain r (λ z is. ap (λ (a : Slot). a.callbacks) (sym (same_Some y z is))) t.stored.left fit in
+      let linked = nodes_relinked s.nodes nodes t.stored.owners key (Some y) left chain r (λ z is. ap (λ (a : Slot). a.callbacks) (sym (same_Some y z is))) t.stored.left in
       rewrites places s new left left t e key x y change at found (Updates-with_value s.slots key y (there_from s.slots key x found)) (still_fit y) linked (own_parts y refl refl) is
 
   -- its part
@@ -98,18 +99,18 @@ module _ (places : List (Option ℕ)) (s : Store) (left : Chain) (t : IsSoundTab
   rewrites_part now change holds is =
       let new : Store = record s { parts = with_value s.parts x.part now } in
       let updates : Updates s.slots s.slots key (Some x) = record { changed = found; others = λ k apart. refl } in
-      let linked = nodes_same s.nodes t.stored.owner t.stored.rank key (Some x) left (λ z is. rw (sym (same_Some x z is)) (t.stored.chains key x found)) t.stored.left t.stored.nodes_fit in
+      let linked = nodes_same s.nodes t.stored.owners key (Some x) left (λ z is. rw (sym (same_Some x z is)) (t.stored.chains key x found)) t.stored.left in
       let fit : HasRoomFor (with_value s.parts x.part now) 0 = omega (arith, t.stored.parts_fit, with_value_len s.parts x.part now (part_there holds)) in
       let parts = parts_updated s.parts (with_value s.parts x.part now) t.stored.part_owner key x.part (Some now) (Updates-with_value s.parts x.part now (part_there holds)) (Some x) (free_own s.parts t.stored.part_owner key x.part (t.stored.parts key x found holds).mine) (λ z is also. (ap (λ (a : Slot). a.part) (sym (same_Some x z is)), refl)) fit in
       rewrites places s new left left t e key x x change at found updates t.stored.slots_fit linked parts is
 
   -- ---- the event begins: its chain is handed over to what is left to call
 
-  pub rewrites_begun : (y : Slot) → y.callbacks.count ≡ 0 → y.is_condition ≡ x.is_condition → y.part ≡ x.part
+  pub rewrites_begun : (y : Slot) → IsEmpty y.callbacks → MayBePassedOn x.callbacks → y.is_condition ≡ x.is_condition → y.part ≡ x.part
       → kept_in s.nodes s.parts y ≡ with_processed (kept_in s.nodes s.parts x)
       → Rewrites places s (record s { slots = with_value s.slots key y }) x.callbacks e with_processed
-  rewrites_begun y none condition part is =
-      let begun = nodes_begun s.nodes t.stored.owner t.stored.rank key x y (t.stored.chains key x found) none t.stored.nodes_fit in
+  rewrites_begun y none passes condition part is =
+      let begun = nodes_begun s.nodes t.stored.owners key y x.callbacks (passes s.nodes t.stored.owners (suc key) 0 (t.stored.chains key x found)) none in
       rewrites places s (record s { slots = with_value s.slots key y }) left x.callbacks t e key x y with_processed at found (Updates-with_value s.slots key y (there_from s.slots key x found)) (still_fit y) begun (own_parts y condition part) is
 
   -- an event that is seen as a condition has a part

@@ -1,21 +1,18 @@
 -- A store stays in order as one slot changes, and all other events are as they were.
-use Rattle.std.proofs.Common.{◌≡◌, ◌≢◌, ℕ, suc, ◌+◌, ◌-◌, List, length, Option, Some, None, IsSome, is_some, cond, true, false, Bool, refl, sym, ap, ◌∙◌, inl, inr, arith}
+use Rattle.std.proofs.Common.{◌≡◌, ◌≢◌, ℕ, suc, List, Option, Some, None, cond, true, false, Bool, refl, sym, ap, ◌∙◌, inl, inr, arith}
 use Rattle.std.specs.Option.{option_map}
-use Rattle.std.proofs.lemmas.Bool.{cases_eq, false≢true}
-use Rattle.std.proofs.lemmas.Option.{same_Some}
+use Rattle.std.proofs.lemmas.Bool.{cases_eq}
 use Rattle.slab.specs.Slab.{Slab, get, Updates, HasRoomFor}
 use Rattle.sim_types.specs.declared.event.Callback.{Callback}
 use Rattle.sim_machine.specs.State.{ConditionOf}
-use Rattle.sim_machine.specs.Standing.{one_if}
-use Rattle.sim_events.specs.declared.chain.Chain.{Chain}
-use Rattle.sim_events.specs.declared.chain.Node.{Node}
+use Rattle.sim_chains.specs.declared.chain.Chain.{Chain}
+use Rattle.sim_chains.specs.declared.chain.Node.{Node}
 use Rattle.sim_events.specs.declared.slot.Slot.{Slot}
 use Rattle.sim_events.specs.declared.store.Store.{Store}
-use Rattle.sim_events.specs.Chains.{callbacks_in, IsLinked, Relinked}
-use Rattle.sim_events.specs.Slots.{kept_in, outcome_in, condition_in}
-use Rattle.sim_events.specs.Stores.{kept_by_key, HasPart, IsStored}
+use Rattle.sim_chains.specs.Keeping.{Relinked, KeepsAll}
+use Rattle.sim_events.specs.Slots.{kept_in, outcome_in}
+use Rattle.sim_events.specs.Stores.{kept_by_key, IsStored}
 use Rattle.sim_events.specs.TableOf.{Kept}
-use Rattle.sim_events.proofs.Links.{other, other_callbacks}
 use Rattle.sim_events.proofs.Nodes.{KeepsNodes}
 use Rattle.sim_events.proofs.Parts.{KeepsParts}
 
@@ -37,11 +34,10 @@ kept_with x callbacks condition = record {
 pub same_kept : (x : Slot) (cs ds : List Callback) (o p : Option ConditionOf) → cs ≡ ds → o ≡ p → kept_with x cs o ≡ kept_with x ds p
 same_kept x cs ds o p a b = rw (a, b) refl
 
-module _ (old new : Store) (left calls : Chain) (w : IsStored old left) (key : ℕ) (slot : Option Slot) (updates : Updates old.slots new.slots key slot) (n : KeepsNodes old.nodes new.nodes w.owner w.rank key slot calls) (p : KeepsParts old.parts new.parts w.part_owner key slot) where
+module _ (old new : Store) (left calls : Chain) (w : IsStored old left) (key : ℕ) (slot : Option Slot) (updates : Updates old.slots new.slots key slot) (n : KeepsNodes old.nodes new.nodes w.owners key slot calls) (p : KeepsParts old.parts new.parts w.part_owner key slot) where
   pub stored_with : HasRoomFor new.slots 0 → IsStored new calls
   stored_with fit = record {
-    owner = n.owners;
-    rank = n.ranks;
+    owners = n.owners;
     chains = λ k x at. elim (cases_eq k key) [
       | inl here ↦ rw here (n.own x (sym updates.changed ∙ ap (get new.slots) (sym here) ∙ at))
       | inr there ↦ n.others k x.callbacks there (w.chains k x (sym (updates.others k there) ∙ at))
@@ -53,7 +49,6 @@ module _ (old new : Store) (left calls : Chain) (w : IsStored old left) (key : �
       | inr there ↦ p.others k x there (w.parts k x (sym (updates.others k there) ∙ at))
     ];
     slots_fit = fit;
-    nodes_fit = n.fit;
     parts_fit = p.fit;
   }
 
@@ -66,17 +61,15 @@ module _ (old new : Store) (left calls : Chain) (w : IsStored old left) (key : �
 
 -- ---- the callbacks that are left to call change, and no slot
 
-module _ (s : Store) (nodes : Slab Node) (left calls : Chain) (w : IsStored s left) (r : Relinked s.nodes nodes w.owner w.rank 0 calls) where
-  pub stored_called : HasRoomFor nodes 0 → IsStored (record s { nodes = nodes }) calls
-  stored_called fit = record {
-    owner = r.owners;
-    rank = r.ranks;
+module _ (s : Store) (nodes : Slab Node) (left calls : Chain) (w : IsStored s left) (r : Relinked s.nodes nodes w.owners 0 calls) where
+  pub stored_called : IsStored (record s { nodes = nodes }) calls
+  stored_called = record {
+    owners = r.owners;
     chains = λ k x at. r.others (suc k) x.callbacks (λ e. omega (arith, e)) (w.chains k x at);
     left = r.here;
     part_owner = w.part_owner;
     parts = w.parts;
     slots_fit = w.slots_fit;
-    nodes_fit = fit;
     parts_fit = w.parts_fit;
   }
 
@@ -89,23 +82,15 @@ module _ (s : Store) (nodes : Slab Node) (left calls : Chain) (w : IsStored s le
 
 -- ---- there is more room, and all else stays
 
-module _ (old new : Store) (calls : Chain) (w : IsStored old calls) (slots : (k : ℕ) → get new.slots k ≡ get old.slots k) (nodes : (k : ℕ) → get new.nodes k ≡ get old.nodes k) (parts : (k : ℕ) → get new.parts k ≡ get old.parts k) where
-  linked_still : (o : ℕ) (c : Chain) → IsLinked old.nodes w.owner w.rank o c → IsLinked new.nodes w.owner w.rank o c
-  linked_still o c l = record { links = other old.nodes new.nodes w.owner w.rank w.owner w.rank o c.count 0 c.first c.last (λ k m a t. record { same = nodes k; mine = m; after = refl }) l.links }
-
-  pub callbacks_still : (o : ℕ) (c : Chain) → IsLinked old.nodes w.owner w.rank o c → callbacks_in new.nodes c ≡ callbacks_in old.nodes c
-  callbacks_still o c l = other_callbacks old.nodes new.nodes w.owner w.rank w.owner w.rank o c.count 0 c.first c.last (λ k m a t. record { same = nodes k; mine = m; after = refl }) l.links
-
-  pub stored_reserved : HasRoomFor new.slots 0 → HasRoomFor new.nodes 0 → HasRoomFor new.parts 0 → IsStored new calls
-  stored_reserved slots_fit nodes_fit parts_fit = record {
-    owner = w.owner;
-    rank = w.rank;
-    chains = λ k x at. linked_still (suc k) x.callbacks (w.chains k x (sym (slots k) ∙ at));
-    left = linked_still 0 calls w.left;
+module _ (old new : Store) (calls : Chain) (w : IsStored old calls) (slots : (k : ℕ) → get new.slots k ≡ get old.slots k) (nodes : KeepsAll old.nodes new.nodes) (parts : (k : ℕ) → get new.parts k ≡ get old.parts k) where
+  pub stored_reserved : HasRoomFor new.slots 0 → HasRoomFor new.parts 0 → IsStored new calls
+  stored_reserved slots_fit parts_fit = record {
+    owners = w.owners;
+    chains = λ k x at. nodes.linked w.owners (suc k) x.callbacks (w.chains k x (sym (slots k) ∙ at));
+    left = nodes.linked w.owners 0 calls w.left;
     part_owner = w.part_owner;
     parts = λ k x at condition. let p = w.parts k x (sym (slots k) ∙ at) condition in record { there = rw (parts x.part) p.there; mine = p.mine };
     slots_fit = slots_fit;
-    nodes_fit = nodes_fit;
     parts_fit = parts_fit;
   }
 
@@ -118,4 +103,4 @@ module _ (old new : Store) (calls : Chain) (w : IsStored old calls) (slots : (k 
     where
       go : (o : Option Slot) → get old.slots k ≡ o → option_map (kept_in new.nodes new.parts) o ≡ option_map (kept_in old.nodes old.parts) o
       go None at = refl
-      go (Some x) at = ap (λ (k : Kept). Some k) (same_kept x _ _ _ _ (callbacks_still (suc k) x.callbacks (w.chains k x at)) (condition_still x x.is_condition))
+      go (Some x) at = ap (λ (k : Kept). Some k) (same_kept x _ _ _ _ (nodes.same x.callbacks) (condition_still x x.is_condition))

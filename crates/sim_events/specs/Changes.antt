@@ -3,11 +3,11 @@ use Rattle.std.specs.Prelude.{ℕ, ◌+◌, ◌-◌, true, List, [], ◌∷◌, 
 use Rattle.sim_types.specs.declared.event.EventId.{EventId}
 use Rattle.sim_types.specs.declared.event.Outcome.{Outcome}
 use Rattle.sim_types.specs.declared.event.Callback.{Callback}
-use Rattle.sim_machine.specs.State.{EventOf, ConditionOf}
+use Rattle.sim_machine.specs.State.{ConditionOf}
 use Rattle.sim_machine.specs.Events.{without_first}
 use Rattle.sim_machine.specs.Conditions.{condition_of}
 use Rattle.sim_machine.specs.Standing.{one_if}
-use Rattle.sim_events.specs.Callbacks.{is_same_callback}
+use Rattle.sim_chains.specs.Callbacks.{is_same_callback}
 use Rattle.sim_events.specs.TableOf.{Kept, Spare, kept_at, is_needed}
 
 -- the event gets its outcome

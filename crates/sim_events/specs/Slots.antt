@@ -1,16 +1,16 @@
 -- What a slot says of its event.
-use Rattle.std.specs.Prelude.{Bool, not, ◌||◌, nat_lt, ℕ, ℤ, true, false, pos, Option, Some, None, if◌then◌else◌}
+use Rattle.std.specs.Prelude.{Bool, not, ◌||◌, nat_lt, ℕ, ℤ, false, pos, Option, Some, None, if◌then◌else◌}
 use Rattle.slab.specs.Slab.{Slab, get}
 use Rattle.sim_types.specs.declared.event.EventKind.{EventKind}
-use Rattle.sim_types.specs.declared.event.EventKind.TheVariants as kind
 use Rattle.sim_types.specs.declared.event.Outcome.{Outcome}
 use Rattle.sim_types.specs.declared.event.Outcome.TheVariants as outcome
-use Rattle.sim_machine.specs.State.{EventOf, ConditionOf}
-use Rattle.sim_events.specs.declared.chain.Node.{Node}
+use Rattle.sim_machine.specs.State.{ConditionOf}
+use Rattle.sim_chains.specs.declared.chain.Node.{Node}
+use Rattle.sim_chains.specs.declared.chain.Chain.{Chain}
 use Rattle.sim_events.specs.declared.slot.Stage.{Stage}
 use Rattle.sim_events.specs.declared.slot.Stage.TheVariants as stage
 use Rattle.sim_events.specs.declared.slot.Slot.{Slot}
-use Rattle.sim_events.specs.Chains.{callbacks_in}
+use Rattle.sim_chains.specs.Chains.{callbacks_in}
 use Rattle.sim_events.specs.TableOf.{Kept}
 
 abbrev pub outcome_by : Stage → ℤ → ℕ → Option Outcome
@@ -27,12 +27,12 @@ abbrev pub slot_with_outcome : Outcome → Slot → Slot
 slot_with_outcome (outcome.Ok value) x = record x { stage = stage.Succeeded; value = value }
 slot_with_outcome (outcome.Fail t) x = record x { stage = stage.Failed; value = t.value; throw = t.kind }
 
--- the slot of an event that was just made
-abbrev pub new_slot : EventKind → Slot
-new_slot kind = record {
+-- the slot of an event that was just made, with these callbacks
+abbrev pub new_slot : EventKind → Chain → Slot
+new_slot kind callbacks = record {
   value = pos 0;
   holders = 0;
-  callbacks = record { first = 0; last = 0; count = 0 };
+  callbacks = callbacks;
   part = 0;
   kind = kind;
   stage = stage.Pending;

@@ -7,10 +7,10 @@ use Rattle.sim_index.specs.IndexOf.{IndexOf, place_of_number, with_number}
 use Rattle.sim_machine.specs.State.{ConditionOf}
 use Rattle.sim_machine.specs.Standing.{one_if}
 use Rattle.sim_types.specs.declared.event.EventId.{EventId}
-use Rattle.sim_events.specs.declared.chain.Chain.{Chain}
+use Rattle.sim_chains.specs.declared.chain.Chain.{Chain}
 use Rattle.sim_events.specs.declared.slot.Slot.{Slot}
 use Rattle.sim_events.specs.declared.store.Store.{Store}
-use Rattle.sim_events.specs.Chains.{IsLinked, callbacks_in}
+use Rattle.sim_chains.specs.Chains.{callbacks_in, spare_in, Owners, IsLinked}
 use Rattle.sim_events.specs.Slots.{kept_in}
 use Rattle.sim_events.specs.TableOf.{Kept, TableOf, AreNeeded, kept_at, kept_and_spare}
 use Rattle.sim_events.specs.Changes.{change_or_forget, callbacks_freed, conditions_freed}
@@ -34,7 +34,7 @@ table_of index s left = record {
   left = callbacks_in s.nodes left;
   spare = record {
     events = min index.spare (spare_of s.slots);
-    callbacks = spare_of s.nodes;
+    callbacks = spare_in s.nodes;
     conditions = spare_of s.parts;
   };
 }
@@ -51,14 +51,12 @@ HasPart parts owner key x = x.is_condition ≡ true → IsPartOf parts owner key
 -- No two chains have a node in common, and no two slots a part. The callbacks that are left to call belong to owner 0,
 -- those of a slot to the number after its key.
 pub record IsStored (s : Store) (calls : Chain) : Type 0 where
-  pub owner : ℕ → ℕ
-  pub rank : ℕ → ℕ
-  pub chains : (key : ℕ) (x : Slot) → get s.slots key ≡ Some x → IsLinked s.nodes owner rank (suc key) x.callbacks
-  pub left : IsLinked s.nodes owner rank 0 calls
+  pub owners : Owners
+  pub chains : (key : ℕ) (x : Slot) → get s.slots key ≡ Some x → IsLinked s.nodes owners (suc key) x.callbacks
+  pub left : IsLinked s.nodes owners 0 calls
   pub part_owner : ℕ → ℕ
   pub parts : (key : ℕ) (x : Slot) → get s.slots key ≡ Some x → HasPart s.parts part_owner key x
   pub slots_fit : HasRoomFor s.slots 0
-  pub nodes_fit : HasRoomFor s.nodes 0
   pub parts_fit : HasRoomFor s.parts 0
 
 -- the same, whichever callbacks are left to call
@@ -84,7 +82,7 @@ pub record GivesBack (old : Store) (key : ℕ) (new : Store) (calls : Chain) : T
   pub others : (k : ℕ) → k ≢ key → kept_by_key new k ≡ kept_by_key old k
   pub left : callbacks_in new.nodes calls ≡ callbacks_in old.nodes calls
   pub slots : spare_of new.slots ≡ spare_of old.slots + 1
-  pub nodes : (k : Kept) → kept_by_key old key ≡ Some k → spare_of new.nodes ≡ spare_of old.nodes + length k.callbacks
+  pub nodes : (k : Kept) → kept_by_key old key ≡ Some k → spare_in new.nodes ≡ spare_in old.nodes + length k.callbacks
   pub parts : (k : Kept) → kept_by_key old key ≡ Some k
       → spare_of new.parts ≡ spare_of old.parts + one_if (is_some k.event.condition)
 

@@ -2,8 +2,6 @@
 //! are left to call.
 #![tactic(auto)]
 
-mod callback;
-mod chain;
 mod part;
 mod slot;
 mod store;

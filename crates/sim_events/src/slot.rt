@@ -1,7 +1,8 @@
 ghost use Rattle.std.specs.Prelude.{◌≡◌, is_none};
+ghost use Rattle.sim_chains.specs.Chains.{IsEmpty};
 ghost use Rattle.sim_events.specs.Slots.{new_slot, outcome_in, slot_with_outcome, is_slot_needed};
 
-use crate::chain::{Chain, EMPTY};
+use sim_chains::Chain;
 use sim_types::{EventKind, Outcome, Throw};
 
 /// Whether an event has an outcome, and which.
@@ -37,12 +38,13 @@ pub(crate) struct Slot {
 impl Slot {
     /// The slot of a pending event that nobody holds.
     pub(crate) fn new(kind: EventKind) -> Slot
-        ensures { result ≡ new_slot kind }
+        ensures slot { result ≡ new_slot kind result.callbacks }
+        ensures none { IsEmpty result.callbacks }
     {
         Slot {
             value: 0,
             holders: 0,
-            callbacks: EMPTY,
+            callbacks: Chain::new(),
             part: 0,
             kind,
             stage: Stage::Pending,

@@ -1,11 +1,11 @@
 ghost use Rattle.std.specs.Prelude.{◌≡◌, true};
 ghost use Rattle.slab.specs.Slab.{ContainsKey};
-ghost use Rattle.sim_events.specs.declared.chain.Chain.{Chain};
+ghost use Rattle.sim_chains.specs.declared.chain.Chain.{Chain};
 ghost use Rattle.sim_events.specs.Stores.{IsStore, IsStored, GivesBack, FreesPart};
 
-use crate::chain::Node;
 use crate::part::Part;
 use crate::slot::Slot;
+use sim_chains::Nodes;
 use slab::Slab;
 
 /// The slots of the events that are kept, the nodes of their callbacks and of those that are left to call, and what
@@ -13,7 +13,7 @@ use slab::Slab;
 #[derive(Drop)]
 pub(crate) struct Store {
     pub(crate) slots: Slab<Slot>,
-    pub(crate) nodes: Slab<Node>,
+    pub(crate) nodes: Nodes,
     pub(crate) parts: Slab<Part>,
 }
 
@@ -36,7 +36,7 @@ impl Store {
     {
         let slot = self.slots.remove(key);
         let mut callbacks = slot.callbacks;
-        callbacks.free(&mut self.nodes);
+        self.nodes.free(&mut callbacks);
         free_part(&mut self.parts, slot.is_condition, slot.part);
     }
 }

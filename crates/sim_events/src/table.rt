@@ -4,20 +4,20 @@ ghost use Rattle.sim_machine.specs.State.{Every, Either};
 ghost use Rattle.sim_machine.specs.Events.{pending_event, is_same, without_first};
 ghost use Rattle.sim_machine.specs.Conditions.{is_met};
 ghost use Rattle.sim_machine.specs.Standing.{one_if};
-ghost use Rattle.sim_events.specs.Callbacks.{is_same_callback};
+ghost use Rattle.sim_chains.specs.Callbacks.{is_same_callback};
 ghost use Rattle.sim_events.specs.TableOf.{new_kept, first_kept, new_condition, kept_at, kept_condition, IsKept, AreNeeded, kept_count, kept_and_spare};
 ghost use Rattle.sim_events.specs.Changes.{with_outcome, with_defused, with_processed, with_cancelled, on_condition, with_callback, without_callback, with_holder, without_holder, change_kept, change_or_forget, callbacks_freed, conditions_freed, more_events, more_callbacks, more_conditions};
 ghost use Rattle.sim_events.specs.States.{state_of};
-ghost use Rattle.sim_events.specs.Chains.{callbacks_in};
+ghost use Rattle.sim_chains.specs.Chains.{callbacks_in};
 ghost use Rattle.sim_events.specs.Stores.{IsStore, IsStored, ArePlaced, ForgetsSlot, AddsSlot};
-ghost use Rattle.sim_events.specs.declared.chain.Chain.{Chain};
+ghost use Rattle.sim_chains.specs.declared.chain.Chain.{Chain};
 ghost use Rattle.sim_index.specs.IndexOf.{place_of_number};
 ghost use Rattle.slab.specs.Slab.{HasRoomFor};
 
-use crate::chain::{Chain, EMPTY};
 use crate::part::{ConditionValue, Part};
 use crate::slot::Slot;
 use crate::store::Store;
+use sim_chains::{Chain, Nodes};
 use sim_index::Index;
 use sim_types::{Callback, EventId, EventKind, Members, Outcome};
 use slab::Slab;
@@ -123,10 +123,10 @@ impl Table {
             index,
             store: Store {
                 slots,
-                nodes: Slab::new(alloc),
+                nodes: Nodes::new(alloc),
                 parts: Slab::new(alloc),
             },
-            left: EMPTY,
+            left: Chain::new(),
         })
     }
 
@@ -143,7 +143,7 @@ impl Table {
     {
         self.index.reserve(events)?;
         self.store.slots.reserve(events as usize)?;
-        self.store.nodes.reserve(callbacks as usize)
+        self.store.nodes.reserve(callbacks)
     }
 
     /// Makes room for so many more of those events that are conditions.
@@ -312,9 +312,9 @@ impl Table {
         ensures spare { more_callbacks 1 self.new.spare ≡ self.old.spare }
     {
         let key = key_of(&self.index, event);
-        self.store.slots[key]
-            .callbacks
-            .append(&mut self.store.nodes, callback);
+        self.store
+            .nodes
+            .append(&mut self.store.slots[key].callbacks, callback);
     }
 
     /// Takes out the first callback of an event that is the same as this one. False where there is none.
@@ -328,9 +328,9 @@ impl Table {
         ensures spare { self.new.spare ≡ more_callbacks (one_if result) self.old.spare }
     {
         let key = key_of(&self.index, event);
-        self.store.slots[key]
-            .callbacks
-            .take_out(&mut self.store.nodes, callback)
+        self.store
+            .nodes
+            .take_out(&mut self.store.slots[key].callbacks, callback)
     }
 
     /// A triggered event is processed: its callbacks are now those that are left to call. It goes where nobody holds
@@ -355,8 +355,7 @@ impl Table {
         };
         let slot = &mut self.store.slots[key];
         slot.processed = true;
-        self.left = slot.callbacks;
-        slot.callbacks = EMPTY;
+        self.left = slot.callbacks.take();
         forget_unneeded(&mut self.index, &mut self.store, event, key);
     }
 
@@ -368,7 +367,7 @@ impl Table {
         ensures events { self.new.events ≡ self.old.events }
         ensures spare { self.new.spare ≡ more_callbacks (one_if (is_some result)) self.old.spare }
     {
-        self.left.take_first(&mut self.store.nodes)
+        self.store.nodes.take_first(&mut self.left)
     }
 
     /// Takes out the first of the callbacks that are left to call that is the same as this one. False where there is
@@ -379,7 +378,7 @@ impl Table {
         ensures events { self.new.events ≡ self.old.events }
         ensures spare { self.new.spare ≡ more_callbacks (one_if result) self.old.spare }
     {
-        self.left.take_out(&mut self.store.nodes, callback)
+        self.store.nodes.take_out(&mut self.left, callback)
     }
 
     /// One holder more: the event is kept until it is let go.

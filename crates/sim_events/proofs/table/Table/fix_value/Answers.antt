@@ -1,6 +1,6 @@
 use Rattle.std.proofs.Common.{ap}
 use Rattle.sim_machine.specs.State.{ConditionOf}
-use Rattle.sim_events.specs.Chains.{callbacks_in}
+use Rattle.sim_chains.specs.Chains.{callbacks_in}
 use Rattle.sim_events.specs.Changes.{on_condition}
 use Rattle.sim_events.proofs.Parts.{condition_written}
 use Rattle.sim_events.proofs.Storing.{kept_with}

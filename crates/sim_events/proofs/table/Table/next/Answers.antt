@@ -1,15 +1,14 @@
-use Rattle.std.proofs.Common.{arith}
 use Rattle.sim_events.proofs.Extending.{events_called, sound_called}
 use Rattle.sim_events.proofs.table.Table.next.Goals as goal
 
 pub invariant_of-self : goal.invariant_of-self
 invariant_of-self c =
     let t = c.self.invariant in
-    let r = c.take_first.ensures.others t.stored.owner t.stored.rank 0 t.stored.left in
-    sound_called _ c.self.inside.store c.take_first.new.nodes _ c.take_first.new.self t r (omega (arith, t.stored.nodes_fit, c.take_first.ensures.balance, c.take_first.ensures.count, c.take_first.ensures.capacity))
+    let r = c.take_first.ensures.others t.stored.owners 0 t.stored.left in
+    sound_called _ c.self.inside.store c.take_first.new.self _ c.take_first.new.chain t r
 
 pub returns-clause-events : goal.returns-clause-events
 returns-clause-events c =
     let t = c.self.invariant in
-    let r = c.take_first.ensures.others t.stored.owner t.stored.rank 0 t.stored.left in
-    rw (← c.self.view_is) (events_called _ c.self.inside.store c.take_first.new.nodes _ c.take_first.new.self t r)
+    let r = c.take_first.ensures.others t.stored.owners 0 t.stored.left in
+    rw (← c.self.view_is) (events_called _ c.self.inside.store c.take_first.new.self _ c.take_first.new.chain t r)

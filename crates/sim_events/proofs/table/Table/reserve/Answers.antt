@@ -9,12 +9,11 @@ invariant_of-self-in_err-reserve-2 c =
     let t = c.self.invariant in
     let places = ap (λ (i : IndexOf). i.places) c.reserve.ensures.places in
     let slots = c.reserve-2.ensures.rest_kept in
-    rw places (sound_reserved _ c.self.inside.store (record c.self.inside.store { slots = c.reserve-2.new.self }) _ t (reserved_get c.self.inside.store.slots c.reserve-2.new.self slots) (λ k. refl) (λ k. refl) (omega (arith, t.stored.slots_fit, reserved_len c.self.inside.store.slots c.reserve-2.new.self slots, c.reserve-2.ensures.capacity)) t.stored.nodes_fit t.stored.parts_fit)
+    rw places (sound_reserved _ c.self.inside.store (record c.self.inside.store { slots = c.reserve-2.new.self }) _ t (reserved_get c.self.inside.store.slots c.reserve-2.new.self slots) (record { linked = λ w o c l. l; same = λ c. refl }) (λ k. refl) (omega (arith, t.stored.slots_fit, reserved_len c.self.inside.store.slots c.reserve-2.new.self slots, c.reserve-2.ensures.capacity)) t.stored.parts_fit)
 
 pub invariant_of-self-2 : goal.invariant_of-self-2
 invariant_of-self-2 c =
     let t = c.self.invariant in
     let places = ap (λ (i : IndexOf). i.places) c.reserve.ensures.places in
     let slots = c.reserve-2.ensures.rest_kept in
-    let nodes = c.reserve-3.ensures.rest_kept in
-    rw places (sound_reserved _ c.self.inside.store (record c.self.inside.store { slots = c.reserve-2.new.self; nodes = c.reserve-3.new.self }) _ t (reserved_get c.self.inside.store.slots c.reserve-2.new.self slots) (reserved_get c.self.inside.store.nodes c.reserve-3.new.self nodes) (λ k. refl) (omega (arith, t.stored.slots_fit, reserved_len c.self.inside.store.slots c.reserve-2.new.self slots, c.reserve-2.ensures.capacity)) (omega (arith, t.stored.nodes_fit, reserved_len c.self.inside.store.nodes c.reserve-3.new.self nodes, c.reserve-3.ensures.capacity)) t.stored.parts_fit)
+    rw places (sound_reserved _ c.self.inside.store (record c.self.inside.store { slots = c.reserve-2.new.self; nodes = c.reserve-3.new.self }) _ t (reserved_get c.self.inside.store.slots c.reserve-2.new.self slots) c.reserve-3.ensures.chains (λ k. refl) (omega (arith, t.stored.slots_fit, reserved_len c.self.inside.store.slots c.reserve-2.new.self slots, c.reserve-2.ensures.capacity)) t.stored.parts_fit)

@@ -5,13 +5,14 @@ use Rattle.std.proofs.lemmas.Bool.{cases_lt}
 use Rattle.slab.specs.Slab.{Slab, get}
 use Rattle.sim_types.specs.declared.event.Callback.{Callback}
 use Rattle.sim_machine.specs.Events.{without_first}
-use Rattle.sim_events.specs.declared.chain.Node.{Node}
-use Rattle.sim_events.specs.declared.chain.Chain.{Chain}
-use Rattle.sim_events.specs.declared.chain.Found.{Found}
-use Rattle.sim_events.specs.Callbacks.{is_same_callback}
-use Rattle.sim_events.specs.Chains.{node_at, key_at, callbacks_in, IsFoundAt, IsFirstWith, without_at}
-use Rattle.sim_events.proofs.Links.{key_next, from_none, from_any, from_without_first}
-use Rattle.sim_events.proofs.Relinking.{node_read}
+use Rattle.sim_chains.specs.declared.chain.Node.{Node}
+use Rattle.sim_chains.specs.declared.chain.Chain.{Chain}
+use Rattle.sim_chains.specs.declared.chain.Found.{Found}
+use Rattle.sim_chains.specs.Callbacks.{is_same_callback}
+use Rattle.sim_chains.specs.Chains.{node_at, key_at, callbacks_in}
+use Rattle.sim_chains.specs.Places.{IsFirstWith, without_at}
+use Rattle.sim_chains.proofs.Links.{key_next, from_none, from_any, from_without_first}
+use Rattle.sim_chains.proofs.Relinking.{node_read}
 
 -- so many nodes were looked at, and none of them has the callback
 pub record Looked (nodes : Slab Node) (chain : Chain) (wanted : Callback) (place at before : ℕ) : Type 0 where

@@ -1,7 +1,7 @@
 use Rattle.std.proofs.Common.{◌≡◌, sym, ◌∙◌, arith}
-use Rattle.sim_events.proofs.Relinking.{key_there}
-use Rattle.sim_events.proofs.Finding.{looked_more, looked_all}
-use Rattle.sim_events.proofs.chain.Chain.find.Goals as goal
+use Rattle.sim_chains.proofs.Relinking.{key_there}
+use Rattle.sim_chains.proofs.Finding.{looked_more, looked_all}
+use Rattle.sim_chains.proofs.chain.Chain.find.Goals as goal
 
 pub index-node-requires : goal.index-node-requires
 index-node-requires c = rw c.loop-place.invariant.here (key_there c.args.nodes.now c.args.self.now c.loop-place.place c.requires c.loop-place-test.true)

@@ -1,5 +1,5 @@
 ghost use Rattle.std.specs.Prelude.{◌≡◌};
-ghost use Rattle.sim_events.specs.Callbacks.{is_same_callback};
+ghost use Rattle.sim_chains.specs.Callbacks.{is_same_callback};
 
 use sim_types::Callback;
 

@@ -7,8 +7,9 @@ use Rattle.slab.specs.Slab.{Slab, get, slab_len}
 use Rattle.slab.proofs.SlabLemmas.{ContainsKey-within}
 use Rattle.sim_types.specs.declared.event.Callback.{Callback}
 use Rattle.sim_machine.specs.Events.{without_first}
-use Rattle.sim_events.specs.declared.chain.Node.{Node}
-use Rattle.sim_events.specs.Chains.{node_at, callbacks_from, key_at, AreLinked, without_at}
+use Rattle.sim_chains.specs.declared.chain.Node.{Node}
+use Rattle.sim_chains.specs.Chains.{node_at, callbacks_from, key_at, AreLinked}
+use Rattle.sim_chains.specs.Places.{without_at}
 
 pub weaken : (nodes : Slab Node) (owner rank : ℕ → ℕ) (o low low' n at last : ℕ) → low' ≤ low → AreLinked nodes owner rank o low n at last → AreLinked nodes owner rank o low' n at last
 weaken nodes owner rank o low low' zero at last h l = tt
@@ -221,8 +222,3 @@ key_apart nodes owner rank o zero (suc n) low at last h l = λ same.
     let next = key_mine nodes owner rank o 0 n (suc (rank at)) (node_at nodes at).next last (omega arith) l.1 in
     omega (arith, next.after, ap rank same)
 key_apart nodes owner rank o (suc i) (suc n) low at last h l = key_apart nodes owner rank o i n (suc (rank at)) (node_at nodes at).next last (omega arith) l.1
-
--- a chain is handed from one owner to another
-pub handed : (nodes : Slab Node) (owner rank owner' : ℕ → ℕ) (o o' : ℕ) → ((k : ℕ) → owner k ≡ o → owner' k ≡ o') → (n low at last : ℕ) → AreLinked nodes owner rank o low n at last → AreLinked nodes owner' rank o' low n at last
-handed nodes owner rank owner' o o' hands zero low at last l = tt
-handed nodes owner rank owner' o o' hands (suc n) low at last l = (record { there = l.0.there; mine = hands at l.0.mine; after = l.0.after; ends = l.0.ends }, handed nodes owner rank owner' o o' hands n (suc (rank at)) (node_at nodes at).next last l.1)

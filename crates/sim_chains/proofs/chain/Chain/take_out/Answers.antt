@@ -1,7 +1,7 @@
 use Rattle.std.proofs.Common.{sym, ◌∙◌}
-use Rattle.sim_events.proofs.Links.{without_none}
-use Rattle.sim_events.proofs.Finding.{found_any, found_without}
-use Rattle.sim_events.proofs.chain.Chain.take_out.Goals as goal
+use Rattle.sim_chains.proofs.Links.{without_none}
+use Rattle.sim_chains.proofs.Finding.{found_any, found_without}
+use Rattle.sim_chains.proofs.chain.Chain.take_out.Goals as goal
 
 pub returns-in-Some-clause-found : goal.returns-in-Some-clause-found
 returns-in-Some-clause-found c = sym (found_any _ _ _ c.in-Some.found c.in-Some.ensures)

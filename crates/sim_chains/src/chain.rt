@@ -1,11 +1,13 @@
-//! Lists of callbacks that share one slab, so that one more takes no memory beyond what was reserved for all.
+//! A chain of nodes, in the slab that has them.
 ghost use Rattle.std.specs.Prelude.{◌≡◌, ◌≢◌, suc, ◌+◌, ◌-◌, ◌<◌, [], ◌∷◌, ◌++◌, MatchOption, if◌then◌else◌, false};
 ghost use Rattle.std.specs.List.{list_any};
 ghost use Rattle.slab.specs.Slab.{slab_len, HasRoomFor};
 ghost use Rattle.sim_machine.specs.Events.{without_first};
 ghost use Rattle.sim_machine.specs.Standing.{one_if};
-ghost use Rattle.sim_events.specs.Callbacks.{is_same_callback};
-ghost use Rattle.sim_events.specs.Chains.{callbacks_in, IsChain, KeepsOthers, LosesFirst, IsFoundAt, IsFirstWith, without_at};
+ghost use Rattle.sim_chains.specs.Callbacks.{is_same_callback};
+ghost use Rattle.sim_chains.specs.Chains.{callbacks_in, IsChain, IsEmpty};
+ghost use Rattle.sim_chains.specs.Keeping.{KeepsOthers, LosesFirst, MayBePassedOn};
+ghost use Rattle.sim_chains.specs.Places.{IsFoundAt, IsFirstWith, without_at};
 
 use crate::callback::is_same;
 use sim_types::Callback;
@@ -13,14 +15,15 @@ use slab::Slab;
 
 /// A callback, and the key of the next node of its chain, if it is not the last.
 #[derive(Drop)]
-pub(crate) struct Node {
+pub struct Node {
     pub(crate) callback: Callback,
     pub(crate) next: usize,
 }
 
-/// A list of callbacks: the keys of its first and of its last node, which count only where it has any.
+/// A list of callbacks, whose nodes are among many in one `Nodes`: the keys of its first and of its last node, which count
+/// only where it has any.
 #[derive(Clone, Copy)]
-pub(crate) struct Chain {
+pub struct Chain {
     pub(crate) first: usize,
     pub(crate) last: usize,
     pub(crate) count: usize,
@@ -35,14 +38,32 @@ pub(crate) struct Found {
     pub(crate) before: usize,
 }
 
-/// No callbacks.
-pub(crate) const EMPTY: Chain = Chain {
+// No callbacks.
+const EMPTY: Chain = Chain {
     first: 0,
     last: 0,
     count: 0,
 };
 
 impl Chain {
+    /// No callbacks.
+    pub fn new() -> Chain
+        ensures { IsEmpty result }
+    {
+        EMPTY
+    }
+
+    /// Takes the whole chain, which may then belong to another owner. No callbacks are left.
+    pub fn take(&mut self) -> Chain
+        ensures taken { result ≡ self.old }
+        ensures passed_on { MayBePassedOn result }
+        ensures empty { IsEmpty self.new }
+    {
+        let whole = *self;
+        *self = EMPTY;
+        whole
+    }
+
     /// Appends a callback.
     pub(crate) fn append(&mut self, nodes: &mut Slab<Node>, callback: Callback)
         requires room { HasRoomFor nodes.old 1 }
@@ -169,6 +190,7 @@ impl Chain {
     #[tactic(auto, using(crate::proofs::Freeing::freed_none, crate::proofs::Freeing::freed_more))]
     pub(crate) fn free(&mut self, nodes: &mut Slab<Node>)
         requires chain { IsChain nodes.old self.old }
+        ensures callbacks { callbacks_in nodes.new self.new ≡ [] }
         ensures others { KeepsOthers nodes.old self.old nodes.new self.new }
         ensures len { slab_len nodes.new + self.old.count ≡ slab_len nodes.old }
         ensures capacity { nodes.new.capacity ≡ nodes.old.capacity }

@@ -1,5 +1,5 @@
-use Rattle.sim_events.proofs.Freeing.{Freed}
-use Rattle.sim_events.proofs.chain.Chain.free.Given as goal
+use Rattle.sim_chains.proofs.Freeing.{Freed}
+use Rattle.sim_chains.proofs.chain.Chain.free.Given as goal
 
 abbrev pub invariant-loop-self : goal.invariant-loop-self
 invariant-loop-self l = Freed l.initial.nodes l.initial.self l.nodes l.self

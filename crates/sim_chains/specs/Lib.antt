@@ -1,0 +1,6 @@
+-- what contracts see
+pub mod Callbacks
+pub mod Chains
+pub mod Keeping
+-- a search
+pub mod Places
