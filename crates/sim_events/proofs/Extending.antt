@@ -1,4 +1,5 @@
 -- A table that is empty, that has more room, an event more, or other callbacks left to call, is sound.
+use Rattle.sim_events.specs.TableOf.{Kept, IsInOrder}
 use Rattle.std.proofs.Common.{◌≡◌, ℕ, suc, List, [], ◌∷◌, ◌++◌, Option, Some, None, is_some, IsTrue, refl, sym, ap, ◌∙◌, arith}
 use Rattle.std.specs.Option.{option_map}
 use Rattle.std.proofs.lemmas.Option.{same_Some}
@@ -18,7 +19,7 @@ use Rattle.sim_events.proofs.Nodes.{KeepsNodes, nodes_same}
 use Rattle.sim_events.proofs.Parts.{KeepsParts}
 use Rattle.sim_events.proofs.Storing.{kept_with, stored_with, others_with, stored_called, others_called, stored_reserved, others_reserved}
 use Rattle.sim_events.proofs.Placing.{placed_more, events_more, events_same}
-use Rattle.sim_events.proofs.KeptLists.{needed_made}
+use Rattle.sim_events.proofs.KeptLists.{ordered_made}
 
 -- ---- nothing is there
 
@@ -38,7 +39,7 @@ sound_none places s calls no_place no_slot no_part no_call = record {
     slots_fit = rw no_slot (omega arith);
     parts_fit = rw no_part (omega arith);
   };
-  needed = rw no_place (λ e kept. absurd (false≢true kept));
+  in_order = rw no_place (λ e kept. absurd (false≢true kept));
 }
   where
     nobody : Owners
@@ -57,7 +58,7 @@ module _ (places : List (Option ℕ)) (old new : Store) (calls : Chain) (t : IsS
       record {
         placed = record { there = λ n key at. rw (slots key) (t.placed.there n key at); apart = t.placed.apart };
         stored = stored_reserved old new calls t.stored slots nodes parts slots_fit parts_fit;
-        needed = rw same t.needed;
+        in_order = rw same t.in_order;
       }
 
 -- ---- other callbacks are left to call
@@ -67,7 +68,7 @@ module _ (places : List (Option ℕ)) (s : Store) (nodes : Slab Node) (left call
   events_called = events_same places s (record s { nodes = nodes }) t.placed (others_called s nodes left calls t.stored r)
 
   pub sound_called : IsSoundTable places (record s { nodes = nodes }) calls
-  sound_called = record { placed = t.placed; stored = stored_called s nodes left calls t.stored r; needed = rw events_called t.needed }
+  sound_called = record { placed = t.placed; stored = stored_called s nodes left calls t.stored r; in_order = rw events_called t.in_order }
 
 -- ---- an event more
 
@@ -84,12 +85,12 @@ module _ (index later : IndexOf) (s : Store) (slots : Slab Slot) (parts : Slab C
       ∙ ap (λ o. events_in index.places s ++ o ∷ []) (ap (option_map (kept_in s.nodes parts)) a.updates.changed)
       ∙ ap (λ cs. events_in index.places s ++ Some (kept_with x cs (condition_in parts x)) ∷ []) (none.none s.nodes)
 
-  pub sound_made : HasRoomFor s.slots 1 → IsTrue (is_slot_needed x) → IsSoundTable later.places (record { slots = slots; nodes = s.nodes; parts = parts }) left
-  sound_made room needed =
+  pub sound_made : HasRoomFor s.slots 1 → IsInOrder (kept_with x [] (condition_in parts x)) → IsSoundTable later.places (record { slots = slots; nodes = s.nodes; parts = parts }) left
+  sound_made room ordered =
       let new : Store = record { slots = slots; nodes = s.nodes; parts = parts } in
       let n = own_none in
       record {
         placed = rw a.places (placed_more index.places s new t.placed a.key x a.vacant a.updates);
         stored = stored_with s new left left t.stored a.key (Some x) a.updates n p (omega (arith, room, a.len, a.capacity));
-        needed = rw events_made (needed_made (events_in index.places s) (kept_with x [] (condition_in parts x)) t.needed needed);
+        in_order = rw events_made (ordered_made (events_in index.places s) (kept_with x [] (condition_in parts x)) t.in_order ordered);
       }

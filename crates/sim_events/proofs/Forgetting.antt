@@ -1,5 +1,5 @@
 -- A slot is given back with what it has, where its event is not to be kept.
-use Rattle.std.proofs.Common.{◌≡◌, ℕ, suc, ◌+◌, ◌-◌, min, Bool, true, false, [], length, set, Some, None, is_some, cond, refl, sym, ap, ◌∙◌, arith}
+use Rattle.std.proofs.Common.{◌≡◌, ℕ, suc, ◌+◌, ◌-◌, min, Bool, true, false, [], length, set, Some, None, is_some, cond, refl, sym, ap, ◌∙◌, arith, IsTrue}
 use Rattle.std.specs.Option.{option_map}
 use Rattle.std.proofs.lemmas.Option.{same_Some}
 use Rattle.slab.specs.Slab.{Slab, get, slab_len, Updates, with_value, HasRoomFor}
@@ -13,14 +13,14 @@ use Rattle.sim_chains.specs.Chains.{callbacks_in, spare_in, IsChain}
 use Rattle.sim_chains.specs.Keeping.{KeepsOthers}
 use Rattle.sim_events.specs.Slots.{kept_in, condition_in, is_slot_needed}
 use Rattle.sim_events.specs.Stores.{spare_of, kept_by_key, events_in, table_of, IsStored, ArePlaced, IsSoundTable, GivesBack, ForgetsSlot, FreesPart}
-use Rattle.sim_events.specs.TableOf.{Kept, IsKept, is_needed, kept_at, kept_count, kept_and_spare}
+use Rattle.sim_events.specs.TableOf.{Kept, IsKept, is_needed, is_settled, kept_at, kept_count, kept_and_spare}
 use Rattle.sim_events.specs.Changes.{change_or_forget, callbacks_freed, conditions_freed}
 use Rattle.sim_events.proofs.Slabs.{with_value_len, there_from}
 use Rattle.sim_events.proofs.Nodes.{KeepsNodes, nodes_relinked}
 use Rattle.sim_events.proofs.Parts.{KeepsParts, parts_same, parts_updated, free_own}
 use Rattle.sim_events.proofs.Storing.{stored_with, others_with}
 use Rattle.sim_events.proofs.Placing.{event_found, kept_found, kept_is_placed, placed_less, events_less}
-use Rattle.sim_events.proofs.KeptLists.{kept_is, count_changed, kept_changed, forgotten_changed, forgotten_needed, forgotten_unneeded, count_forgotten, needed_forgotten}
+use Rattle.sim_events.proofs.KeptLists.{kept_is, count_changed, kept_changed, forgotten_changed, forgotten_needed, forgotten_unneeded, count_forgotten, ordered_forgotten}
 use Rattle.sim_events.proofs.Rewriting.{Rewrites, is_kept}
 
 -- ---- the store
@@ -124,14 +124,15 @@ pub record Forgotten (index : IndexOf) (old : Store) (was : Chain) (later : Inde
 module _ (index later : IndexOf) (old mid new : Store) (left calls : Chain) (t : IsSoundTable index.places old left) (e : EventId) (key : ℕ) (change : Kept → Kept) where
   pub forgotten : place_of_number e.0 index.places ≡ Some key → Rewrites index.places old mid calls e change
       → spare_of mid.slots ≡ spare_of old.slots → mid.nodes ≡ old.nodes → spare_of mid.parts ≡ spare_of old.parts
+      → IsTrue (is_settled (change (kept_at (events_in index.places old) e)))
       → ForgetsSlot e index mid later new calls → Forgotten index old left later new calls e change
-  forgotten at r slots nodes parts d =
+  forgotten at r slots nodes parts settled d =
       let kept = is_kept index.places old left t e key at in
       let events = forgotten_changed (events_in index.places old) e change kept (events_in index.places mid) (events_in later.places new) r.events d.forgets.events in
       let count : kept_count (events_in index.places mid) ≡ kept_count (events_in index.places old) = ap kept_count r.events ∙ count_changed (events_in index.places old) e change kept in
       let is : kept_at (events_in index.places mid) e ≡ change (kept_at (events_in index.places old) e) = ap (λ es. kept_at es e) r.events ∙ kept_changed (events_in index.places old) e change kept in
       record {
-        sound = record { placed = d.placed; stored = d.stored; needed = rw events (needed_forgotten (events_in index.places old) e change t.needed kept) };
+        sound = record { placed = d.placed; stored = d.stored; in_order = rw events (ordered_forgotten (events_in index.places old) e change t.in_order kept settled) };
         events = events;
         left = d.forgets.left ∙ ap (λ ns. callbacks_in ns calls) nodes;
         all = d.forgets.all ∙ rw (count, slots) refl;
@@ -143,10 +144,11 @@ module _ (index later : IndexOf) (old mid new : Store) (left calls : Chain) (t :
 pub forgotten_slot : (index later : IndexOf) (s new : Store) (left : Chain) (t : IsSoundTable index.places s left) (e : EventId) (key : ℕ) (x y : Slot)
     (change : Kept → Kept) → place_of_number e.0 index.places ≡ Some key → get s.slots key ≡ Some x
     → Rewrites index.places s (record s { slots = with_value s.slots key y }) left e change
+    → IsTrue (is_settled (change (kept_at (events_in index.places s) e)))
     → ForgetsSlot e index (record s { slots = with_value s.slots key y }) later new left → Forgotten index s left later new left e change
-forgotten_slot index later s new left t e key x y change at found r d =
+forgotten_slot index later s new left t e key x y change at found r settled d =
     let same = ap (λ n. s.slots.capacity - n) (with_value_len s.slots key y (there_from s.slots key x found)) in
-    forgotten index later s (record s { slots = with_value s.slots key y }) new left left t e key change at r same refl refl d
+    forgotten index later s (record s { slots = with_value s.slots key y }) new left left t e key change at r same refl refl settled d
 
 -- an event without callbacks frees none
 pub freed_none : (k : Kept) → k.callbacks ≡ [] → callbacks_freed k ≡ 0

@@ -4,7 +4,7 @@ use Rattle.std.proofs.lemmas.Bool.{cases_eq, cases_lt, false≢true, lt-ltb}
 use Rattle.std.proofs.lemmas.List.{get_or-set_same, get_or-set_other, get_or_append_left, get_or_push, get_or_past, length_push, set-set, set-get_or}
 use Rattle.std.proofs.lemmas.List.Sums.{sum_by-set}
 use Rattle.sim_types.specs.declared.event.EventId.{EventId}
-use Rattle.sim_events.specs.TableOf.{Kept, kept_at, kept_or_new, IsKept, AreNeeded, is_needed, kept_count}
+use Rattle.sim_events.specs.TableOf.{Kept, kept_at, kept_or_new, IsKept, IsInOrder, AreInOrder, is_needed, is_settled, kept_count}
 use Rattle.sim_events.specs.Changes.{change_kept, change_or_forget, some_if_needed}
 
 pub kept_within : (events : List (Option Kept)) (e : EventId) → IsKept events e → e.0 < length events
@@ -61,40 +61,40 @@ count_forgotten events e kept =
     let counts = sum_by-set (λ (o : Option Kept). cond (is_some o) 1 0) events e.0 None None (kept_within events e kept) in
     omega (arith, rw kept at counts)
 
--- ---- what is kept is to be kept
+-- ---- what is kept is in order
 
-module _ (events : List (Option Kept)) (e : EventId) (now : Option Kept) (needed : AreNeeded events) where
+module _ (events : List (Option Kept)) (e : EventId) (now : Option Kept) (ordered : AreInOrder events) where
   -- the event of one number is now this
-  needed_set : IsKept events e → (IsSome now → IsTrue (is_needed (kept_or_new now))) → AreNeeded (set events e.0 now)
-  needed_set kept here = λ f there. elim (cases_eq f.0 e.0) [
+  ordered_set : IsKept events e → (IsSome now → IsInOrder (kept_or_new now)) → AreInOrder (set events e.0 now)
+  ordered_set kept here = λ f there. elim (cases_eq f.0 e.0) [
     | inl same ↦
         let is : get_or (set events e.0 now) f.0 None ≡ now = ap (λ n. get_or (set events e.0 now) n None) same ∙ get_or-set_same events e.0 now None (kept_within events e kept) in
         rw is (here (rw is at there))
     | inr apart ↦
         let is : get_or (set events e.0 now) f.0 None ≡ get_or events f.0 None = get_or-set_other events e.0 f.0 now None apart in
-        rw is (needed f (rw is at there))
+        rw is (ordered f (rw is at there))
   ]
 
-pub needed_changed : (events : List (Option Kept)) (e : EventId) (change : Kept → Kept) → AreNeeded events → IsKept events e
-    → IsTrue (is_needed (change (kept_at events e))) → AreNeeded (change_kept e change events)
-needed_changed events e change needed kept here = needed_set events e (Some (change (kept_at events e))) needed kept (λ h. here)
+pub ordered_changed : (events : List (Option Kept)) (e : EventId) (change : Kept → Kept) → AreInOrder events → IsKept events e
+    → IsInOrder (change (kept_at events e)) → AreInOrder (change_kept e change events)
+ordered_changed events e change ordered kept here = ordered_set events e (Some (change (kept_at events e))) ordered kept (λ h. here)
 
-pub needed_forgotten : (events : List (Option Kept)) (e : EventId) (change : Kept → Kept) → AreNeeded events → IsKept events e
-    → AreNeeded (change_or_forget e change events)
-needed_forgotten events e change needed kept =
+pub ordered_forgotten : (events : List (Option Kept)) (e : EventId) (change : Kept → Kept) → AreInOrder events → IsKept events e
+    → IsTrue (is_settled (change (kept_at events e))) → AreInOrder (change_or_forget e change events)
+ordered_forgotten events e change ordered kept settled =
     let k = change (kept_at events e) in
-    needed_set events e (some_if_needed k) needed kept (go (is_needed k) refl)
+    ordered_set events e (some_if_needed k) ordered kept (go (is_needed k) refl)
   where
     go : (b : Bool) → is_needed (change (kept_at events e)) ≡ b → IsSome (cond b (Some (change (kept_at events e))) None)
-        → IsTrue (is_needed (kept_or_new (cond b (Some (change (kept_at events e))) None)))
-    go true is h = is
+        → IsInOrder (kept_or_new (cond b (Some (change (kept_at events e))) None))
+    go true is h = (is, settled)
     go false is h = absurd (false≢true h)
 
-pub needed_made : (events : List (Option Kept)) (k : Kept) → AreNeeded events → IsTrue (is_needed k) → AreNeeded (events ++ Some k ∷ [])
-needed_made events k needed here = λ f there. elim (cases_lt f.0 (length events)) [
+pub ordered_made : (events : List (Option Kept)) (k : Kept) → AreInOrder events → IsInOrder k → AreInOrder (events ++ Some k ∷ [])
+ordered_made events k ordered here = λ f there. elim (cases_lt f.0 (length events)) [
   | inl earlier ↦
       let is : get_or (events ++ Some k ∷ []) f.0 None ≡ get_or events f.0 None = get_or_append_left events (Some k ∷ []) None f.0 earlier in
-      rw is (needed f (rw is at there))
+      rw is (ordered f (rw is at there))
   | inr past ↦ elim (cases_eq f.0 (length events)) [
     | inl last ↦
         let is : get_or (events ++ Some k ∷ []) f.0 None ≡ Some k = get_or_push events (Some k) None f.0 (sym last) in

@@ -11,3 +11,4 @@ pub mod Rewriting
 pub mod Forgetting
 pub mod Extending
 pub mod Outcomes
+pub mod Absent

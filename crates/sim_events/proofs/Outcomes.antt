@@ -1,16 +1,21 @@
--- An event gets its outcome.
-use Rattle.std.proofs.Common.{◌≡◌, ℕ, List, Option, Some, refl}
+-- An event gets its outcome, and is settled; one that is settled and has none is pending.
+use Rattle.std.proofs.lemmas.Bool.{false≢true}
+use Rattle.std.proofs.Common.{◌≡◌, ℕ, List, Option, Some, refl, ◌↔◌, Bool, true, false, not, ◌||◌, None, is_some, IsTrue, cond}
 use Rattle.slab.specs.Slab.{get, with_value}
 use Rattle.sim_index.specs.IndexOf.{place_of_number}
 use Rattle.sim_types.specs.declared.event.EventId.{EventId}
 use Rattle.sim_types.specs.declared.event.Outcome.{Outcome}
 use Rattle.sim_types.specs.declared.event.Outcome.TheVariants as outcome
 use Rattle.sim_chains.specs.declared.chain.Chain.{Chain}
+use Rattle.sim_machine.specs.State.{EventOf}
 use Rattle.sim_events.specs.declared.slot.Slot.{Slot}
 use Rattle.sim_events.specs.declared.store.Store.{Store}
 use Rattle.sim_events.specs.Slots.{slot_with_outcome}
 use Rattle.sim_events.specs.Stores.{IsSoundTable}
 use Rattle.sim_events.specs.Changes.{with_outcome}
+use Rattle.sim_events.specs.States.{state_of, state_by}
+use Rattle.sim_events.specs.declared.table.EventState.{EventState}
+use Rattle.sim_events.specs.declared.table.EventState.TheVariants as state
 use Rattle.sim_events.proofs.Rewriting.{Rewrites, rewrites_slot}
 
 pub rewrites_outcome : (places : List (Option ℕ)) (s : Store) (left : Chain) → IsSoundTable places s left → (e : EventId) (key : ℕ) (x : Slot)
@@ -20,3 +25,16 @@ rewrites_outcome places s left t e key x at found (outcome.Ok value) =
     rewrites_slot places s left t e key x at found (slot_with_outcome (outcome.Ok value) x) (with_outcome (outcome.Ok value)) refl refl refl refl
 rewrites_outcome places s left t e key x at found (outcome.Fail thrown) =
     rewrites_slot places s left t e key x at found (slot_with_outcome (outcome.Fail thrown) x) (with_outcome (outcome.Fail thrown)) refl refl refl refl
+
+pub settled_by : (b : Bool) → not b || true ≡ true
+settled_by true = refl
+settled_by false = refl
+
+pub none_is_pending : (x : EventOf) → IsTrue (not x.processed || is_some x.outcome) → (x.outcome ≡ None) ↔ (state_of x ≡ state.Pending)
+none_is_pending x settled = go x.processed x.outcome settled
+  where
+    go : (b : Bool) (o : Option Outcome) → IsTrue (not b || is_some o) → (o ≡ None) ↔ (cond b state.Processed (state_by o) ≡ state.Pending)
+    go true None h = absurd (false≢true h)
+    go true (Some x) h = (λ e. absurd (cc), λ e. absurd (cc))
+    go false None h = (λ e. refl, λ e. refl)
+    go false (Some x) h = (λ e. absurd (cc), λ e. absurd (cc))

@@ -16,14 +16,14 @@ use Rattle.sim_chains.specs.Chains.{IsChain, IsEmpty}
 use Rattle.sim_chains.specs.Keeping.{Relinked, MayBePassedOn}
 use Rattle.sim_events.specs.Slots.{kept_in}
 use Rattle.sim_events.specs.Stores.{events_in, HasPart, IsStored, ArePlaced, IsSoundTable}
-use Rattle.sim_events.specs.TableOf.{Kept, IsKept, is_needed, kept_at}
+use Rattle.sim_events.specs.TableOf.{Kept, IsKept, IsInOrder, kept_at}
 use Rattle.sim_events.specs.Changes.{change_kept, with_processed}
 use Rattle.sim_events.proofs.Slabs.{with_value_len, there_from}
 use Rattle.sim_events.proofs.Nodes.{KeepsNodes, nodes_same, nodes_relinked, nodes_begun}
 use Rattle.sim_events.proofs.Parts.{KeepsParts, parts_same, parts_updated, free_own}
 use Rattle.sim_events.proofs.Storing.{stored_with, others_with}
 use Rattle.sim_events.proofs.Placing.{kept_found, kept_is_placed, placed_changed, events_changed}
-use Rattle.sim_events.proofs.KeptLists.{needed_changed}
+use Rattle.sim_events.proofs.KeptLists.{ordered_changed}
 
 -- the store is in order, and of all events only this one changed
 pub record Rewrites (places : List (Option ℕ)) (old new : Store) (calls : Chain) (e : EventId) (change : Kept → Kept) : Type 0 where
@@ -37,11 +37,11 @@ is_kept places s left t e key at = kept_is_placed places s t.placed e.0 ∙ ap i
 
 pub sound_rewritten : (places : List (Option ℕ)) (old new : Store) (left calls : Chain) → IsSoundTable places old left → (e : EventId) (key : ℕ)
     → place_of_number e.0 places ≡ Some key → (change : Kept → Kept) → Rewrites places old new calls e change
-    → IsTrue (is_needed (change (kept_at (events_in places old) e))) → IsSoundTable places new calls
-sound_rewritten places old new left calls t e key at change r needed = record {
+    → IsInOrder (change (kept_at (events_in places old) e)) → IsSoundTable places new calls
+sound_rewritten places old new left calls t e key at change r ordered = record {
   placed = r.placed;
   stored = r.stored;
-  needed = rw r.events (needed_changed (events_in places old) e change t.needed (is_kept places old left t e key at) needed);
+  in_order = rw r.events (ordered_changed (events_in places old) e change t.in_order (is_kept places old left t e key at) ordered);
 }
 
 module _ (places : List (Option ℕ)) (old new : Store) (left calls : Chain) (t : IsSoundTable places old left) (e : EventId) (key : ℕ) (x y : Slot) (change : Kept → Kept) where

@@ -12,7 +12,7 @@ use Rattle.sim_events.specs.declared.slot.Slot.{Slot}
 use Rattle.sim_events.specs.declared.store.Store.{Store}
 use Rattle.sim_chains.specs.Chains.{callbacks_in, spare_in, Owners, IsLinked}
 use Rattle.sim_events.specs.Slots.{kept_in}
-use Rattle.sim_events.specs.TableOf.{Kept, TableOf, AreNeeded, kept_at, kept_and_spare}
+use Rattle.sim_events.specs.TableOf.{Kept, TableOf, AreInOrder, kept_at, kept_and_spare}
 use Rattle.sim_events.specs.Changes.{change_or_forget, callbacks_freed, conditions_freed}
 
 -- how many more values fit without memory
@@ -69,11 +69,11 @@ pub record ArePlaced (places : List (Option ℕ)) (slots : Slab Slot) : Type 0 w
   pub there : (n key : ℕ) → place_of_number n places ≡ Some key → IsSome (get slots key)
   pub apart : (n m key : ℕ) → place_of_number n places ≡ Some key → place_of_number m places ≡ Some key → n ≡ m
 
--- all of it, and each event that is kept is to be kept
+-- all of it, and each event that is kept is in order
 pub record IsSoundTable (places : List (Option ℕ)) (s : Store) (left : Chain) : Type 0 where
   pub placed : ArePlaced places s.slots
   pub stored : IsStored s left
-  pub needed : AreNeeded (events_in places s)
+  pub in_order : AreInOrder (events_in places s)
 
 -- the slot of this key is no longer there, what it had is free, and all other events are as they were
 pub record GivesBack (old : Store) (key : ℕ) (new : Store) (calls : Chain) : Type 0 where

@@ -63,9 +63,21 @@ IsKept events e = IsSome (slice_index_or events e.0 None)
 abbrev pub is_needed : Kept → Bool
 is_needed k = not (k.event.processed || k.event.cancelled) || nat_lt 0 k.holders
 
+-- whether an event that is processed has its outcome
+abbrev pub is_settled : Kept → Bool
+is_settled k = not k.event.processed || is_some k.event.outcome
+
+-- the event is to be kept, and has its outcome where it is processed
+abbrev pub IsInOrder : Kept → Type 0
+IsInOrder k = IsTrue (is_needed k) × IsTrue (is_settled k)
+
 -- each event that is kept is to be kept
 abbrev pub AreNeeded : List (Option Kept) → Type 0
 AreNeeded events = (e : EventId) → IsKept events e → IsTrue (is_needed (kept_at events e))
+
+-- each event that is kept is in order
+abbrev pub AreInOrder : List (Option Kept) → Type 0
+AreInOrder events = (e : EventId) → IsKept events e → IsInOrder (kept_at events e)
 
 -- how many events are kept
 abbrev pub kept_count : List (Option Kept) → ℕ

@@ -8,6 +8,7 @@ ghost use Rattle.sim_chains.specs.Callbacks.{is_same_callback};
 ghost use Rattle.sim_events.specs.TableOf.{new_kept, first_kept, new_condition, kept_at, kept_condition, IsKept, AreNeeded, kept_count, kept_and_spare};
 ghost use Rattle.sim_events.specs.Changes.{with_outcome, with_defused, with_processed, with_cancelled, on_condition, with_callback, without_callback, with_holder, without_holder, change_kept, change_or_forget, callbacks_freed, conditions_freed, more_events, more_callbacks, more_conditions};
 ghost use Rattle.sim_events.specs.States.{state_of};
+ghost use Rattle.sim_events.specs.declared.table.EventState.TheVariants as state;
 ghost use Rattle.sim_chains.specs.Chains.{callbacks_in};
 ghost use Rattle.sim_events.specs.Stores.{IsStore, IsStored, ArePlaced, ForgetsSlot, AddsSlot};
 ghost use Rattle.sim_chains.specs.declared.chain.Chain.{Chain};
@@ -261,7 +262,9 @@ impl Table {
     /// How an event turned out. None where it is pending.
     pub fn outcome(&self, event: EventId) -> Option<Outcome>
         requires kept { IsKept self.now.events event }
-        ensures { result ≡ (kept_at self.now.events event).event.outcome }
+        ensures outcome { result ≡ (kept_at self.now.events event).event.outcome }
+        ensures pending { (result ≡ None)
+            ↔ (state_of (kept_at self.now.events event).event ≡ state.Pending) }
     {
         self.store.slots[key_of(&self.index, event)].outcome()
     }
@@ -326,6 +329,7 @@ impl Table {
             ≡ change_kept event (without_callback callback) self.old.events }
         ensures left { self.new.left ≡ self.old.left }
         ensures spare { self.new.spare ≡ more_callbacks (one_if result) self.old.spare }
+        ensures absent { IsFalse result → self.new ≡ self.old }
     {
         let key = key_of(&self.index, event);
         self.store
@@ -377,6 +381,7 @@ impl Table {
         ensures left { self.new.left ≡ without_first (is_same_callback callback) self.old.left }
         ensures events { self.new.events ≡ self.old.events }
         ensures spare { self.new.spare ≡ more_callbacks (one_if result) self.old.spare }
+        ensures absent { IsFalse result → self.new ≡ self.old }
     {
         self.store.nodes.take_out(&mut self.left, callback)
     }

@@ -10,6 +10,8 @@ mod desk;
 #[cfg(test)]
 mod devices;
 #[cfg(test)]
+mod events;
+#[cfg(test)]
 mod records;
 #[cfg(test)]
 mod sinks;

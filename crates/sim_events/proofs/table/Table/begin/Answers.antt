@@ -39,7 +39,7 @@ done c =
     let r = rewritten c.before in
     let d = rw c.seek.ensures.same at (c.forget_unneeded.ensures x.callbacks r.stored) in
     let same = ap (λ n. c.self.inside.store.slots.capacity - n) (with_value_len c.self.inside.store.slots c.in-Some.key y (there_from c.self.inside.store.slots c.in-Some.key x c.index_mut-slot.ensures.value)) in
-    rw c.take-self-inside.ensures.taken (forgotten c.self.inside.index c.forget_unneeded.new.index c.self.inside.store _ c.forget_unneeded.new.store c.self.inside.left x.callbacks c.self.invariant c.args.event c.in-Some.key with_processed at r same refl refl d)
+    rw c.take-self-inside.ensures.taken (forgotten c.self.inside.index c.forget_unneeded.new.index c.self.inside.store _ c.forget_unneeded.new.store c.self.inside.left x.callbacks c.self.invariant c.args.event c.in-Some.key with_processed at r same refl refl (rw (← c.self.view_is) at c.requires.triggered) d)
 
 pub invariant_of-self : goal.invariant_of-self
 invariant_of-self c = (done c).sound

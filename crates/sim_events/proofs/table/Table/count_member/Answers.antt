@@ -14,7 +14,7 @@ invariant_of-self c =
     let holds = is_condition c.self.inside.index.places c.self.inside.store c.self.inside.left t c.args.event c.key_of.result x c.key_of.ensures c.index.ensures (rw (← c.self.view_is) at c.requires.condition) in
     let written = condition_written c.self.inside.store.parts x c.index_mut.result.now c.count_member.new.self (λ (x : ConditionOf). record x { count = x.count + 1 }) holds c.index_mut.ensures.value c.count_member.ensures in
     let r = rewrites_part c.self.inside.index.places c.self.inside.store c.self.inside.left t c.args.event c.key_of.result x c.key_of.ensures c.index.ensures c.count_member.new.self (on_condition (λ (x : ConditionOf). record x { count = x.count + 1 })) holds (ap (kept_with x (callbacks_in c.self.inside.store.nodes x.callbacks)) written) in
-    sound_rewritten _ _ _ _ _ t c.args.event c.key_of.result c.key_of.ensures (on_condition (λ (x : ConditionOf). record x { count = x.count + 1 })) r (t.needed c.args.event (is_kept _ _ _ t c.args.event c.key_of.result c.key_of.ensures))
+    sound_rewritten _ _ _ _ _ t c.args.event c.key_of.result c.key_of.ensures (on_condition (λ (x : ConditionOf). record x { count = x.count + 1 })) r (t.in_order c.args.event (is_kept _ _ _ t c.args.event c.key_of.result c.key_of.ensures))
 
 pub returns-clause-events : goal.returns-clause-events
 returns-clause-events c =

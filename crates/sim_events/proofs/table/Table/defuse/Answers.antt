@@ -8,7 +8,7 @@ invariant_of-self c =
     let t = c.self.invariant in
     let x = c.index_mut.result.now in
     let r = rewrites_slot c.self.inside.index.places c.self.inside.store c.self.inside.left t c.args.event c.key_of-key.result x c.key_of-key.ensures c.index_mut.ensures.value (record x { defused = true }) with_defused refl refl refl refl in
-    sound_rewritten _ _ _ _ _ t c.args.event c.key_of-key.result c.key_of-key.ensures with_defused r (t.needed c.args.event (is_kept _ _ _ t c.args.event c.key_of-key.result c.key_of-key.ensures))
+    sound_rewritten _ _ _ _ _ t c.args.event c.key_of-key.result c.key_of-key.ensures with_defused r (t.in_order c.args.event (is_kept _ _ _ t c.args.event c.key_of-key.result c.key_of-key.ensures))
 
 pub returns-clause-events : goal.returns-clause-events
 returns-clause-events c =

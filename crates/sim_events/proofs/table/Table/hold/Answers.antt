@@ -2,7 +2,7 @@ use Rattle.std.proofs.Common.{◌+◌, arith, refl}
 use Rattle.sim_events.specs.Changes.{with_holder}
 use Rattle.sim_events.specs.TableOf.{kept_at}
 use Rattle.sim_events.specs.Stores.{events_in}
-use Rattle.sim_events.proofs.Rewriting.{rewrites_slot, sound_rewritten}
+use Rattle.sim_events.proofs.Rewriting.{is_kept, rewrites_slot, sound_rewritten}
 use Rattle.sim_events.proofs.KeptLists.{held_needed}
 use Rattle.sim_events.proofs.table.Table.hold.Goals as goal
 
@@ -11,7 +11,7 @@ invariant_of-self c =
     let t = c.self.invariant in
     let x = c.index_mut.result.now in
     let r = rewrites_slot c.self.inside.index.places c.self.inside.store c.self.inside.left t c.args.event c.key_of-key.result x c.key_of-key.ensures c.index_mut.ensures.value (record x { holders = x.holders + 1 }) with_holder refl refl refl refl in
-    sound_rewritten _ _ _ _ _ t c.args.event c.key_of-key.result c.key_of-key.ensures with_holder r (held_needed (with_holder (kept_at (events_in c.self.inside.index.places c.self.inside.store) c.args.event)) (omega arith))
+    sound_rewritten _ _ _ _ _ t c.args.event c.key_of-key.result c.key_of-key.ensures with_holder r (held_needed (with_holder (kept_at (events_in c.self.inside.index.places c.self.inside.store) c.args.event)) (omega arith), (t.in_order c.args.event (is_kept _ _ _ t c.args.event c.key_of-key.result c.key_of-key.ensures)).1)
 
 pub returns-clause-events : goal.returns-clause-events
 returns-clause-events c =

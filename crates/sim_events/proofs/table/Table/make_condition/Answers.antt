@@ -20,7 +20,7 @@ invariant_of-self c =
     let a = rw c.new-slot.ensures.slot at c.add.ensures.adds in
     let insert = c.insert_reserved.ensures in
     let p = parts_updated c.self.inside.store.parts c.insert_reserved.new.self t.stored.part_owner a.key c.insert_reserved.result (Some c.new.result) insert.updates (Some x) (free_vacant c.self.inside.store.parts t.stored.part_owner a.key c.insert_reserved.result insert.was_vacant) (λ z is holds. (ap (λ (y : Slot). y.part) (sym (same_Some x z is)), refl)) (omega (arith, insert.len, insert.capacity)) in
-    sound_made c.self.inside.index c.add.new.index c.self.inside.store c.add.new.slots c.insert_reserved.new.self c.self.inside.left t x a p c.new-slot.ensures.none (omega arith) refl
+    sound_made c.self.inside.index c.add.new.index c.self.inside.store c.add.new.slots c.insert_reserved.new.self c.self.inside.left t x a p c.new-slot.ensures.none (omega arith) (refl, refl)
 
 pub returns-clause-events : goal.returns-clause-events
 returns-clause-events c =

@@ -19,4 +19,4 @@ invariant_of-result c =
     let x : Slot = record (slot_with_outcome (outcome.Ok (pos 0)) (new_slot kind.Plain c.new-first.result.callbacks)) { processed = true; holders = 1 } in
     let a = rw (c.set_outcome.ensures, c.new-first.ensures.slot) at c.add.ensures.adds in
     let room : HasRoomFor c.reserve-2.new.self 1 = c.in_ok-reserve-2.ensures.room in
-    sound_made c.reserve.new.self c.add.new.index s c.add.new.slots c.new-2.result c.new-3.result t x a (parts_plain c.new-2.result t.stored.part_owner a.key x refl t.stored.parts_fit) c.new-first.ensures.none room refl
+    sound_made c.reserve.new.self c.add.new.index s c.add.new.slots c.new-2.result c.new-3.result t x a (parts_plain c.new-2.result t.stored.part_owner a.key x refl t.stored.parts_fit) c.new-first.ensures.none room (refl, refl)

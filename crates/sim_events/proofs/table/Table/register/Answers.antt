@@ -23,7 +23,7 @@ rewritten c =
 pub invariant_of-self : goal.invariant_of-self
 invariant_of-self c =
     let t = c.self.invariant in
-    sound_rewritten _ _ _ _ _ t c.args.event c.key_of-key.result c.key_of-key.ensures (with_callback c.args.callback) (rewritten c) (t.needed c.args.event (is_kept _ _ _ t c.args.event c.key_of-key.result c.key_of-key.ensures))
+    sound_rewritten _ _ _ _ _ t c.args.event c.key_of-key.result c.key_of-key.ensures (with_callback c.args.callback) (rewritten c) (t.in_order c.args.event (is_kept _ _ _ t c.args.event c.key_of-key.result c.key_of-key.ensures))
 
 pub returns-clause-events : goal.returns-clause-events
 returns-clause-events c = rw (← c.self.view_is) (rewritten c).events

@@ -1,7 +1,7 @@
 use Rattle.std.proofs.Common.{◌-◌, refl}
 use Rattle.sim_events.specs.declared.slot.Slot.{Slot}
 use Rattle.sim_events.specs.Changes.{without_holder}
-use Rattle.sim_events.proofs.Rewriting.{rewrites_slot}
+use Rattle.sim_events.proofs.Rewriting.{is_kept, rewrites_slot}
 use Rattle.sim_events.proofs.Forgetting.{Forgotten, forgotten_slot}
 use Rattle.sim_events.proofs.table.Table.unhold.Goals as goal
 
@@ -16,7 +16,7 @@ done c =
     let x = c.index_mut.result.now in
     let y : Slot = record x { holders = x.holders - 1 } in
     let r = rewrites_slot c.self.inside.index.places c.self.inside.store c.self.inside.left t c.args.event c.key_of-key.result x c.key_of-key.ensures c.index_mut.ensures.value y without_holder refl refl refl refl in
-    forgotten_slot c.self.inside.index c.forget_unneeded.new.index c.self.inside.store c.forget_unneeded.new.store c.self.inside.left t c.args.event c.key_of-key.result x y without_holder c.key_of-key.ensures c.index_mut.ensures.value r (c.forget_unneeded.ensures c.self.inside.left r.stored)
+    forgotten_slot c.self.inside.index c.forget_unneeded.new.index c.self.inside.store c.forget_unneeded.new.store c.self.inside.left t c.args.event c.key_of-key.result x y without_holder c.key_of-key.ensures c.index_mut.ensures.value r (t.in_order c.args.event (is_kept _ _ _ t c.args.event c.key_of-key.result c.key_of-key.ensures)).1 (c.forget_unneeded.ensures c.self.inside.left r.stored)
 
 pub invariant_of-self : goal.invariant_of-self
 invariant_of-self c = (done c).sound
