@@ -1,6 +1,6 @@
 -- A table that is empty, that has more room, an event more, or other callbacks left to call, is sound.
-use Rattle.sim_events.specs.TableOf.{Kept, IsInOrder}
-use Rattle.std.proofs.Common.{◌≡◌, ℕ, suc, List, [], ◌∷◌, ◌++◌, Option, Some, None, is_some, IsTrue, refl, sym, ap, ◌∙◌, arith}
+use Rattle.sim_events.specs.TableOf.{IsInOrder}
+use Rattle.std.proofs.Common.{◌≡◌, ℕ, suc, List, [], ◌∷◌, ◌++◌, Option, Some, None, is_some, refl, sym, ap, ◌∙◌, arith}
 use Rattle.std.specs.Option.{option_map}
 use Rattle.std.proofs.lemmas.Option.{same_Some}
 use Rattle.std.proofs.lemmas.Bool.{false≢true}
@@ -13,7 +13,7 @@ use Rattle.sim_events.specs.declared.slot.Slot.{Slot}
 use Rattle.sim_events.specs.declared.store.Store.{Store}
 use Rattle.sim_chains.specs.Chains.{Owners, IsEmpty}
 use Rattle.sim_chains.specs.Keeping.{Relinked, KeepsAll}
-use Rattle.sim_events.specs.Slots.{kept_in, condition_in, is_slot_needed}
+use Rattle.sim_events.specs.Slots.{kept_in, condition_in}
 use Rattle.sim_events.specs.Stores.{events_in, IsSoundTable, AddsSlot}
 use Rattle.sim_events.proofs.Nodes.{KeepsNodes, nodes_same}
 use Rattle.sim_events.proofs.Parts.{KeepsParts}
@@ -76,7 +76,8 @@ module _ (index later : IndexOf) (s : Store) (slots : Slab Slot) (parts : Slab C
   own_none : KeepsNodes s.nodes s.nodes t.stored.owners a.key (Some x) left
   own_none = nodes_same s.nodes t.stored.owners a.key (Some x) left (λ z is. rw (sym (same_Some x z is)) (none.anyones s.nodes t.stored.owners (suc a.key))) t.stored.left
 
-  pub events_made : events_in later.places (record { slots = slots; nodes = s.nodes; parts = parts }) ≡ events_in index.places s ++ Some (kept_with x [] (condition_in parts x)) ∷ []
+  pub events_made : events_in later.places (record { slots = slots; nodes = s.nodes; parts = parts })
+      ≡ events_in index.places s ++ Some (kept_with x [] (condition_in parts x)) ∷ []
   events_made =
       let new : Store = record { slots = slots; nodes = s.nodes; parts = parts } in
       let n = own_none in
@@ -85,7 +86,8 @@ module _ (index later : IndexOf) (s : Store) (slots : Slab Slot) (parts : Slab C
       ∙ ap (λ o. events_in index.places s ++ o ∷ []) (ap (option_map (kept_in s.nodes parts)) a.updates.changed)
       ∙ ap (λ cs. events_in index.places s ++ Some (kept_with x cs (condition_in parts x)) ∷ []) (none.none s.nodes)
 
-  pub sound_made : HasRoomFor s.slots 1 → IsInOrder (kept_with x [] (condition_in parts x)) → IsSoundTable later.places (record { slots = slots; nodes = s.nodes; parts = parts }) left
+  pub sound_made : HasRoomFor s.slots 1 → IsInOrder (kept_with x [] (condition_in parts x))
+      → IsSoundTable later.places (record { slots = slots; nodes = s.nodes; parts = parts }) left
   sound_made room ordered =
       let new : Store = record { slots = slots; nodes = s.nodes; parts = parts } in
       let n = own_none in

@@ -14,7 +14,6 @@ use Rattle.sim_events.specs.Slots.{slot_with_outcome}
 use Rattle.sim_events.specs.Stores.{IsSoundTable}
 use Rattle.sim_events.specs.Changes.{with_outcome}
 use Rattle.sim_events.specs.States.{state_of, state_by}
-use Rattle.sim_events.specs.declared.table.EventState.{EventState}
 use Rattle.sim_events.specs.declared.table.EventState.TheVariants as state
 use Rattle.sim_events.proofs.Rewriting.{Rewrites, rewrites_slot}
 

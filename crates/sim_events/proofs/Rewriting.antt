@@ -1,5 +1,5 @@
 -- The slot of an event is written, and what it has: the table stays sound, and shows that event changed.
-use Rattle.std.proofs.Common.{◌≡◌, ℕ, suc, Bool, true, false, cond, List, set, Option, Some, None, is_some, IsSome, IsTrue, refl, sym, ap, ◌∙◌, arith}
+use Rattle.std.proofs.Common.{◌≡◌, ℕ, suc, Bool, true, false, cond, List, set, Option, Some, None, is_some, IsSome, refl, sym, ap, ◌∙◌, arith}
 use Rattle.std.specs.Option.{option_map}
 use Rattle.std.proofs.lemmas.Bool.{false≢true}
 use Rattle.std.proofs.lemmas.Option.{same_Some}
@@ -12,16 +12,16 @@ use Rattle.sim_chains.specs.declared.chain.Node.{Node}
 use Rattle.sim_chains.specs.declared.chain.Chain.{Chain}
 use Rattle.sim_events.specs.declared.slot.Slot.{Slot}
 use Rattle.sim_events.specs.declared.store.Store.{Store}
-use Rattle.sim_chains.specs.Chains.{IsChain, IsEmpty}
+use Rattle.sim_chains.specs.Chains.{callbacks_in, IsChain, IsEmpty}
 use Rattle.sim_chains.specs.Keeping.{Relinked, MayBePassedOn}
 use Rattle.sim_events.specs.Slots.{kept_in}
 use Rattle.sim_events.specs.Stores.{events_in, HasPart, IsStored, ArePlaced, IsSoundTable}
 use Rattle.sim_events.specs.TableOf.{Kept, IsKept, IsInOrder, kept_at}
-use Rattle.sim_events.specs.Changes.{change_kept, with_processed}
+use Rattle.sim_events.specs.Changes.{change_kept, with_processed, on_condition}
 use Rattle.sim_events.proofs.Slabs.{with_value_len, there_from}
 use Rattle.sim_events.proofs.Nodes.{KeepsNodes, nodes_same, nodes_relinked, nodes_begun}
-use Rattle.sim_events.proofs.Parts.{KeepsParts, parts_same, parts_updated, free_own}
-use Rattle.sim_events.proofs.Storing.{stored_with, others_with}
+use Rattle.sim_events.proofs.Parts.{condition_written, KeepsParts, parts_same, parts_updated, free_own}
+use Rattle.sim_events.proofs.Storing.{kept_with, stored_with, others_with}
 use Rattle.sim_events.proofs.Placing.{kept_found, kept_is_placed, placed_changed, events_changed}
 use Rattle.sim_events.proofs.KeptLists.{ordered_changed}
 
@@ -120,3 +120,12 @@ module _ (places : List (Option ℕ)) (s : Store) (left : Chain) (t : IsSoundTab
       go : (b : Bool) → IsSome (cond b (get s.parts x.part) None) → b ≡ true
       go true h = refl
       go false h = absurd (false≢true h)
+
+  -- what it has as a condition changes
+  pub rewrites_condition : (z now : ConditionOf) (change : ConditionOf → ConditionOf) → IsSome (kept_at (events_in places s) e).event.condition
+      → get s.parts x.part ≡ Some z → now ≡ change z
+      → Rewrites places s (record s { parts = with_value s.parts x.part now }) left e (on_condition change)
+  rewrites_condition z now change some part is =
+      let holds = is_condition some in
+      let written = condition_written s.parts x z now change holds part is in
+      rewrites_part now (on_condition change) holds (ap (kept_with x (callbacks_in s.nodes x.callbacks)) written)

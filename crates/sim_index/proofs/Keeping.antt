@@ -123,7 +123,9 @@ module _ (es : List Entry) (live given capacity n at : ℕ) (x : Entry) (s : IsS
   moved : (place : ℕ) → Changes es (record { number = x.number; place = place }) (set es at (record { number = x.number; place = place }))
   moved place = replaced es at (record { number = x.number; place = place }) s.rising (record { within = h.within; number = λ d. h.number d ∙ sym here })
 
-  pub places_moved : (place : ℕ) → places_below given (set es at (record { number = x.number; place = place })) ≡ set (places_below given es) n (place_of_entry (record { number = x.number; place = place }))
+  pub places_moved : (place : ℕ)
+      → places_below given (set es at (record { number = x.number; place = place })) ≡ set (places_below given es) n
+      (place_of_entry (record { number = x.number; place = place }))
   places_moved place =
       let e : Entry = record { number = x.number; place = place } in
       places_changed es (set es at e) e live given capacity s (moved place) low ∙ ap (λ m. set (places_below given es) m (place_of_entry e)) here
@@ -140,7 +142,8 @@ module _ (es : List Entry) (live given capacity n at : ℕ) (x : Entry) (s : IsS
       let one : one_if (is_live (get_or es at x)) ≤ count_by is_live es = get_or-le-sum_by (λ e. one_if (is_live e)) es at x h.within in
       omega (arith, s.counted, rw (← is, live_there some) at one)
 
-  pub sound_moved : (place now : ℕ) → IsSome (place_of_number n (places_below given es)) → now + 1 ≡ live + one_if (is_live (record { number = x.number; place = place }))
+  pub sound_moved : (place now : ℕ) → IsSome (place_of_number n (places_below given es))
+      → now + 1 ≡ live + one_if (is_live (record { number = x.number; place = place }))
       → entries_per_number * now ≤ capacity → IsSoundIndex (set es at (record { number = x.number; place = place })) now given capacity
   sound_moved place now some count room =
       let e : Entry = record { number = x.number; place = place } in
@@ -151,7 +154,8 @@ module _ (old new : List Entry) (e : Entry) (live given capacity : ℕ) (s : IsS
   pub places_put : places_below given new ≡ set (places_below given old) e.number (Some e.place)
   places_put = places_changed old new e live given capacity s (put old new e s.rising p) low ∙ ap (λ o. set (places_below given old) e.number o) (place_within e fits)
 
-  pub sound_put : place_of_number e.number (places_below given old) ≡ None → entries_per_number * (live + 1) ≤ capacity → IsSoundIndex new (live + 1) given capacity
+  pub sound_put : place_of_number e.number (places_below given old) ≡ None → entries_per_number * (live + 1) ≤ capacity
+      → IsSoundIndex new (live + 1) given capacity
   sound_put none room = sound_changed old new e live given capacity s (put old new e s.rising p) low (live + 1) (rw (none, live_within e fits) (omega arith)) room
 
 -- ---- a number after those given gets a place

@@ -18,7 +18,10 @@ use Rattle.sim_events.proofs.table.Table.begin.Goals as goal
 abbrev begun : Slot → Chain → Slot
 begun x none = record x { processed = true; callbacks = none }
 
-rewritten : (c : goal.After-forget_unneeded-arg-2-1) → Rewrites c.self.inside.index.places c.self.inside.store (record c.self.inside.store { slots = with_value c.self.inside.store.slots c.in-Some.key (begun c.index_mut-slot.result.now c.take-self-inside.new.self) }) c.index_mut-slot.result.now.callbacks c.args.event with_processed
+rewritten : (c : goal.After-forget_unneeded-arg-2-1)
+    → Rewrites c.self.inside.index.places c.self.inside.store
+    (record c.self.inside.store { slots = with_value c.self.inside.store.slots c.in-Some.key (begun c.index_mut-slot.result.now c.take-self-inside.new.self) })
+    c.index_mut-slot.result.now.callbacks c.args.event with_processed
 rewritten c =
     let x = c.index_mut-slot.result.now in
     let at = sym c.seek.ensures.place ∙ c.in-Some.is in
@@ -31,7 +34,9 @@ forget_unneeded-requires-clause-store c = record { left = c.index_mut-slot.resul
 pub forget_unneeded-requires-clause-placed : goal.forget_unneeded-requires-clause-placed
 forget_unneeded-requires-clause-placed c = rw c.seek.ensures.same (rewritten c).placed
 
-done : (c : goal.After-forget_unneeded) → Forgotten c.self.inside.index c.self.inside.store c.self.inside.left c.forget_unneeded.new.index c.forget_unneeded.new.store c.take-self-inside.result c.args.event with_processed
+done : (c : goal.After-forget_unneeded)
+    → Forgotten c.self.inside.index c.self.inside.store c.self.inside.left c.forget_unneeded.new.index c.forget_unneeded.new.store
+    c.take-self-inside.result c.args.event with_processed
 done c =
     let x = c.index_mut-slot.result.now in
     let y = begun x c.take-self-inside.new.self in

@@ -10,7 +10,9 @@ forget_unneeded-requires-clause-store c =
     let x = c.index_mut.result.now in
     record { left = c.self.inside.left; stored = (rewrites_slot c.self.inside.index.places c.self.inside.store c.self.inside.left c.self.invariant c.args.event c.key_of-key.result x c.key_of-key.ensures c.index_mut.ensures.value (record x { holders = x.holders - 1 }) without_holder refl refl refl refl).stored }
 
-done : (c : goal.After-forget_unneeded) → Forgotten c.self.inside.index c.self.inside.store c.self.inside.left c.forget_unneeded.new.index c.forget_unneeded.new.store c.self.inside.left c.args.event without_holder
+done : (c : goal.After-forget_unneeded)
+    → Forgotten c.self.inside.index c.self.inside.store c.self.inside.left c.forget_unneeded.new.index c.forget_unneeded.new.store c.self.inside.left
+    c.args.event without_holder
 done c =
     let t = c.self.invariant in
     let x = c.index_mut.result.now in

@@ -18,12 +18,16 @@ use Rattle.sim_events.proofs.table.Table.unregister.Goals as goal
 pub take_out-requires : goal.take_out-requires
 take_out-requires c = own_chain c.self.inside.index.places c.self.inside.store c.self.inside.left c.self.invariant c.args.event c.key_of-key.result c.index_mut.result.now c.key_of-key.ensures c.index_mut.ensures.value
 
-relinked : (c : goal.After-self-1) → Relinked c.self.inside.store.nodes c.take_out.new.self c.self.invariant.stored.owners (suc c.key_of-key.result) c.take_out.new.chain
+relinked : (c : goal.After-self-1)
+    → Relinked c.self.inside.store.nodes c.take_out.new.self c.self.invariant.stored.owners (suc c.key_of-key.result) c.take_out.new.chain
 relinked c =
     let t = c.self.invariant in
     c.take_out.ensures.others t.stored.owners (suc c.key_of-key.result) (t.stored.chains c.key_of-key.result c.index_mut.result.now c.index_mut.ensures.value)
 
-rewritten : (c : goal.After-self-1) → Rewrites c.self.inside.index.places c.self.inside.store (record c.self.inside.store { slots = with_value c.self.inside.store.slots c.key_of-key.result (record c.index_mut.result.now { callbacks = c.take_out.new.chain }); nodes = c.take_out.new.self }) c.self.inside.left c.args.event (without_callback c.args.callback)
+rewritten : (c : goal.After-self-1)
+    → Rewrites c.self.inside.index.places c.self.inside.store
+    (record c.self.inside.store { slots = with_value c.self.inside.store.slots c.key_of-key.result (record c.index_mut.result.now { callbacks = c.take_out.new.chain }); nodes = c.take_out.new.self })
+    c.self.inside.left c.args.event (without_callback c.args.callback)
 rewritten c =
     let x = c.index_mut.result.now in
     rewrites_chain c.self.inside.index.places c.self.inside.store c.self.inside.left c.self.invariant c.args.event c.key_of-key.result x c.key_of-key.ensures c.index_mut.ensures.value c.take_out.new.self c.take_out.new.chain (without_callback c.args.callback) (relinked c) (ap (λ cs. kept_with x cs (condition_in c.self.inside.store.parts x)) c.take_out.ensures.callbacks)
