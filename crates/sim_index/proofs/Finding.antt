@@ -1,6 +1,6 @@
 -- What is found among entries whose numbers rise.
-use Rattle.std.proofs.Common.{◌≡◌, ◌≢◌, ℕ, zero, suc, ◌<◌, Bool, true, false, List, [], ◌∷◌, length, get_or, set, filter, None, cond, eqb, refl, sym, ap, ◌∙◌, inl, inr, arith, All, not}
-use Rattle.std.specs.List.{AllPairs, insert}
+use Rattle.std.proofs.Common.{◌≡◌, ◌≢◌, ℕ, zero, suc, ◌<◌, Bool, true, false, List, [], ◌∷◌, length, get_or, set, filter, None, cond, eqb, refl, sym, ap, ◌∙◌, inl, inr, arith, not}
+use Rattle.std.specs.List.{insert}
 use Rattle.std.proofs.lemmas.Bool.{eq-eqb, ne_eqb, cases_eq}
 use Rattle.std.proofs.lemmas.List.{length-set, get_or-set_same, get_or-set_other}
 use Rattle.std.proofs.lemmas.List.Elements.{All-tail}

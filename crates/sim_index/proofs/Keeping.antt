@@ -1,7 +1,6 @@
 -- An index stays sound, and which numbers have which places.
-use Rattle.std.proofs.Common.{◌≡◌, ◌≢◌, ℕ, ◌+◌, ◌-◌, ◌*◌, ◌<◌, ◌≤◌, Bool, true, false, List, [], ◌∷◌, ◌++◌, length, get_or, set, filter, map, replicate, Option, Some, None, is_some, IsSome, cond, eqb, refl, sym, ap, ◌∙◌, inl, inr, arith, All, not, count_by, zero-add}
-use Rattle.std.specs.List.{range_with_len, insert}
-use Rattle.std.proofs.lemmas.Bool.{eq-eqb, ne_eqb, cases_lt, cases_eq, false≢true}
+use Rattle.std.proofs.Common.{◌≡◌, ℕ, ◌+◌, ◌-◌, ◌*◌, ◌<◌, ◌≤◌, Bool, true, false, List, [], ◌∷◌, ◌++◌, length, get_or, set, filter, replicate, Option, Some, None, is_some, IsSome, cond, refl, sym, ap, ◌∙◌, inl, inr, arith, All, count_by, zero-add}
+use Rattle.std.proofs.lemmas.Bool.{cases_lt, cases_eq}
 use Rattle.std.proofs.lemmas.List.{length-set, length-append, length-replicate, get_or_past, get_or-set_same, get_or-set_other, get_or_append_left, get_or-append_right, get_or-replicate}
 use Rattle.std.proofs.lemmas.List.Edits.{insert_end}
 use Rattle.std.proofs.lemmas.List.Elements.{All-filter, All-weaker}
@@ -13,7 +12,7 @@ use Rattle.sim_index.specs.declared.entries.Entry.{Entry}
 use Rattle.sim_index.specs.Entries.{gone, entries_per_number, place_among, place_of_entry, places_below, is_live, NumbersRise, IsSoundIndex, HasNumberAt, HasNumberNowhere, StandsBefore, SameEntries, IsPut}
 use Rattle.sim_index.specs.IndexOf.{with_number, place_of_number}
 use Rattle.sim_index.proofs.Finding.{place_found, place_nowhere, place_filter}
-use Rattle.sim_index.proofs.Changing.{one_if, Changes, replaced, inserted, put, place_if_live, place_of_live, live_within, place_within}
+use Rattle.sim_index.proofs.Changing.{one_if, Changes, replaced, inserted, put, place_if_live, live_within, place_within}
 
 pub length_places : (given : ℕ) (es : List Entry) → length (places_below given es) ≡ given
 length_places given es = length-map-range_with_len (λ n. place_among n es) 0 given

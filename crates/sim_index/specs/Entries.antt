@@ -1,5 +1,5 @@
 -- How an index keeps numbers: in rising order, each with its place or, once it was taken out, with a mark.
-use Rattle.std.specs.Prelude.{◌≡◌, ◌≢◌, ℕ, ◌+◌, ◌*◌, ◌<◌, ◌≤◌, ◌==◌, not, Bool, List, [], ◌∷◌, Option, Some, None, is_some, map, count_by, filter, ◌⊎◌, if◌then◌else◌, All, MatchOption, length, slice_index_or, slice_set}
+use Rattle.std.specs.Prelude.{◌≡◌, ◌≢◌, ℕ, ◌*◌, ◌<◌, ◌≤◌, ◌==◌, not, Bool, List, [], ◌∷◌, Option, Some, None, is_some, map, count_by, filter, ◌⊎◌, if◌then◌else◌, All, MatchOption, length, slice_index_or, slice_set}
 use Rattle.std.specs.List.{range_with_len, AllPairs, insert}
 use Rattle.sim_index.specs.declared.entries.Entry.{Entry}
 

@@ -1,4 +1,4 @@
-use Rattle.std.proofs.Common.{◌<◌, arith, ap, length}
+use Rattle.std.proofs.Common.{arith, ap, length}
 use Rattle.std.proofs.lemmas.List.Sums.{length-filter}
 use Rattle.sim_index.specs.Entries.{is_live}
 use Rattle.sim_index.proofs.entries.compact_if_full.Goals as goal
