@@ -23,7 +23,8 @@ pub record Looked (nodes : Slab Node) (chain : Chain) (wanted : Callback) (place
 pub looked_none : (nodes : Slab Node) (chain : Chain) (wanted : Callback) (before : ℕ) → Looked nodes chain wanted 0 chain.first before
 looked_none nodes chain wanted before = record { here = refl; before_here = λ j e. absurd (omega (arith, e)); none = λ j h. absurd (omega arith) }
 
-pub looked_more : (nodes : Slab Node) (chain : Chain) (wanted : Callback) (place at before : ℕ) (x : Node) → Looked nodes chain wanted place at before → get nodes at ≡ Some x → is_same_callback wanted x.callback ≡ false → Looked nodes chain wanted (place + 1) x.next at
+pub looked_more : (nodes : Slab Node) (chain : Chain) (wanted : Callback) (place at before : ℕ) (x : Node) → Looked nodes chain wanted place at before
+    → get nodes at ≡ Some x → is_same_callback wanted x.callback ≡ false → Looked nodes chain wanted (place + 1) x.next at
 looked_more nodes chain wanted place at before x l read other =
     let node = node_read nodes at x read in
     let this : node_at nodes (key_at nodes place chain.first) ≡ x = ap (λ k. node_at nodes k) (sym l.here) ∙ node in
@@ -37,7 +38,9 @@ looked_more nodes chain wanted place at before x l read other =
       ];
     }
 
-pub looked_found : (nodes : Slab Node) (chain : Chain) (wanted : Callback) (place at before : ℕ) (x : Node) → Looked nodes chain wanted place at before → place < chain.count → get nodes at ≡ Some x → is_same_callback wanted x.callback ≡ true → IsFirstWith nodes chain wanted (record { place = place; at = at; before = before })
+pub looked_found : (nodes : Slab Node) (chain : Chain) (wanted : Callback) (place at before : ℕ) (x : Node)
+    → Looked nodes chain wanted place at before → place < chain.count → get nodes at ≡ Some x → is_same_callback wanted x.callback ≡ true
+    → IsFirstWith nodes chain wanted (record { place = place; at = at; before = before })
 looked_found nodes chain wanted place at before x l h read same =
     let this : node_at nodes (key_at nodes place chain.first) ≡ x = ap (λ k. node_at nodes k) (sym l.here) ∙ node_read nodes at x read in
     record {
@@ -46,11 +49,14 @@ looked_found nodes chain wanted place at before x l h read same =
       not_earlier = l.none;
     }
 
-pub looked_all : (nodes : Slab Node) (chain : Chain) (wanted : Callback) (at before : ℕ) → Looked nodes chain wanted chain.count at before → list_any (is_same_callback wanted) (callbacks_in nodes chain) ≡ false
+pub looked_all : (nodes : Slab Node) (chain : Chain) (wanted : Callback) (at before : ℕ) → Looked nodes chain wanted chain.count at before
+    → list_any (is_same_callback wanted) (callbacks_in nodes chain) ≡ false
 looked_all nodes chain wanted at before l = from_none nodes (is_same_callback wanted) chain.count chain.first l.none
 
-pub found_any : (nodes : Slab Node) (chain : Chain) (wanted : Callback) (found : Found) → IsFirstWith nodes chain wanted found → list_any (is_same_callback wanted) (callbacks_in nodes chain) ≡ true
+pub found_any : (nodes : Slab Node) (chain : Chain) (wanted : Callback) (found : Found) → IsFirstWith nodes chain wanted found
+    → list_any (is_same_callback wanted) (callbacks_in nodes chain) ≡ true
 found_any nodes chain wanted found f = from_any nodes (is_same_callback wanted) found.place chain.count chain.first f.stands.within f.here
 
-pub found_without : (nodes : Slab Node) (chain : Chain) (wanted : Callback) (found : Found) → IsFirstWith nodes chain wanted found → without_at found.place (callbacks_in nodes chain) ≡ without_first (is_same_callback wanted) (callbacks_in nodes chain)
+pub found_without : (nodes : Slab Node) (chain : Chain) (wanted : Callback) (found : Found) → IsFirstWith nodes chain wanted found
+    → without_at found.place (callbacks_in nodes chain) ≡ without_first (is_same_callback wanted) (callbacks_in nodes chain)
 found_without nodes chain wanted found f = sym (from_without_first nodes (is_same_callback wanted) found.place chain.count chain.first f.stands.within f.not_earlier f.here)

@@ -11,7 +11,8 @@ pub relinked_none : (nodes : Slab Node) (w : Owners) (o : ℕ) (chain : Chain) �
 relinked_none nodes w o chain l = record { owners = w; here = l; others = λ p c apart h. h; same = λ p c apart h. refl }
 
 -- one thing after another
-pub relinked_then : (old mid new : Slab Node) (w : Owners) (o : ℕ) (chain later : Chain) → Relinked old mid w o chain → ((w : Owners) (o : ℕ) → IsLinked mid w o chain → Relinked mid new w o later) → Relinked old new w o later
+pub relinked_then : (old mid new : Slab Node) (w : Owners) (o : ℕ) (chain later : Chain) → Relinked old mid w o chain
+    → ((w : Owners) (o : ℕ) → IsLinked mid w o chain → Relinked mid new w o later) → Relinked old new w o later
 relinked_then old mid new w o chain later first then =
     let second = then first.owners o first.here in
     record {
@@ -31,7 +32,9 @@ pub record Freed (old : Slab Node) (whole : Chain) (new : Slab Node) (rest : Cha
 pub freed_none : (nodes : Slab Node) (chain : Chain) → IsChain nodes chain → Freed nodes chain nodes chain
 freed_none nodes chain c = record { chain = c; relinked = λ w o l. relinked_none nodes w o chain l; len = refl; capacity = refl }
 
-pub freed_more : (old mid new : Slab Node) (whole chain rest : Chain) → Freed old whole mid chain → ((w : Owners) (o : ℕ) → IsLinked mid w o chain → Relinked mid new w o rest) → slab_len new + chain.count ≡ slab_len mid + rest.count → new.capacity ≡ mid.capacity → Freed old whole new rest
+pub freed_more : (old mid new : Slab Node) (whole chain rest : Chain) → Freed old whole mid chain
+    → ((w : Owners) (o : ℕ) → IsLinked mid w o chain → Relinked mid new w o rest) → slab_len new + chain.count ≡ slab_len mid + rest.count
+    → new.capacity ≡ mid.capacity → Freed old whole new rest
 freed_more old mid new whole chain rest f then len capacity =
     let c = f.chain in
     let second = then c.owners c.whose c.linked in

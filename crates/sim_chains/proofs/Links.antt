@@ -11,7 +11,8 @@ use Rattle.sim_chains.specs.declared.chain.Node.{Node}
 use Rattle.sim_chains.specs.Chains.{node_at, callbacks_from, key_at, AreLinked}
 use Rattle.sim_chains.specs.Places.{without_at}
 
-pub weaken : (nodes : Slab Node) (owner rank : ℕ → ℕ) (o low low' n at last : ℕ) → low' ≤ low → AreLinked nodes owner rank o low n at last → AreLinked nodes owner rank o low' n at last
+pub weaken : (nodes : Slab Node) (owner rank : ℕ → ℕ) (o low low' n at last : ℕ) → low' ≤ low → AreLinked nodes owner rank o low n at last
+    → AreLinked nodes owner rank o low' n at last
 weaken nodes owner rank o low low' zero at last h l = tt
 weaken nodes owner rank o low low' (suc n) at last h l = (record { there = l.0.there; mine = l.0.mine; after = omega (arith, l.0.after); ends = l.0.ends }, l.1)
 
@@ -23,7 +24,8 @@ pub record Stays (old new : Slab Node) (rank owner' rank' : ℕ → ℕ) (o k : 
 
 module _ (old new : Slab Node) (owner rank owner' rank' : ℕ → ℕ) (o : ℕ) where
   -- where the nodes of a chain stay, it stays
-  pub other : (n low at last : ℕ) → ((k : ℕ) → owner k ≡ o → low ≤ rank k → IsSome (get old k) → Stays old new rank owner' rank' o k) → AreLinked old owner rank o low n at last → AreLinked new owner' rank' o low n at last
+  pub other : (n low at last : ℕ) → ((k : ℕ) → owner k ≡ o → low ≤ rank k → IsSome (get old k) → Stays old new rank owner' rank' o k)
+      → AreLinked old owner rank o low n at last → AreLinked new owner' rank' o low n at last
   other zero low at last stays l = tt
   other (suc n) low at last stays l =
       let s = stays at l.0.mine l.0.after l.0.there in
@@ -32,7 +34,8 @@ module _ (old new : Slab Node) (owner rank owner' rank' : ℕ → ℕ) (o : ℕ)
         rw (s.after, s.same) rest,
       )
 
-  pub other_callbacks : (n low at last : ℕ) → ((k : ℕ) → owner k ≡ o → low ≤ rank k → IsSome (get old k) → Stays old new rank owner' rank' o k) → AreLinked old owner rank o low n at last → callbacks_from new n at ≡ callbacks_from old n at
+  pub other_callbacks : (n low at last : ℕ) → ((k : ℕ) → owner k ≡ o → low ≤ rank k → IsSome (get old k) → Stays old new rank owner' rank' o k)
+      → AreLinked old owner rank o low n at last → callbacks_from new n at ≡ callbacks_from old n at
   other_callbacks zero low at last stays l = refl
   other_callbacks (suc n) low at last stays l =
       let s = stays at l.0.mine l.0.after l.0.there in
@@ -100,7 +103,8 @@ pub record Appends (old new : Slab Node) (owner rank owner' rank' : ℕ → ℕ)
   pub after : rank last < rank' key
 
 module _ (old new : Slab Node) (owner rank owner' rank' : ℕ → ℕ) (o last key : ℕ) (c : Callback) where
-  pub append_links : Appends old new owner rank owner' rank' o last key c → (n low at : ℕ) → AreLinked old owner rank o low (suc n) at last → AreLinked new owner' rank' o low (suc (suc n)) at key
+  pub append_links : Appends old new owner rank owner' rank' o last key c → (n low at : ℕ) → AreLinked old owner rank o low (suc n) at last
+      → AreLinked new owner' rank' o low (suc (suc n)) at key
   append_links a zero low at l =
       let here : at ≡ last = l.0.ends refl in
       let final : AreLinked new owner' rank' o (suc (rank last)) 1 key key = (record { there = rw a.added refl; mine = a.mine; after = omega (arith, a.after); ends = λ z. refl }, tt) in (
@@ -115,7 +119,8 @@ module _ (old new : Slab Node) (owner rank owner' rank' : ℕ → ℕ) (o last k
         rw (s.after, s.same) rest,
       )
 
-  pub append_from : Appends old new owner rank owner' rank' o last key c → (n low at : ℕ) → AreLinked old owner rank o low (suc n) at last → callbacks_from new (suc (suc n)) at ≡ callbacks_from old (suc n) at ++ c ∷ []
+  pub append_from : Appends old new owner rank owner' rank' o last key c → (n low at : ℕ) → AreLinked old owner rank o low (suc n) at last
+      → callbacks_from new (suc (suc n)) at ≡ callbacks_from old (suc n) at ++ c ∷ []
   append_from a zero low at l = rw (l.0.ends refl, a.linked, a.added, a.callback) refl
   append_from a (suc n) low at l =
       let later = last_mine old owner rank o n (suc (rank at)) (node_at old at).next last l.1 in
@@ -127,12 +132,14 @@ module _ (old new : Slab Node) (owner rank owner' rank' : ℕ → ℕ) (o last k
 
 module _ (old new : Slab Node) (owner rank : ℕ → ℕ) (o : ℕ) where
   -- the rest of a chain whose first node goes
-  pub first_links : (n low at last : ℕ) → ((k : ℕ) → k ≢ at → IsSome (get old k) → get new k ≡ get old k) → AreLinked old owner rank o low (suc n) at last → AreLinked new owner rank o low n (node_at old at).next last
+  pub first_links : (n low at last : ℕ) → ((k : ℕ) → k ≢ at → IsSome (get old k) → get new k ≡ get old k)
+      → AreLinked old owner rank o low (suc n) at last → AreLinked new owner rank o low n (node_at old at).next last
   first_links n low at last stays l =
       weaken new owner rank o (suc (rank at)) low n (node_at old at).next last (omega (arith, l.0.after))
       (other old new owner rank owner rank o n (suc (rank at)) (node_at old at).next last (λ k m a t. record { same = stays k (λ s. omega (arith, a, ap rank s)) t; mine = m; after = refl }) l.1)
 
-  pub first_from : (n low at last : ℕ) → ((k : ℕ) → k ≢ at → IsSome (get old k) → get new k ≡ get old k) → AreLinked old owner rank o low (suc n) at last → callbacks_from new n (node_at old at).next ≡ callbacks_from old n (node_at old at).next
+  pub first_from : (n low at last : ℕ) → ((k : ℕ) → k ≢ at → IsSome (get old k) → get new k ≡ get old k)
+      → AreLinked old owner rank o low (suc n) at last → callbacks_from new n (node_at old at).next ≡ callbacks_from old n (node_at old at).next
   first_from n low at last stays l =
       other_callbacks old new owner rank owner rank o n (suc (rank at)) (node_at old at).next last (λ k m a t. record { same = stays k (λ s. omega (arith, a, ap rank s)) t; mine = m; after = refl }) l.1
 
@@ -141,13 +148,16 @@ module _ (old new : Slab Node) (owner rank : ℕ → ℕ) (o : ℕ) where
     pub stays : (k : ℕ) → k ≢ p → k ≢ q → IsSome (get old k) → get new k ≡ get old k
     pub linked : get new p ≡ Some (record (node_at old p) { next = (node_at old q).next })
 
-  pub unlink_links : (p q : ℕ) → Unlinks p q → (i n low at last last' : ℕ) → i ≤ n → p ≡ key_at old i at → q ≡ key_at old (suc i) at → (i ≡ n → last' ≡ p) → (i ≢ n → last' ≡ last) → AreLinked old owner rank o low (suc (suc n)) at last → AreLinked new owner rank o low (suc n) at last'
+  pub unlink_links : (p q : ℕ) → Unlinks p q → (i n low at last last' : ℕ) → i ≤ n → p ≡ key_at old i at → q ≡ key_at old (suc i) at
+      → (i ≡ n → last' ≡ p) → (i ≢ n → last' ≡ last) → AreLinked old owner rank o low (suc (suc n)) at last
+      → AreLinked new owner rank o low (suc n) at last'
   unlink_links p q u zero n low at last last' h is_p is_q final further l = (
     record { there = rw (sym is_p, u.linked) refl; mine = l.0.mine; after = l.0.after; ends = λ z. sym is_p ∙ sym (final (sym z)) },
     rw (sym is_p, u.linked) (rest n final further l),
   )
     where
-      rest : (n : ℕ) → (0 ≡ n → last' ≡ p) → (0 ≢ n → last' ≡ last) → AreLinked old owner rank o low (suc (suc n)) at last → AreLinked new owner rank o (suc (rank p)) n (node_at old q).next last'
+      rest : (n : ℕ) → (0 ≡ n → last' ≡ p) → (0 ≢ n → last' ≡ last) → AreLinked old owner rank o low (suc (suc n)) at last
+          → AreLinked new owner rank o (suc (rank p)) n (node_at old q).next last'
       rest zero final further l = tt
       rest (suc n) final further l =
           let second : AreLinked old owner rank o (suc (rank p)) (suc (suc n)) q last = rw (is_p, is_q) l.1 in
@@ -164,7 +174,9 @@ module _ (old new : Slab Node) (owner rank : ℕ → ℕ) (o : ℕ) where
         rw same rest,
       )
 
-  pub unlink_from : (p q : ℕ) → Unlinks p q → (i n low at last : ℕ) → i ≤ n → p ≡ key_at old i at → q ≡ key_at old (suc i) at → AreLinked old owner rank o low (suc (suc n)) at last → callbacks_from new (suc n) at ≡ without_at (suc i) (callbacks_from old (suc (suc n)) at)
+  pub unlink_from : (p q : ℕ) → Unlinks p q → (i n low at last : ℕ) → i ≤ n → p ≡ key_at old i at → q ≡ key_at old (suc i) at
+      → AreLinked old owner rank o low (suc (suc n)) at last
+      → callbacks_from new (suc n) at ≡ without_at (suc i) (callbacks_from old (suc (suc n)) at)
   unlink_from p q u zero n low at last h is_p is_q l =
       let second : AreLinked old owner rank o (suc (rank p)) (suc n) q last = rw (is_p, is_q) l.1 in
       let later : callbacks_from new n (node_at old q).next ≡ callbacks_from old n (node_at old q).next = other_callbacks old new owner rank owner rank o n (suc (rank q)) (node_at old q).next last (λ k m a t. record { same = u.stays k (λ s. omega (arith, a, second.0.after, ap rank s)) (λ s. omega (arith, a, ap rank s)) t; mine = m; after = refl }) second.1 in
@@ -179,7 +191,9 @@ module _ (old new : Slab Node) (owner rank : ℕ → ℕ) (o : ℕ) where
 -- ---- the first callback that passes a test
 
 module _ (nodes : Slab Node) (test : Callback → Bool) where
-  pub from_without_first : (i n at : ℕ) → i < n → ((j : ℕ) → j < i → test (node_at nodes (key_at nodes j at)).callback ≡ false) → test (node_at nodes (key_at nodes i at)).callback ≡ true → without_first test (callbacks_from nodes n at) ≡ without_at i (callbacks_from nodes n at)
+  pub from_without_first : (i n at : ℕ) → i < n → ((j : ℕ) → j < i → test (node_at nodes (key_at nodes j at)).callback ≡ false)
+      → test (node_at nodes (key_at nodes i at)).callback ≡ true
+      → without_first test (callbacks_from nodes n at) ≡ without_at i (callbacks_from nodes n at)
   from_without_first i zero at h earlier here = absurd (omega arith)
   from_without_first zero (suc n) at h earlier here = rw here refl
   from_without_first (suc i) (suc n) at h earlier here =
@@ -190,7 +204,8 @@ module _ (nodes : Slab Node) (test : Callback → Bool) where
   from_any zero (suc n) at h here = rw here refl
   from_any (suc i) (suc n) at h here = go (test (node_at nodes at).callback) (from_any i n (node_at nodes at).next (omega arith) here)
     where
-      go : (b : Bool) → list_any test (callbacks_from nodes n (node_at nodes at).next) ≡ true → b || list_any test (callbacks_from nodes n (node_at nodes at).next) ≡ true
+      go : (b : Bool) → list_any test (callbacks_from nodes n (node_at nodes at).next) ≡ true
+          → b || list_any test (callbacks_from nodes n (node_at nodes at).next) ≡ true
       go true h = refl
       go false h = h
 
@@ -203,7 +218,8 @@ pub without_none : (test : Callback → Bool) (cs : List Callback) → list_any 
 without_none test [] h = refl
 without_none test (c ∷ cs) h = go (test c) refl h (without_none test cs)
   where
-    go : (b : Bool) → test c ≡ b → b || list_any test cs ≡ false → (list_any test cs ≡ false → without_first test cs ≡ cs) → cond b cs (c ∷ without_first test cs) ≡ c ∷ cs
+    go : (b : Bool) → test c ≡ b → b || list_any test cs ≡ false → (list_any test cs ≡ false → without_first test cs ≡ cs)
+        → cond b cs (c ∷ without_first test cs) ≡ c ∷ cs
     go true is h rest = absurd (cc)
     go false is h rest = ap (λ xs. c ∷ xs) (rest h)
 
@@ -216,7 +232,8 @@ key_next nodes zero at = refl
 key_next nodes (suc i) at = key_next nodes i (node_at nodes at).next
 
 -- the rank rises along a chain, so a node and the next are two
-pub key_apart : (nodes : Slab Node) (owner rank : ℕ → ℕ) (o i n low at last : ℕ) → suc i < n → AreLinked nodes owner rank o low n at last → key_at nodes i at ≢ key_at nodes (suc i) at
+pub key_apart : (nodes : Slab Node) (owner rank : ℕ → ℕ) (o i n low at last : ℕ) → suc i < n → AreLinked nodes owner rank o low n at last
+    → key_at nodes i at ≢ key_at nodes (suc i) at
 key_apart nodes owner rank o i zero low at last h l = absurd (omega arith)
 key_apart nodes owner rank o zero (suc n) low at last h l = λ same.
     let next = key_mine nodes owner rank o 0 n (suc (rank at)) (node_at nodes at).next last (omega arith) l.1 in

@@ -29,7 +29,8 @@ keeps_all old new same = record {
     callbacks (suc n) at = rw (node at) (ap (λ cs. (node_at old at).callback ∷ cs) (callbacks n (node_at old at).next))
 
 -- a chain is handed from one owner to another
-handed : (nodes : Slab Node) (owner rank owner' : ℕ → ℕ) (o o' : ℕ) → ((k : ℕ) → owner k ≡ o → owner' k ≡ o') → (n low at last : ℕ) → AreLinked nodes owner rank o low n at last → AreLinked nodes owner' rank o' low n at last
+handed : (nodes : Slab Node) (owner rank owner' : ℕ → ℕ) (o o' : ℕ) → ((k : ℕ) → owner k ≡ o → owner' k ≡ o') → (n low at last : ℕ)
+    → AreLinked nodes owner rank o low n at last → AreLinked nodes owner' rank o' low n at last
 handed nodes owner rank owner' o o' hands zero low at last l = tt
 handed nodes owner rank owner' o o' hands (suc n) low at last l = (record { there = l.0.there; mine = hands at l.0.mine; after = l.0.after; ends = l.0.ends }, handed nodes owner rank owner' o o' hands n (suc (rank at)) (node_at nodes at).next last l.1)
 

@@ -12,7 +12,8 @@ use Rattle.sim_chains.specs.Places.{without_at}
 use Rattle.sim_chains.proofs.Links.{Stays, other, other_callbacks, last_mine, key_mine, Appends, append_links, append_from, first_links, first_from, Unlinks, unlink_links, unlink_from, links_fit, IsMine, key_apart}
 
 -- the chain of o is new, and the nodes of all others stay
-pub relinked_from : (old new : Slab Node) (w owners : Owners) (o : ℕ) (chain : Chain) → IsLinked new owners o chain → ((p k : ℕ) → p ≢ o → w.owner k ≡ p → IsSome (get old k) → Stays old new w.rank owners.owner owners.rank p k) → Relinked old new w o chain
+pub relinked_from : (old new : Slab Node) (w owners : Owners) (o : ℕ) (chain : Chain) → IsLinked new owners o chain
+    → ((p k : ℕ) → p ≢ o → w.owner k ≡ p → IsSome (get old k) → Stays old new w.rank owners.owner owners.rank p k) → Relinked old new w o chain
 relinked_from old new w owners o chain here stays =
     record {
       owners = owners;
@@ -50,7 +51,8 @@ module _ (old new : Slab Node) (w : Owners) (o key : ℕ) where
 
   -- ---- a callback is appended
 
-  pub append_first : (chain chain' : Chain) (x : Node) → get old key ≡ None → Updates old new key (Some x) → chain'.first ≡ key → chain'.last ≡ key → chain'.count ≡ 1 → Relinked old new w o chain'
+  pub append_first : (chain chain' : Chain) (x : Node) → get old key ≡ None → Updates old new key (Some x) → chain'.first ≡ key → chain'.last ≡ key
+      → chain'.count ≡ 1 → Relinked old new w o chain'
   append_first chain chain' x vacant updates first last count =
       let here : AreLinked new owned (ranked key) o 0 1 key key = (record { there = rw updates.changed refl; mine = owned_key; after = omega arith; ends = λ z. refl }, tt) in
       relinked_from old new w (record { owner = owned; rank = ranked key }) o chain' (record { links = rw (first, last, count) here }) (λ p k apart m t.
@@ -66,7 +68,8 @@ module _ (old new : Slab Node) (w : Owners) (o key : ℕ) where
     pub linked : get new chain.last ≡ Some (record (node_at old chain.last) { next = key })
     pub stays : (k : ℕ) → k ≢ key → k ≢ chain.last → get new k ≡ get old k
 
-  appends : (n : ℕ) (chain : Chain) (c : Callback) → IsAppended chain c → AreLinked old w.owner w.rank o 0 (suc n) chain.first chain.last → Appends old new w.owner w.rank owned (ranked chain.last) o chain.last key c
+  appends : (n : ℕ) (chain : Chain) (c : Callback) → IsAppended chain c → AreLinked old w.owner w.rank o 0 (suc n) chain.first chain.last
+      → Appends old new w.owner w.rank owned (ranked chain.last) o chain.last key c
   appends n chain c a l =
       let last = last_mine old w.owner w.rank o n 0 chain.first chain.last l in
       let apart = vacant_apart old key chain.last a.vacant last.there in
@@ -82,7 +85,8 @@ module _ (old new : Slab Node) (w : Owners) (o key : ℕ) where
         after = omega (arith, ranked_key chain.last);
       }
 
-  pub append_last : (n : ℕ) (chain chain' : Chain) (c : Callback) → IsAppended chain c → chain.count ≡ suc n → chain'.first ≡ chain.first → chain'.last ≡ key → chain'.count ≡ suc (suc n) → IsLinked old w o chain → Relinked old new w o chain'
+  pub append_last : (n : ℕ) (chain chain' : Chain) (c : Callback) → IsAppended chain c → chain.count ≡ suc n → chain'.first ≡ chain.first
+      → chain'.last ≡ key → chain'.count ≡ suc (suc n) → IsLinked old w o chain → Relinked old new w o chain'
   append_last n chain chain' c a many first last count linked =
       let links : AreLinked old w.owner w.rank o 0 (suc n) chain.first chain.last = rw many at linked.links in
       let whole = appends n chain c a links in
@@ -93,7 +97,8 @@ module _ (old new : Slab Node) (w : Owners) (o key : ℕ) where
       let not_last : k ≢ chain.last = λ s. apart (sym m ∙ ap w.owner s ∙ final.mine) in
       record { same = a.stays k differs not_last; mine = owned_other k differs ∙ m; after = ranked_other chain.last k differs })
 
-  pub append_callbacks : (n : ℕ) (chain chain' : Chain) (c : Callback) → IsAppended chain c → chain.count ≡ suc n → chain'.first ≡ chain.first → chain'.count ≡ suc (suc n) → IsLinked old w o chain → callbacks_in new chain' ≡ callbacks_in old chain ++ c ∷ []
+  pub append_callbacks : (n : ℕ) (chain chain' : Chain) (c : Callback) → IsAppended chain c → chain.count ≡ suc n → chain'.first ≡ chain.first
+      → chain'.count ≡ suc (suc n) → IsLinked old w o chain → callbacks_in new chain' ≡ callbacks_in old chain ++ c ∷ []
   append_callbacks n chain chain' c a many first count linked =
       let links : AreLinked old w.owner w.rank o 0 (suc n) chain.first chain.last = rw many at linked.links in
       rw (first, count, many) (append_from old new w.owner w.rank owned (ranked chain.last) o chain.last key c (appends n chain c a links) n 0 chain.first links)
@@ -101,7 +106,8 @@ module _ (old new : Slab Node) (w : Owners) (o key : ℕ) where
 -- ---- the first node goes
 
 module _ (old new : Slab Node) (w : Owners) (o : ℕ) (n : ℕ) (chain chain' : Chain) where
-  pub first_out : Updates old new chain.first None → chain.count ≡ suc n → chain'.first ≡ (node_at old chain.first).next → chain'.last ≡ chain.last → chain'.count ≡ n → IsLinked old w o chain → Relinked old new w o chain'
+  pub first_out : Updates old new chain.first None → chain.count ≡ suc n → chain'.first ≡ (node_at old chain.first).next → chain'.last ≡ chain.last
+      → chain'.count ≡ n → IsLinked old w o chain → Relinked old new w o chain'
   first_out updates many first last count linked =
       let links : AreLinked old w.owner w.rank o 0 (suc n) chain.first chain.last = rw many at linked.links in
       let here : AreLinked new w.owner w.rank o 0 n (node_at old chain.first).next chain.last = first_links old new w.owner w.rank o n 0 chain.first chain.last (λ k differs t. updates.others k differs) links in
@@ -109,7 +115,8 @@ module _ (old new : Slab Node) (w : Owners) (o : ℕ) (n : ℕ) (chain chain' : 
       let differs : k ≢ chain.first = λ s. apart (sym m ∙ ap w.owner s ∙ links.0.mine) in
       record { same = updates.others k differs; mine = m; after = refl })
 
-  pub first_callbacks : Updates old new chain.first None → chain.count ≡ suc n → chain'.first ≡ (node_at old chain.first).next → chain'.count ≡ n → IsLinked old w o chain → callbacks_in old chain ≡ (node_at old chain.first).callback ∷ callbacks_in new chain'
+  pub first_callbacks : Updates old new chain.first None → chain.count ≡ suc n → chain'.first ≡ (node_at old chain.first).next → chain'.count ≡ n
+      → IsLinked old w o chain → callbacks_in old chain ≡ (node_at old chain.first).callback ∷ callbacks_in new chain'
   first_callbacks updates many first count linked =
       let links : AreLinked old w.owner w.rank o 0 (suc n) chain.first chain.last = rw many at linked.links in
       let rest : callbacks_from new n (node_at old chain.first).next ≡ callbacks_from old n (node_at old chain.first).next = first_from old new w.owner w.rank o n 0 chain.first chain.last (λ k differs t. updates.others k differs) links in
@@ -118,7 +125,9 @@ module _ (old new : Slab Node) (w : Owners) (o : ℕ) (n : ℕ) (chain chain' : 
   -- ---- a later node goes
 
   -- where p stands before q: p names what q named, and q is gone
-  pub later_out : (i p q : ℕ) → Unlinks old new w.owner w.rank o p q → chain.count ≡ suc (suc n) → i ≤ n → p ≡ key_at old i chain.first → q ≡ key_at old (suc i) chain.first → chain'.first ≡ chain.first → (i ≡ n → chain'.last ≡ p) → (i ≢ n → chain'.last ≡ chain.last) → chain'.count ≡ suc n → IsLinked old w o chain → Relinked old new w o chain'
+  pub later_out : (i p q : ℕ) → Unlinks old new w.owner w.rank o p q → chain.count ≡ suc (suc n) → i ≤ n → p ≡ key_at old i chain.first
+      → q ≡ key_at old (suc i) chain.first → chain'.first ≡ chain.first → (i ≡ n → chain'.last ≡ p) → (i ≢ n → chain'.last ≡ chain.last)
+      → chain'.count ≡ suc n → IsLinked old w o chain → Relinked old new w o chain'
   later_out i p q u many h is_p is_q first final further count linked =
       let links : AreLinked old w.owner w.rank o 0 (suc (suc n)) chain.first chain.last = rw many at linked.links in
       let here : AreLinked new w.owner w.rank o 0 (suc n) chain.first chain'.last = unlink_links old new w.owner w.rank o p q u i n 0 chain.first chain.last chain'.last h is_p is_q final further links in
@@ -129,7 +138,9 @@ module _ (old new : Slab Node) (w : Owners) (o : ℕ) (n : ℕ) (chain chain' : 
       let not_q : k ≢ q = λ s. apart (sym m ∙ ap w.owner s ∙ q_mine.mine) in
       record { same = u.stays k not_p not_q t; mine = m; after = refl })
 
-  pub later_callbacks : (i p q : ℕ) → Unlinks old new w.owner w.rank o p q → chain.count ≡ suc (suc n) → i ≤ n → p ≡ key_at old i chain.first → q ≡ key_at old (suc i) chain.first → chain'.first ≡ chain.first → chain'.count ≡ suc n → IsLinked old w o chain → callbacks_in new chain' ≡ without_at (suc i) (callbacks_in old chain)
+  pub later_callbacks : (i p q : ℕ) → Unlinks old new w.owner w.rank o p q → chain.count ≡ suc (suc n) → i ≤ n → p ≡ key_at old i chain.first
+      → q ≡ key_at old (suc i) chain.first → chain'.first ≡ chain.first → chain'.count ≡ suc n → IsLinked old w o chain
+      → callbacks_in new chain' ≡ without_at (suc i) (callbacks_in old chain)
   later_callbacks i p q u many h is_p is_q first count linked =
       let links : AreLinked old w.owner w.rank o 0 (suc (suc n)) chain.first chain.last = rw many at linked.links in
       rw (first, count, many) (unlink_from old new w.owner w.rank o p q u i n 0 chain.first chain.last h is_p is_q links)
@@ -160,10 +171,13 @@ key_there nodes chain i c h = (key_mine nodes c.owners.owner c.owners.rank c.who
 -- ---- what the calls of the slab make true
 
 -- a key with a node keeps it while another one is added
-pub there_still : (old mid : Slab Node) (key k : ℕ) (slot : Option Node) → get old key ≡ None → Updates old mid key slot → IsSome (get old k) → IsSome (get mid k)
+pub there_still : (old mid : Slab Node) (key k : ℕ) (slot : Option Node) → get old key ≡ None → Updates old mid key slot → IsSome (get old k)
+    → IsSome (get mid k)
 there_still old mid key k slot vacant updates there = rw (updates.others k (vacant_apart old key k vacant there)) there
 
-pub appended_by : (old mid : Slab Node) (w : Owners) (o key : ℕ) (chain : Chain) (c : Callback) (x y : Node) → IsSome (get old chain.last) → get old key ≡ None → Updates old mid key (Some y) → y.callback ≡ c → Some x ≡ get mid chain.last → IsAppended old (with_value mid chain.last (record { callback = x.callback; next = key })) w o key chain c
+pub appended_by : (old mid : Slab Node) (w : Owners) (o key : ℕ) (chain : Chain) (c : Callback) (x y : Node) → IsSome (get old chain.last)
+    → get old key ≡ None → Updates old mid key (Some y) → y.callback ≡ c → Some x ≡ get mid chain.last
+    → IsAppended old (with_value mid chain.last (record { callback = x.callback; next = key })) w o key chain c
 appended_by old mid w o key chain c x y there vacant updates is_c read =
     let apart : chain.last ≢ key = vacant_apart old key chain.last vacant there in
     let write = Updates-with_value mid chain.last (record { callback = x.callback; next = key }) (there_still old mid key chain.last (Some y) vacant updates there) in
@@ -180,7 +194,9 @@ appended_by old mid w o key chain c x y there vacant updates is_c read =
 pub node_read : (nodes : Slab Node) (k : ℕ) (x : Node) → get nodes k ≡ Some x → node_at nodes k ≡ x
 node_read nodes k x is = rw is refl
 
-pub unlinked_by : (old mid : Slab Node) (w : Owners) (o p q : ℕ) (x node : Node) → p ≢ q → IsSome (get old p) → Updates old mid q None → get old q ≡ Some node → Some x ≡ get mid p → Unlinks old (with_value mid p (record { callback = x.callback; next = node.next })) w.owner w.rank o p q
+pub unlinked_by : (old mid : Slab Node) (w : Owners) (o p q : ℕ) (x node : Node) → p ≢ q → IsSome (get old p) → Updates old mid q None
+    → get old q ≡ Some node → Some x ≡ get mid p
+    → Unlinks old (with_value mid p (record { callback = x.callback; next = node.next })) w.owner w.rank o p q
 unlinked_by old mid w o p q x node apart there updates removed read =
     let still : IsSome (get mid p) = rw (updates.others p apart) there in
     let write = Updates-with_value mid p (record { callback = x.callback; next = node.next }) still in
@@ -190,7 +206,8 @@ unlinked_by old mid w o p q x node apart there updates removed read =
       linked = write.changed ∙ rw (was, removed) refl;
     }
 
-pub keys_apart : (nodes : Slab Node) (chain : Chain) (i : ℕ) → IsChain nodes chain → suc i < chain.count → key_at nodes i chain.first ≢ key_at nodes (suc i) chain.first
+pub keys_apart : (nodes : Slab Node) (chain : Chain) (i : ℕ) → IsChain nodes chain → suc i < chain.count
+    → key_at nodes i chain.first ≢ key_at nodes (suc i) chain.first
 keys_apart nodes chain i c h = key_apart nodes c.owners.owner c.owners.rank c.whose i chain.count 0 chain.first chain.last h c.linked.links
 
 -- the first element goes
