@@ -14,8 +14,8 @@ use Rattle.sim_machine.specs.Processes.{make_events_of_process}
 use Rattle.sim_machine.specs.Runs.{start_process}
 use Rattle.sim_machine.specs.Bodies.{BodyOf, start_of}
 use Rattle.sim_procs.specs.RecordOf.{RecordOf}
-use Rattle.sim_happen.specs.Making.{next_process}
-use Rattle.sim_happen.proofs.SameCalendars.{same_trans, same_process_events}
+use Rattle.sim_calendar.specs.Making.{next_process}
+use Rattle.sim_calendar.proofs.SameCalendars.{same_trans, same_process_events}
 use Rattle.sim_kernel.specs.Built.{HasBuiltCallbacks, is_built_callback}
 use Rattle.sim_kernel.specs.PartsOf.{PartsOf, RoomOf, plan_of}
 use Rattle.sim_kernel.specs.StandsFor.{StandsFor, process_of, scopes_of}

@@ -14,8 +14,8 @@ use Rattle.sim_machine.specs.Standing.{left_of, is_event_of}
 use Rattle.sim_machine.specs.Steps.{resume, settle, call}
 use Rattle.sim_machine_law.proofs.EventLaws.{is_same-self}
 use Rattle.sim_machine_law.proofs.KeptRegistrationsCalendar.{processed_made}
-use Rattle.sim_happen.proofs.SameCalendars.{same_defuse_failed}
-use Rattle.sim_happen.specs.CalendarOf.{told_by}
+use Rattle.sim_calendar.proofs.SameCalendars.{same_defuse_failed}
+use Rattle.sim_calendar.specs.CalendarOf.{told_by}
 use Rattle.sim_kernel.specs.declared.mode.Mode.{Mode}
 use Rattle.sim_kernel.specs.declared.mode.Mode.TheVariants as mode
 use Rattle.sim_kernel.specs.declared.mode.Unit.TheVariants as unit

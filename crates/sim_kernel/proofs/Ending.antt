@@ -33,7 +33,7 @@ use Rattle.sim_machine_law.proofs.KeptWaitingPolls.{own_scopes}
 use Rattle.sim_machine_law.proofs.KeptProcessesParts.{is_process-self, is_process-yes}
 use Rattle.sim_machine_law.proofs.KeptProcessesChanges.{AllPairs-map}
 use Rattle.sim_procs.specs.RecordOf.{RecordOf, record_of, change_record}
-use Rattle.sim_happen.proofs.SameCalendars.{same_trans, same_schedule}
+use Rattle.sim_calendar.proofs.SameCalendars.{same_trans, same_schedule}
 use Rattle.sim_kernel.specs.declared.mode.Unit.TheVariants as unit
 use Rattle.sim_kernel.specs.PartsOf.{PartsOf, IsRunning, plan_of}
 use Rattle.sim_kernel.specs.StandsFor.{StandsFor, StandsForSome, Moves, process_of, scopes_of}

@@ -16,8 +16,8 @@ use Rattle.sim_machine.specs.Steps.{Turn, IsStepAt, IsStep, pop_entry}
 use Rattle.sim_machine_law.proofs.AgendaLaws.{due_least, due_among}
 use Rattle.sim_machine_law.proofs.PopLaws.{among_has}
 use Rattle.sim_machine_law.proofs.KeptTimes.{agenda_made}
-use Rattle.sim_happen.specs.declared.calendar.Popped.{Popped}
-use Rattle.sim_happen.specs.Popping.{Pops}
+use Rattle.sim_calendar.specs.declared.calendar.Popped.{Popped}
+use Rattle.sim_calendar.specs.Popping.{Pops}
 use Rattle.sim_kernel.specs.declared.mode.Unit.TheVariants as unit
 use Rattle.sim_kernel.specs.PartsOf.{PartsOf, RoomOf, plan_of}
 use Rattle.sim_kernel.specs.StandsFor.{StandsFor, StandsForSome, Moves}

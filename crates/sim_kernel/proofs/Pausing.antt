@@ -20,8 +20,8 @@ use Rattle.sim_machine.specs.Steps.{polled}
 use Rattle.sim_machine_law.proofs.EventLaws.{change_event-keeps, make-new}
 use Rattle.sim_machine_law.proofs.KeptTimesCases.{timeout_cases, wait_cases}
 use Rattle.sim_procs.specs.RecordOf.{change_record}
-use Rattle.sim_happen.proofs.Calendars.{entry_at}
-use Rattle.sim_happen.proofs.SameCalendars.{same_trans, same_pause, next_same}
+use Rattle.sim_calendar.proofs.Calendars.{entry_at}
+use Rattle.sim_calendar.proofs.SameCalendars.{same_trans, same_pause, next_same}
 use Rattle.sim_kernel.specs.declared.mode.Unit.TheVariants as unit
 use Rattle.sim_kernel.specs.PartsOf.{PartsOf, IsRunning, plan_of}
 use Rattle.sim_kernel.specs.StandsFor.{StandsFor, Moves}

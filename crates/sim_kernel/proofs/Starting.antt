@@ -27,7 +27,7 @@ use Rattle.sim_machine_law.proofs.KeptRegistrations.{named_within}
 use Rattle.sim_machine_law.proofs.OpeningLaws.{start_fits_starts}
 use Rattle.sim_procs.specs.Premises.{CanBegin}
 use Rattle.sim_procs.specs.RecordOf.{RecordOf, record_of}
-use Rattle.sim_happen.specs.Making.{next_process}
+use Rattle.sim_calendar.specs.Making.{next_process}
 use Rattle.sim_kernel.specs.Built.{HasBuiltCallbacks, is_built_callback}
 use Rattle.sim_kernel.specs.PartsOf.{PartsOf, RoomOf}
 use Rattle.sim_kernel.specs.StandsFor.{StandsFor, process_of}

@@ -15,8 +15,8 @@ use Rattle.sim_machine.specs.Triggering.{make}
 use Rattle.sim_machine.specs.Scopes.{on_events}
 use Rattle.sim_machine.specs.Runs.{blank_state, start_process, set_stop, opening}
 use Rattle.sim_machine_law.proofs.EventLaws.{change_event-length, make-length}
-use Rattle.sim_happen.specs.Same.{SameCalendar}
-use Rattle.sim_happen.proofs.SameCalendars.{same_trans, same_stop}
+use Rattle.sim_calendar.specs.Same.{SameCalendar}
+use Rattle.sim_calendar.proofs.SameCalendars.{same_trans, same_stop}
 use Rattle.sim_kernel.specs.Built.{HasBuiltCallbacks, IsBounded, is_built_callback, most_opened}
 use Rattle.sim_kernel.specs.PartsOf.{PartsOf, plan_of}
 use Rattle.sim_kernel.specs.StandsFor.{StandsFor}

@@ -12,7 +12,7 @@ use Rattle.sim_machine.specs.Triggering.{is_too_late}
 use Rattle.sim_machine.specs.Processes.{told_more, defuse_failed}
 use Rattle.sim_machine.specs.Effect.{drawn_number}
 use Rattle.sim_machine.specs.Standing.{left_of}
-use Rattle.sim_happen.specs.CalendarOf.{is_unhandled, told_by}
+use Rattle.sim_calendar.specs.CalendarOf.{is_unhandled, told_by}
 use Rattle.sim_kernel.specs.PartsOf.{PartsOf}
 
 -- what is done once all callbacks of the event were called: a failure that nobody defused ends the run

@@ -12,8 +12,8 @@ use Rattle.sim_machine.specs.Processes.{make_events_of_process}
 use Rattle.sim_machine.specs.Bodies.{BodyOf}
 use Rattle.sim_machine.specs.Runs.{blank_state, start_process, set_stop}
 use Rattle.sim_procs.specs.RecordOf.{RecordOf}
-use Rattle.sim_happen.specs.Same.{SameCalendar}
-use Rattle.sim_happen.specs.Making.{next_process}
+use Rattle.sim_calendar.specs.Same.{SameCalendar}
+use Rattle.sim_calendar.specs.Making.{next_process}
 use Rattle.sim_kernel.specs.PartsOf.{PartsOf, plan_of}
 use Rattle.sim_kernel.specs.StandsFor.{StandsFor, process_of}
 

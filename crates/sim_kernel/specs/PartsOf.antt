@@ -10,7 +10,7 @@ use Rattle.sim_machine.specs.State.{Calendar, Control, Idle, Calling, Active, Ov
 use Rattle.sim_machine.specs.RandomWords.{word_of}
 use Rattle.sim_machine.specs.Bodies.{BodyOf, start_of}
 use Rattle.sim_procs.specs.RecordOf.{RecordOf}
-use Rattle.sim_happen.specs.CalendarOf.{Room, HasRoom}
+use Rattle.sim_calendar.specs.CalendarOf.{Room, HasRoom}
 use Rattle.sim_kernel.specs.declared.mode.Mode.{Mode}
 use Rattle.sim_kernel.specs.declared.mode.Mode.TheVariants as mode
 

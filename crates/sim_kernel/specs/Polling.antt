@@ -12,7 +12,7 @@ use Rattle.sim_machine.specs.Triggering.{make_timeout, trigger}
 use Rattle.sim_machine.specs.Processes.{event_of, not_active}
 use Rattle.sim_machine.specs.Bodies.{BodyOf}
 use Rattle.sim_procs.specs.RecordOf.{RecordOf, change_record, record_of}
-use Rattle.sim_happen.specs.Same.{SameCalendar}
+use Rattle.sim_calendar.specs.Same.{SameCalendar}
 use Rattle.sim_kernel.specs.PartsOf.{PartsOf}
 
 -- the process is polled: it is told this, it asks for an operation, and its body is in a new state

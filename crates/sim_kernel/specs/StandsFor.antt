@@ -12,7 +12,7 @@ use Rattle.sim_machine.specs.Steps.{IsStep}
 use Rattle.sim_machine.specs.Runs.{opening}
 use Rattle.sim_machine.specs.Lawful.{Lawful}
 use Rattle.sim_procs.specs.RecordOf.{RecordOf}
-use Rattle.sim_happen.specs.Same.{SameCalendar}
+use Rattle.sim_calendar.specs.Same.{SameCalendar}
 use Rattle.sim_kernel.specs.PartsOf.{PartsOf, plan_of}
 use Rattle.sim_kernel.specs.declared.mode.Unit.{Unit}
 use Rattle.sim_kernel.specs.declared.mode.Unit.TheVariants as unit

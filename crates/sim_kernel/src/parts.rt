@@ -3,7 +3,7 @@ ghost use Rattle.sim_types.specs.Throws.{negative_delay, time_too_late, empty_ra
 ghost use Rattle.sim_machine.specs.State.{Idle, Calling};
 ghost use Rattle.sim_machine.specs.Processes.{not_active};
 ghost use Rattle.sim_procs.specs.RecordOf.{record_of};
-ghost use Rattle.sim_happen.specs.CalendarOf.{HasRoom};
+ghost use Rattle.sim_calendar.specs.CalendarOf.{HasRoom};
 ghost use Rattle.sim_kernel.specs.Built.{AsksForBuilt, is_built, HasBuiltCallbacks};
 ghost use Rattle.sim_kernel.specs.Resting.{CanStep, rest_in};
 ghost use Rattle.sim_kernel.specs.Polling.{Asks, Pauses, Ends};
@@ -15,7 +15,7 @@ use crate::draw::number_between;
 use crate::mode::{Mode, Rest, Unit};
 use rand_core::utils::NextWord;
 use rand_pcg::Pcg64;
-use sim_happen::Calendar;
+use sim_calendar::Calendar;
 use sim_memo::Memo;
 use sim_procs::{Body, Procs};
 use sim_types::{

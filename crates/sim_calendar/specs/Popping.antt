@@ -6,7 +6,7 @@ use Rattle.sim_agenda.specs.Agendas.{TakesFirst}
 use Rattle.sim_machine.specs.State.{Calendar}
 use Rattle.sim_machine.specs.Events.{is_same, event_at, callbacks_of}
 use Rattle.sim_machine.specs.Steps.{line_of}
-use Rattle.sim_happen.specs.declared.calendar.Popped.{Popped}
+use Rattle.sim_calendar.specs.declared.calendar.Popped.{Popped}
 
 -- the entry that is due is popped: it is its time, and its event is processed; the answer tells the event and its line,
 -- and the event's callbacks are those that are to be called

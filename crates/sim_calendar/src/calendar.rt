@@ -4,8 +4,8 @@ ghost use Rattle.sim_machine.specs.Events as events;
 ghost use Rattle.sim_machine.specs.Triggering as triggering;
 ghost use Rattle.sim_machine.specs.Runs.{first_calendar};
 ghost use Rattle.sim_machine.specs.Processes.{defuse_failed};
-ghost use Rattle.sim_happen.specs.CalendarOf.{HasRoom, TakesRegistrations, Schedules, AreEntriesMade, is_unhandled, told_by, outcome_at, processing, unregistering};
-ghost use Rattle.sim_happen.specs.Popping.{PopsDue};
+ghost use Rattle.sim_calendar.specs.CalendarOf.{HasRoom, TakesRegistrations, Schedules, AreEntriesMade, is_unhandled, told_by, outcome_at, processing, unregistering};
+ghost use Rattle.sim_calendar.specs.Popping.{PopsDue};
 
 use crate::event::{Event, Registration};
 use sim_agenda::Agenda;
@@ -36,7 +36,7 @@ pub struct Popped {
 
 impl Model for Calendar {
     ghost use Rattle.std.specs.Prelude.{◌-◌, vec_len, vec_capacity};
-    ghost use Rattle.sim_happen.specs.CalendarOf.{CalendarOf};
+    ghost use Rattle.sim_calendar.specs.CalendarOf.{CalendarOf};
 
     ghost Value = { CalendarOf };
 

@@ -1,6 +1,6 @@
 use Rattle.std.proofs.Common.{length}
-use Rattle.sim_happen.proofs.Calendars.{taken_made}
-use Rattle.sim_happen.proofs.calendar.Calendar.pop.Goals as goal
+use Rattle.sim_calendar.proofs.Calendars.{taken_made}
+use Rattle.sim_calendar.proofs.calendar.Calendar.pop.Goals as goal
 
 pub process-kind-requires : goal.process-kind-requires
 process-kind-requires c =

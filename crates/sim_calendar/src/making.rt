@@ -3,9 +3,9 @@ ghost use Rattle.std.specs.Prelude.{◌≡◌, ◌<◌, ◌^◌, pos, ◌≤ℤ�
 ghost use Rattle.sim_machine.specs.Events.{next_event};
 ghost use Rattle.sim_machine.specs.Triggering.{make};
 ghost use Rattle.sim_machine.specs.Runs.{set_stop};
-ghost use Rattle.sim_happen.specs.CalendarOf.{HasRoom};
-ghost use Rattle.sim_happen.specs.Same.{SameCalendar};
-ghost use Rattle.sim_happen.specs.Making.{next_process, MakesProcess};
+ghost use Rattle.sim_calendar.specs.CalendarOf.{HasRoom};
+ghost use Rattle.sim_calendar.specs.Same.{SameCalendar};
+ghost use Rattle.sim_calendar.specs.Making.{next_process, MakesProcess};
 
 use crate::calendar::Calendar;
 use sim_types::{Callback, EventId, EventKind, Outcome, ProcId, Until};

@@ -15,7 +15,7 @@ use Rattle.sim_machine.specs.State.{EventOf, Registration, Calendar}
 use Rattle.sim_machine.specs.Events.{is_same, event_at}
 use Rattle.sim_machine.specs.Triggering.{schedule}
 use Rattle.sim_agenda.specs.Agendas.{TakesFirst}
-use Rattle.sim_happen.specs.Same.{SameCalendar}
+use Rattle.sim_calendar.specs.Same.{SameCalendar}
 
 -- one element more of a kind
 pub replicate_more : {X : Type 0} (x : X) (n : ℕ) → replicate n x ++ x ∷ [] ≡ replicate (n + 1) x

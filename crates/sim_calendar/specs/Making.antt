@@ -3,7 +3,7 @@ use Rattle.sim_types.specs.declared.event.ProcId.{ProcId}
 use Rattle.sim_machine.specs.State.{Calendar}
 use Rattle.sim_machine.specs.Events.{next_event}
 use Rattle.sim_machine.specs.Processes.{make_events_of_process}
-use Rattle.sim_happen.specs.Same.{SameCalendar}
+use Rattle.sim_calendar.specs.Same.{SameCalendar}
 
 -- the number of the process that is made next: that of its event
 abbrev pub next_process : Calendar → ProcId

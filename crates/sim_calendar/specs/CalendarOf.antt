@@ -7,7 +7,7 @@ use Rattle.sim_machine.specs.State.{Calendar}
 use Rattle.sim_machine.specs.Events.{event_at, is_fail, is_same, change_event}
 use Rattle.sim_machine.specs.Triggering.{schedule}
 use Rattle.sim_machine.specs.Steps.{outcome_or_zero, signal_by}
-use Rattle.sim_happen.specs.Same.{SameCalendar}
+use Rattle.sim_calendar.specs.Same.{SameCalendar}
 
 -- how many events, entries and registrations more there is room for
 pub record Room : Type 0 where

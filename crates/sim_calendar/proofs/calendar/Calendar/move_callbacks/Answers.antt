@@ -3,7 +3,7 @@ use Rattle.std.specs.Prelude.{not}
 use Rattle.std.proofs.lemmas.Fn.{filter_same}
 use Rattle.sim_machine.specs.State.{Registration}
 use Rattle.sim_machine.specs.Events.{is_same}
-use Rattle.sim_happen.proofs.calendar.Calendar.move_callbacks.Goals as goal
+use Rattle.sim_calendar.proofs.calendar.Calendar.move_callbacks.Goals as goal
 
 pub returns-clause-registered : goal.returns-clause-registered
 returns-clause-registered c =

@@ -2,9 +2,9 @@ use Rattle.std.proofs.Common.{rules, ◌+ℤ◌, ◌≤ℤ◌, ◌^◌, pos, w64
 use Rattle.sim_types.specs.declared.event.EventKind.TheVariants as kind
 use Rattle.sim_machine.specs.State.{Calendar}
 use Rattle.sim_machine.specs.Events.{pending_event}
-use Rattle.sim_happen.proofs.Calendars.{schedule_same, changed_at}
-use Rattle.sim_happen.proofs.Signed.{sum_kept, time_fits}
-use Rattle.sim_happen.proofs.calendar.Calendar.schedule.Goals as goal
+use Rattle.sim_calendar.proofs.Calendars.{schedule_same, changed_at}
+use Rattle.sim_calendar.proofs.Signed.{sum_kept, time_fits}
+use Rattle.sim_calendar.proofs.calendar.Calendar.schedule.Goals as goal
 
 pub returns-clause-calendar : goal.returns-clause-calendar
 returns-clause-calendar c =

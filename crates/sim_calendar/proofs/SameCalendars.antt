@@ -18,8 +18,8 @@ use Rattle.sim_machine.specs.Events.{next_event, defuse, register}
 use Rattle.sim_machine.specs.Triggering.{urgent, normal, make, schedule, make_timeout}
 use Rattle.sim_machine.specs.Processes.{defuse_failed, make_events_of_process}
 use Rattle.sim_machine.specs.Runs.{set_stop}
-use Rattle.sim_happen.specs.Same.{SameCalendar}
-use Rattle.sim_happen.proofs.Calendars.{entry_at}
+use Rattle.sim_calendar.specs.Same.{SameCalendar}
+use Rattle.sim_calendar.proofs.Calendars.{entry_at}
 
 pub same_trans : (a b c : Calendar) → SameCalendar a b → SameCalendar b c → SameCalendar a c
 same_trans a b c h k =

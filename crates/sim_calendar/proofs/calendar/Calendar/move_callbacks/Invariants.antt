@@ -1,7 +1,7 @@
 use Rattle.std.proofs.Common.{◌≡◌, ◌≤◌, take}
 use Rattle.std.specs.VecDeque.{deque_len, deque_capacity}
-use Rattle.sim_happen.proofs.Calendars.{moved}
-use Rattle.sim_happen.proofs.calendar.Calendar.move_callbacks.Given as goal
+use Rattle.sim_calendar.proofs.Calendars.{moved}
+use Rattle.sim_calendar.proofs.calendar.Calendar.move_callbacks.Given as goal
 
 -- the callbacks of the registrations looked at were moved, and there is room for the others
 abbrev pub invariant-loop-registration : goal.invariant-loop-registration
