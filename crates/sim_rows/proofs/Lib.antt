@@ -1,19 +1,1 @@
-mod Conditions
-mod Containers
-mod Draws
-mod Drops
-mod Endings
-mod Events
-mod FaultKinds
-mod FaultsOfForms
-mod Interruptions
-mod Journals
-mod NestedConditions
-mod Preemption
-mod PreemptionKeys
-mod Resources
-mod Scripts
-mod SecondVersion
-mod Stores
-mod WhichFault
 pub mod WholeAnswers

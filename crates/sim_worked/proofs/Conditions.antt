@@ -1,7 +1,7 @@
 -- Conditions.
 use Rattle.std.specs.Prelude.{refl, [], ◌∷◌}
 use Rattle.std.specs.Fmt.{digits}
-use Rattle.sim_rows.specs.Printed.{Prints}
+use Rattle.sim_worked.specs.Printed.{Prints}
 
 -- `all` of no members succeeds at once
 empty_condition : Prints 1000

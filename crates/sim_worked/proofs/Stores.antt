@@ -1,7 +1,7 @@
 -- Stores.
 use Rattle.std.specs.Prelude.{refl, [], ◌∷◌}
 use Rattle.std.specs.Fmt.{digits}
-use Rattle.sim_rows.specs.Printed.{Prints}
+use Rattle.sim_worked.specs.Printed.{Prints}
 
 -- at a filter store a get that fits no item does not hold up the one behind it
 filter_store : Prints 1000

@@ -1,7 +1,7 @@
 -- Events: what they are given, and who waits for them.
 use Rattle.std.specs.Prelude.{refl, [], ◌∷◌}
 use Rattle.std.specs.Fmt.{digits}
-use Rattle.sim_rows.specs.Printed.{Prints}
+use Rattle.sim_worked.specs.Printed.{Prints}
 
 -- a process that waits for a processed event goes on at once with its value
 wait_on_processed_event : Prints 1000

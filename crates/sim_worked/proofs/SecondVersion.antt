@@ -1,7 +1,7 @@
 -- Texts of the second version: chains of events, and runs until an event.
 use Rattle.std.specs.Prelude.{refl, [], ◌∷◌}
 use Rattle.std.specs.Fmt.{digits}
-use Rattle.sim_rows.specs.Printed.{Prints}
+use Rattle.sim_worked.specs.Printed.{Prints}
 
 -- an event passes its outcome on once it is processed; chaining a processed event to one that has an outcome is
 -- refused with error 3

@@ -1,7 +1,7 @@
 -- How runs end.
 use Rattle.std.specs.Prelude.{refl, [], ◌∷◌}
 use Rattle.std.specs.Fmt.{digits}
-use Rattle.sim_rows.specs.Printed.{Prints}
+use Rattle.sim_worked.specs.Printed.{Prints}
 
 -- with nothing to do the run has ended before its first unit
 empty_scenario : Prints 1000

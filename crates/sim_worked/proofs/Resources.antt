@@ -1,7 +1,7 @@
 -- Resources: requests, releases and queues.
 use Rattle.std.specs.Prelude.{refl, [], ◌∷◌}
 use Rattle.std.specs.Fmt.{digits}
-use Rattle.sim_rows.specs.Printed.{Prints}
+use Rattle.sim_worked.specs.Printed.{Prints}
 
 -- a request with a timeout: who was not granted in time leaves the queue with its scope
 reneging : Prints 1000

@@ -1,7 +1,7 @@
 -- Containers.
 use Rattle.std.specs.Prelude.{refl, [], ◌∷◌}
 use Rattle.std.specs.Fmt.{digits}
-use Rattle.sim_rows.specs.Printed.{Prints}
+use Rattle.sim_worked.specs.Printed.{Prints}
 
 -- a small get that came later does not overtake a large one, and both are served by one put
 container_order : Prints 1000

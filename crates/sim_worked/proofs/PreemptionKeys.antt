@@ -1,7 +1,7 @@
 -- The keys by which requests preempt.
 use Rattle.std.specs.Prelude.{refl, [], ◌∷◌}
 use Rattle.std.specs.Fmt.{digits}
-use Rattle.sim_rows.specs.Printed.{Prints}
+use Rattle.sim_worked.specs.Printed.{Prints}
 
 -- of two users of one priority the later request is preempted, though the earlier one is of the wait form
 key_has_a_time : Prints 1000

@@ -1,7 +1,7 @@
 -- Scripts: what a process computes, catches and draws.
 use Rattle.std.specs.Prelude.{refl, [], ◌∷◌}
 use Rattle.std.specs.Fmt.{digits}
-use Rattle.sim_rows.specs.Printed.{Prints}
+use Rattle.sim_worked.specs.Printed.{Prints}
 
 -- a process pauses for 5 and logs the time
 one_timeout : Prints 1000

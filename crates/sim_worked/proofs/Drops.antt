@@ -1,7 +1,7 @@
 -- Processes that another one drops.
 use Rattle.std.specs.Prelude.{refl, [], ◌∷◌}
 use Rattle.std.specs.Fmt.{digits}
-use Rattle.sim_rows.specs.Printed.{Prints}
+use Rattle.sim_worked.specs.Printed.{Prints}
 
 -- a process that is dropped before it began never begins
 drop_before_begin : Prints 1000

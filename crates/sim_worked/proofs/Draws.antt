@@ -1,7 +1,7 @@
 -- Draws.
 use Rattle.std.specs.Prelude.{◌+◌, refl, [], ◌∷◌}
 use Rattle.std.specs.Fmt.{digits}
-use Rattle.sim_rows.specs.Printed.{PrintsDrawn}
+use Rattle.sim_worked.specs.Printed.{PrintsDrawn}
 
 -- a negative delay is thrown as error 1 and caught; a draw from a range of one number gives that number
 negative_delay_and_draw : PrintsDrawn (λ number. 0)

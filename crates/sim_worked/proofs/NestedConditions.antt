@@ -1,7 +1,7 @@
 -- Conditions within conditions, and how wide they may be.
 use Rattle.std.specs.Prelude.{refl, [], ◌∷◌}
 use Rattle.std.specs.Fmt.{digits}
-use Rattle.sim_rows.specs.Printed.{Prints}
+use Rattle.sim_worked.specs.Printed.{Prints}
 
 -- a condition over a condition and a timeout: its value has the timeout alone, and once it is built the failure
 -- of a member within is not defused

@@ -1,7 +1,7 @@
 -- Journals of arrivals.
 use Rattle.std.specs.Prelude.{refl, [], ◌∷◌}
 use Rattle.std.specs.Fmt.{digits}
-use Rattle.sim_rows.specs.Printed.{Prints}
+use Rattle.sim_worked.specs.Printed.{Prints}
 
 -- one arrival is due at the start; the other, due after 100 events, comes when the agenda is empty
 journal : Prints 1000

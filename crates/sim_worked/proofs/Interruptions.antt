@@ -1,7 +1,7 @@
 -- Interruptions, and processes that fail.
 use Rattle.std.specs.Prelude.{refl, [], ◌∷◌}
 use Rattle.std.specs.Fmt.{digits}
-use Rattle.sim_rows.specs.Printed.{Prints}
+use Rattle.sim_worked.specs.Printed.{Prints}
 
 -- a process that does not catch an interruption fails with it, and the run crashes
 uncaught_interrupt : Prints 1000

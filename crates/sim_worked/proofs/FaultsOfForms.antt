@@ -1,7 +1,7 @@
 -- Faults of the forms that the program does not take yet.
 use Rattle.std.specs.Prelude.{refl, [], ◌∷◌}
 use Rattle.std.specs.Fmt.{digits}
-use Rattle.sim_rows.specs.Printed.{Prints, Refuses}
+use Rattle.sim_worked.specs.Printed.{Prints, Refuses}
 
 until_of_two_times : Prints 1000
     ("scenario 1" ∷ "until 5 6" ∷ [])

@@ -1,7 +1,7 @@
 -- Lines with several faults: which of them is told.
 use Rattle.std.specs.Prelude.{refl, [], ◌∷◌}
 use Rattle.std.specs.Fmt.{digits}
-use Rattle.sim_rows.specs.Printed.{Refuses}
+use Rattle.sim_worked.specs.Printed.{Refuses}
 
 name_before_duplicate_of_an_event : Refuses
     ("event e" ∷ "process p e E" ∷ "end" ∷ [])

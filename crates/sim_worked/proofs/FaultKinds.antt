@@ -4,7 +4,7 @@ use Rattle.std.specs.Fmt.{digits}
 use Rattle.sim_types.specs.declared.fault.FaultKind.TheVariants as fault
 use Rattle.sim_language.specs.declared.form.Form.{Form}
 use Rattle.sim_language.specs.Reads.{fault_of}
-use Rattle.sim_rows.specs.Printed.{printed, bytes_of, Prints, Refuses}
+use Rattle.sim_worked.specs.Printed.{printed, bytes_of, Prints, Refuses}
 
 -- more bytes than a text may have, whatever they are and whichever forms are built
 too_long :

@@ -1,7 +1,7 @@
 -- Preemption.
 use Rattle.std.specs.Prelude.{refl, [], ◌∷◌}
 use Rattle.std.specs.Fmt.{digits}
-use Rattle.sim_rows.specs.Printed.{Prints}
+use Rattle.sim_worked.specs.Printed.{Prints}
 
 -- a request with a smaller key takes the slot of a user, which is interrupted with the time since which it was a
 -- user
