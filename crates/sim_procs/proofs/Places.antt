@@ -71,7 +71,8 @@ has_number n i places some = by (cases_lt n (length places))
 
 -- ---- no two processes have one number, and each is found
 
-number_at : {B : Type 0} (live : List (RecordOf B)) (i d : ℕ) (r : RecordOf B) → i < length live → slice_index_or (numbers live) i d ≡ (slice_index_or live i r).id.0
+number_at : {B : Type 0} (live : List (RecordOf B)) (i d : ℕ) (r : RecordOf B) → i < length live
+    → slice_index_or (numbers live) i d ≡ (slice_index_or live i r).id.0
 number_at live i d r below = get_or-map (λ x. x.id.0) live i r d below
 
 few : {B : Type 0} (live : List (RecordOf B)) → length (numbers live) ≡ length live
