@@ -88,7 +88,8 @@ whole_answer asked left rest text bytes old new answer takes held written is =
       throughout = in_order_for asked (text_of left bytes) (read_of (text_of left bytes)) refl;
     }
 
-pub prefix_answer : (asked : Command) (left rest : Option (List ℕ)) (text bytes : List ℕ) (old new : SinkOf) → TakesFirst (most_bytes + 1) left rest bytes → text ≡ bytes
+pub prefix_answer : (asked : Command) (left rest : Option (List ℕ)) (text bytes : List ℕ) (old new : SinkOf)
+    → TakesFirst (most_bytes + 1) left rest bytes → text ≡ bytes
     → AppendsPrefix old.taken new.taken (answer_of asked text) → AnswersPrefix asked left old new
 prefix_answer asked left rest text bytes old new takes held written =
     let same = ap read_of held ∙ same_reading left rest bytes takes in

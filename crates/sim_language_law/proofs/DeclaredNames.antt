@@ -108,7 +108,8 @@ pub record Declared (ds : List (Named Meaning)) (s : ScenarioOf) : Type 0 where
   -- a name's number is that of a thing of its sort
   pub numbers : (w : Word) (d : Meaning) (o : Sort) → value_of w ds ≡ Some d → declares_sort d.form ≡ Some o → d.number < count_of o ds
   -- and that of a resource is of the kind that its form tells
-  pub kinds : (w : Word) (d : Meaning) → value_of w ds ≡ Some d → declares_sort d.form ≡ Some sort.Resource → option_map (λ r. r.kind) (slice_get s.setup.resources d.number) ≡ Some (resource_kind d.form)
+  pub kinds : (w : Word) (d : Meaning) → value_of w ds ≡ Some d → declares_sort d.form ≡ Some sort.Resource
+      → option_map (λ r. r.kind) (slice_get s.setup.resources d.number) ≡ Some (resource_kind d.form)
 
 pub declared_nothing : Declared [] nothing_said
 declared_nothing = record {

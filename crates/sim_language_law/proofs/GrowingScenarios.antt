@@ -16,7 +16,8 @@ use Rattle.sim_language_law.proofs.DeclaredNames.{kind_put}
 pub record Grows (s t : ScenarioOf) : Type 0 where
   pub events : s.setup.events ≤ t.setup.events
   pub ports : length s.setup.ports ≤ length t.setup.ports
-  pub resources : (i : ℕ) (k : ResourceKind) → option_map (λ r. r.kind) (slice_get s.setup.resources i) ≡ Some k → option_map (λ r. r.kind) (slice_get t.setup.resources i) ≡ Some k
+  pub resources : (i : ℕ) (k : ResourceKind) → option_map (λ r. r.kind) (slice_get s.setup.resources i) ≡ Some k
+      → option_map (λ r. r.kind) (slice_get t.setup.resources i) ≡ Some k
 
 grows_same : (s : ScenarioOf) → Grows s s
 grows_same s = record { events = omega arith; ports = omega arith; resources = λ i k h. h }

@@ -82,7 +82,8 @@ pub record ProcessHeads (above : List TextLine) (s : ScenarioOf) : Type 0 where
   pub apart : Apart [] (heads_above above)
   -- the processes among the declared names are those of the process lines
   pub named : (w : Word) → is_named w (heads_above above) ≡ true → is_named w (declared above) ≡ true
-  pub processes : (w : Word) (d : Meaning) → value_of w (declared above) ≡ Some d → declares_sort d.form ≡ Some sort.Process → is_named w (heads_above above) ≡ true
+  pub processes : (w : Word) (d : Meaning) → value_of w (declared above) ≡ Some d → declares_sort d.form ≡ Some sort.Process
+      → is_named w (heads_above above) ≡ true
   pub classes : map parameter_classes s.kinds ≡ map (λ h. h.value) (heads_above above)
 
 pub heads_nothing : ProcessHeads [] nothing_said

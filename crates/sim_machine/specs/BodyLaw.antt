@@ -98,5 +98,6 @@ may_begin f k args = nat_lt k (length f.params) && may_start (slice_index_or f.p
 pub record IsLawfulBody {B : Type 0} (f : CodeFacts) (tell : Telling B) (sound : B → Type 0) (start : ℕ → List ℤ → ProcId → B) (turn : B → ℤ → Signal → Op → B → Type 0) : Type 0 where
   pub starts : (k : ℕ) (args : List ℤ) (p : ProcId) → IsTrue (may_begin f k args) → IsLawfulStart f tell k args p (start k args p)
   pub begins : (k : ℕ) (args : List ℤ) (p : ProcId) → IsTrue (may_begin f k args) → sound (start k args p)
-  pub polls : (b : B) (time : ℤ) (x : Signal) (asked : Op) (d : B) → sound b → IsTrue (may_be_told (tell.last b) x) → turn b time x asked d → IsLawfulPoll f tell b x asked d
+  pub polls : (b : B) (time : ℤ) (x : Signal) (asked : Op) (d : B) → sound b → IsTrue (may_be_told (tell.last b) x)
+      → turn b time x asked d → IsLawfulPoll f tell b x asked d
   pub keeps : (b : B) (time : ℤ) (x : Signal) (asked : Op) (d : B) → sound b → IsTrue (may_be_told (tell.last b) x) → turn b time x asked d → sound d

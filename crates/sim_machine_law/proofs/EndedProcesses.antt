@@ -46,7 +46,8 @@ pub record IsUnresumed {B : Type 0} (s : State B) (q : ProcId) (d : Calendar) (l
   pub living : KeepsLiving s.facilities.calendar d
   pub none : callbacks_in_all (is_resume_of q) d l ≡ 0
   pub in_all : (r : ProcId) → is_process q r ≡ false → callbacks_in_all (is_resume_of r) d l ≡ callbacks_in_all (is_resume_of r) s.facilities.calendar s.control
-  pub at : (r : ProcId) (f : EventId) → is_process q r ≡ false → count_by (is_resume_of r) (all_callbacks_of d l f) ≡ count_by (is_resume_of r) (all_callbacks_of s.facilities.calendar s.control f)
+  pub at : (r : ProcId) (f : EventId) → is_process q r ≡ false
+      → count_by (is_resume_of r) (all_callbacks_of d l f) ≡ count_by (is_resume_of r) (all_callbacks_of s.facilities.calendar s.control f)
 
 -- the event of q was made, is pending, and is of a process
 pub lives-unresumed : {B : Type 0} (named : ℕ) (s : State B) (q : ProcId) (d : Calendar) (l : Control) → IsUnresumed s q d l

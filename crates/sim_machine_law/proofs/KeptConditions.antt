@@ -101,7 +101,8 @@ counts_changed c d e same pending h =
 -- the same conditions, where all callbacks count alike and the first ones stay first
 record SameCalls (c d : Calendar) (a b : Control) : Type 0 where
   checks : (cond e : EventId) → checks_at d b cond e ≡ checks_at c a cond e
-  building : (cond : EventId) → (is_event_of a cond && list_any (is_build_of cond) (left_of a)) ≡ true → (is_event_of b cond && list_any (is_build_of cond) (left_of b)) ≡ true
+  building : (cond : EventId) → (is_event_of a cond && list_any (is_build_of cond) (left_of a)) ≡ true
+      → (is_event_of b cond && list_any (is_build_of cond) (left_of b)) ≡ true
   builds : (cond : EventId) → count_by (λ r. is_build_of cond r.callback) d.registered ≡ count_by (λ r. is_build_of cond r.callback) c.registered
   first : (cond : EventId) → first_passes (is_build_of cond) (callbacks_of cond c) ≡ true → first_passes (is_build_of cond) (callbacks_of cond d) ≡ true
   left : (cond : EventId) → builds_left_first a cond ≡ true → builds_left_first b cond ≡ true
@@ -198,7 +199,8 @@ called_by k e = if is_event_of k e then left_of k else []
 -- what a change of the control keeps, where conditions are to stay lawful
 pub record KeepsCalls (a b : Control) : Type 0 where
   pub checks : (cond e : EventId) → count_by (is_check_of cond) (called_by b e) ≡ count_by (is_check_of cond) (called_by a e)
-  pub building : (cond : EventId) → (is_event_of a cond && list_any (is_build_of cond) (left_of a)) ≡ true → (is_event_of b cond && list_any (is_build_of cond) (left_of b)) ≡ true
+  pub building : (cond : EventId) → (is_event_of a cond && list_any (is_build_of cond) (left_of a)) ≡ true
+      → (is_event_of b cond && list_any (is_build_of cond) (left_of b)) ≡ true
   pub left : (cond : EventId) → builds_left_first a cond ≡ true → builds_left_first b cond ≡ true
 
 pub conditions_controlled : (c : Calendar) (a b : Control) → KeepsCalls a b → ConditionsBasis c a → ConditionsBasis c b

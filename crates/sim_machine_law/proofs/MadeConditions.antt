@@ -64,7 +64,8 @@ same_alone sort c =
       registered = refl;
     }
 
-conditions_alone : (sort : AllOrAny) (c : Calendar) (k : Control) → ConditionsBasis c k → ConditionsBasis (succeed (next_event c) (pos 0) (with_fresh sort [] c)) k
+conditions_alone : (sort : AllOrAny) (c : Calendar) (k : Control) → ConditionsBasis c k
+    → ConditionsBasis (succeed (next_event c) (pos 0) (with_fresh sort [] c)) k
 conditions_alone sort c k h =
     let d : Calendar = with_fresh sort [] c in
     let e : EventId = next_event c in

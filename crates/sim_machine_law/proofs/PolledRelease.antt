@@ -66,7 +66,8 @@ released_after g tell sound s e l made is apart =
 pub record IsReleasedWell {B : Type 0} (g : Plan B) (tell : Telling B) (sound : B → Type 0) (s : State B) (res : ℕ) (request : EventId) (f : Facilities) : Type 0 where
   pub lawful : LawfulBasis g tell sound (record s { facilities = f })
   pub waiters : f.waiters ≡ s.facilities.waiters
-  pub uses_not : (n : ℕ) → All (λ (u : User). u.request ≡ request → n ≡ res) (users n s.facilities.ledger) → All (λ (u : User). u.request ≢ request) (users n f.ledger)
+  pub uses_not : (n : ℕ) → All (λ (u : User). u.request ≡ request → n ≡ res) (users n s.facilities.ledger)
+      → All (λ (u : User). u.request ≢ request) (users n f.ledger)
 
 pub lawful_released : {B : Type 0} (g : Plan B) (tell : Telling B) (sound : B → Type 0) (s : State B) (res : ℕ)
     (request : EventId) → LawfulBasis g tell sound s
