@@ -1,0 +1,502 @@
+ghost use Rattle.std.specs.Prelude.{◌≡◌, ◌≢◌, ◌↔◌, ℕ, ◌+◌, ◌<◌, ◌≤◌, ◌^◌, pos, ◌≤ℤ◌, ◌<ℤ◌, ◌+ℤ◌, [], ◌∷◌, length, Some, None, IsSome, IsFalse, IsTrue, is_some, not, ◌&&◌, slice_index_or, IfOk, IsErr, IfNone, IfSome, OnOk, OnErr, MatchOption, All, if◌then◌else◌};
+ghost use Rattle.std.specs.List.{list_any, sum_by};
+ghost use Rattle.sim_machine.specs.State.{Every, Either};
+ghost use Rattle.sim_types.specs.declared.event.Entry.{Entry};
+ghost use Rattle.sim_machine.specs.Conditions as conditions;
+ghost use Rattle.sim_machine.specs.Events as events;
+ghost use Rattle.sim_machine.specs.Triggering as triggering;
+ghost use Rattle.sim_machine.specs.Runs.{first_calendar};
+ghost use Rattle.sim_machine.specs.Standing.{one_if};
+ghost use Rattle.sim_machine.specs.Steps.{outcome_or_zero};
+ghost use Rattle.std.specs.List.Sorted.{IsPermutation};
+ghost use Rattle.sim_agenda.specs.Agendas.{PopsFirst};
+ghost use Rattle.sim_chains.specs.Callbacks.{is_same_callback};
+ghost use Rattle.sim_events.specs.TableOf.{IsKept, kept_at, kept_condition};
+ghost use Rattle.sim_events.specs.Changes.{more_events, more_callbacks, more_conditions, change_kept, change_or_forget, with_processed, with_holder, without_holder};
+ghost use Rattle.sim_happen_model.specs.HappenOf.{IsOpen, AreHeldByFew, held, unheld_event, one_more, gone_if_unheld, KeepsRoom};
+ghost use Rattle.sim_happen_model.specs.Holders.{AreOwed, HasOwnHolder, SameMemberships};
+ghost use Rattle.sim_happen_model.specs.Shows.{Shows, Turns, Follows, PopsEntry};
+ghost use Rattle.sim_happen_model.specs.Sound.{AreNarrow, weight_in};
+ghost use Rattle.sim_happen_model.specs.Joining.{with_members};
+
+use crate::fault::AlreadyTriggered;
+use sim_agenda::Agenda;
+use sim_events::{ConditionValue, EventState, Table};
+use sim_types::{
+    Callback, Count, Entry, EventId, EventKind, Key, LAST_TIME, Line, Members, Outcome,
+};
+use std::alloc::{AllocError, Global};
+use std::marker::Model;
+
+/// Time and what happens in it: the events that are kept, their callbacks and conditions, and the agenda. Times and delays
+/// are whole numbers, and their unit is the model's own.
+///
+/// What contracts say of a call is what the machine does to each calendar that was shown before it. A calendar is shown
+/// where it says of the events that are kept just what is kept of them.
+#[derive(Drop)]
+pub struct Happen {
+    time: i64,
+    scheduled: u64,
+    agenda: Agenda,
+    table: Table,
+}
+
+impl Model for Happen {
+    ghost use Rattle.sim_happen_model.specs.HappenOf.{HappenOf};
+    ghost use Rattle.sim_happen_model.specs.Sound.{happen_of, IsSound};
+
+    ghost Value = { HappenOf };
+
+    ghost view = { λ a. happen_of a.time a.scheduled a.agenda a.table };
+
+    ghost invariant = { λ a. IsSound (happen_of a.time a.scheduled a.agenda a.table) a.agenda.spare };
+}
+
+// An entry more.
+fn push(agenda: &mut Agenda, entry: Entry)
+    requires { 1 ≤ agenda.old.spare }
+    ensures entries { IsPermutation (entry ∷ agenda.old.entries) agenda.new.entries }
+    ensures spare { agenda.new.spare + 1 ≡ agenda.old.spare }
+{
+    agenda.push(entry, &mut Count::new());
+}
+
+// The entry that is due is taken out.
+fn pop(agenda: &mut Agenda) -> Option<Entry>
+    ensures due { PopsFirst result agenda.old agenda.new }
+    ensures spare { IfSome result (λ x. agenda.new.spare ≡ agenda.old.spare + 1) }
+{
+    agenda.pop(&mut Count::new())
+}
+
+// An event that is triggered is processed and has a holder more, and its callbacks are those that are left to call. The
+// answer is its kind and its outcome.
+fn begin(table: &mut Table, event: EventId) -> (EventKind, Outcome)
+    requires kept { IsKept table.old.events event }
+    requires triggered { IsSome (kept_at table.old.events event).event.outcome }
+    requires unprocessed { IsFalse (kept_at table.old.events event).event.processed }
+    requires few { (kept_at table.old.events event).holders < 2 ^ 60 }
+    requires called { table.old.left ≡ [] }
+    ensures kind { result.0 ≡ (kept_at table.old.events event).event.kind }
+    ensures outcome { result.1 ≡ outcome_or_zero (kept_at table.old.events event).event.outcome }
+    ensures events { table.new.events ≡ change_kept event
+        (λ k. with_processed (with_holder k)) table.old.events }
+    ensures left { table.new.left ≡ (kept_at table.old.events event).callbacks }
+    ensures spare { table.new.spare ≡ table.old.spare }
+{
+    let kind = table.kind(event);
+    let outcome = table.outcome(event).unwrap_or(Outcome::Ok(0));
+    table.hold(event);
+    table.begin(event);
+    (kind, outcome)
+}
+
+impl Happen {
+    /// Time 0, at which nothing is scheduled, and event 0 alone, which is processed and has a holder for good.
+    pub fn new(alloc: Global) -> Result<Happen, AllocError>
+        ensures calendar { IfOk result (λ h. Shows h (first_calendar 0)) }
+        ensures held { IfOk result (λ h. held h ≡ Some 1 ∷ []) }
+        ensures left { IfOk result (λ h. h.left ≡ []) }
+    {
+        let table = Table::new(alloc)?;
+        let mut agenda = Agenda::new(alloc);
+        agenda.reserve(1)?;
+        Ok(Happen {
+            time: 0,
+            scheduled: 0,
+            agenda,
+            table,
+        })
+    }
+
+    /// Makes room for so many more events, all of which may be conditions, with their places in the agenda, and for so many
+    /// more callbacks.
+    pub fn reserve(&mut self, events: u32, callbacks: u32) -> Result<(), AllocError>
+        ensures events { OnOk result (events ≤ self.new.spare.events) }
+        ensures callbacks { OnOk result (callbacks ≤ self.new.spare.callbacks) }
+        ensures conditions { OnOk result (events ≤ self.new.spare.conditions) }
+        ensures never_less_events { self.old.spare.events ≤ self.new.spare.events }
+        ensures never_less_callbacks { self.old.spare.callbacks ≤ self.new.spare.callbacks }
+        ensures never_less_conditions { self.old.spare.conditions ≤ self.new.spare.conditions }
+        ensures rest { self.new ≡ record self.old { spare = self.new.spare } }
+    {
+        let kept = self.table.slots() as usize;
+        self.agenda.reserve(kept + events as usize)?;
+        self.table.reserve(events, callbacks)?;
+        self.table.reserve_conditions(events)
+    }
+
+    /// The time, which is 0 at the start and then that of the event that was popped last.
+    pub fn now(&self) -> i64
+        ensures { result ≡ self.now.time }
+    {
+        self.time
+    }
+
+    /// The table, for reading.
+    pub fn table(&self) -> &Table
+        ensures events { result.now.events ≡ self.now.events }
+        ensures left { result.now.left ≡ self.now.left }
+    {
+        &self.table
+    }
+
+    /// A pending event more, which takes the next number. A condition is made with its members.
+    pub fn make(&mut self, kind: EventKind) -> EventId
+        requires spare { 0 < self.old.spare.events }
+        requires number { length self.old.events < 2 ^ 62 }
+        ensures id { result.0 ≡ length self.old.events }
+        ensures made { Turns (triggering.make kind) unheld_event self.old self.new }
+        ensures spare { more_events 1 self.new.spare ≡ self.old.spare }
+    {
+        let _fits = &self.agenda;
+        self.table.make(kind)
+    }
+
+    /// Appends a callback to those of an event that is not processed.
+    pub fn register(&mut self, event: EventId, callback: Callback)
+        requires kept { IsKept self.old.events event }
+        requires unprocessed { IsFalse (kept_at self.old.events event).event.processed }
+        requires spare { 0 < self.old.spare.callbacks }
+        ensures follows { Follows (events.register event callback) self.old self.new }
+        ensures spare { more_callbacks 1 self.new.spare ≡ self.old.spare }
+    {
+        self.table.register(event, callback);
+    }
+
+    /// Takes out the first callback of an event that is the same as this one. False where there is none.
+    pub fn unregister(&mut self, event: EventId, callback: Callback) -> bool
+        requires kept { IsKept self.old.events event }
+        ensures found { result
+            ≡ list_any (is_same_callback callback) (kept_at self.old.events event).callbacks }
+        ensures follows { Follows (events.unregister event (is_same_callback callback))
+            self.old self.new }
+        ensures spare { self.new.spare ≡ more_callbacks (one_if result) self.old.spare }
+    {
+        self.table.unregister(event, callback)
+    }
+
+    /// A failure of the event no longer ends the run.
+    pub fn defuse(&mut self, event: EventId)
+        requires kept { IsKept self.old.events event }
+        ensures follows { Follows (events.defuse event) self.old self.new }
+        ensures spare { self.new.spare ≡ self.old.spare }
+    {
+        self.table.defuse(event);
+    }
+
+    /// Takes the first of the callbacks that are left to call.
+    pub fn next(&mut self) -> Option<Callback>
+        ensures left { MatchOption result
+            (self.old.left ≡ []) (λ c. self.old.left ≡ c ∷ self.new.left) }
+        ensures none { IfNone result (self.new ≡ self.old) }
+        ensures spare { self.new.spare ≡ more_callbacks (one_if (is_some result)) self.old.spare }
+        ensures rest { self.new
+            ≡ record self.old { left = self.new.left; spare = self.new.spare } }
+    {
+        self.table.next()
+    }
+
+    /// Takes out the first of the callbacks that are left to call that is the same as this one. False where there is
+    /// none.
+    pub fn strip(&mut self, callback: Callback) -> bool
+        ensures found { result ≡ list_any (is_same_callback callback) self.old.left }
+        ensures left { self.new.left
+            ≡ events.without_first (is_same_callback callback) self.old.left }
+        ensures spare { self.new.spare ≡ more_callbacks (one_if result) self.old.spare }
+        ensures rest { self.new
+            ≡ record self.old { left = self.new.left; spare = self.new.spare } }
+    {
+        self.table.strip(callback)
+    }
+    /// One holder more: the event is kept until that holder is given back.
+    pub fn hold(&mut self, event: EventId)
+        requires kept { IsKept self.old.events event }
+        requires few { (kept_at self.old.events event).holders < 2 ^ 60 }
+        ensures held { Turns (λ c. c) (one_more event) self.old self.new }
+        ensures spare { self.new.spare ≡ self.old.spare }
+    {
+        self.add_holder(event);
+    }
+
+    /// The same, and what is kept then.
+    pub(crate) fn add_holder(&mut self, event: EventId)
+        requires kept { IsKept self.old.events event }
+        requires few { (kept_at self.old.events event).holders < 2 ^ 61 }
+        ensures held { Turns (λ c. c) (one_more event) self.old self.new }
+        ensures events { self.new.events ≡ change_kept event with_holder self.old.events }
+        ensures spare { self.new.spare ≡ self.old.spare }
+    {
+        self.table.hold(event);
+    }
+
+    /// Whether an event failed and nobody defused it, so that it ends the run once its callbacks were called.
+    pub fn is_unhandled(&self, event: EventId) -> bool
+        requires kept { IsKept self.now.events event }
+        ensures { let x = (kept_at self.now.events event).event in
+            result ≡ (events.is_fail x.outcome && not x.defused) }
+    {
+        self.is_failed(event) && !self.table.is_defused(event)
+    }
+
+    /// Whether an event has an outcome that is a failure.
+    pub(crate) fn is_failed(&self, event: EventId) -> bool
+        requires kept { IsKept self.now.events event }
+        ensures { result ≡ events.is_fail (kept_at self.now.events event).event.outcome }
+    {
+        match self.table.outcome(event) {
+            Some(Outcome::Fail(_)) => true,
+            _ => false,
+        }
+    }
+
+    /// A pending event is cancelled, since it was taken out of its queue at a resource. It goes where nobody holds it.
+    pub fn shut(&mut self, event: EventId)
+        requires is_open { IsOpen self.old event }
+        ensures cancelled { Turns (events.cancel_event event) (gone_if_unheld event)
+            self.old self.new }
+        ensures room { KeepsRoom self.old self.new }
+    {
+        self.table.shut(event);
+    }
+
+    /// One holder fewer, beside those that are conditions. The event goes where it is processed or cancelled and nobody else
+    /// holds it.
+    pub(crate) fn release(&mut self, event: EventId)
+        requires held { HasOwnHolder self.old.events event }
+        ensures events { self.new.events ≡ change_or_forget event without_holder self.old.events }
+        ensures rest { self.new
+            ≡ record self.old { events = self.new.events; spare = self.new.spare } }
+        ensures room { KeepsRoom self.old self.new }
+    {
+        self.table.unhold(event);
+    }
+
+    /// One more than the number of an event: members have smaller numbers, so no event is nested deeper.
+    pub(crate) fn depth_of(&self, event: EventId) -> u64
+        requires kept { IsKept self.now.events event }
+        ensures { result ≡ event.0 + 1 }
+    {
+        let _few = &self.table;
+        event.0 + 1
+    }
+
+    /// Whether an event is kept.
+    pub(crate) fn is_kept(&self, event: EventId) -> bool
+        ensures { result ≡ is_some (slice_index_or self.now.events event.0 None) }
+    {
+        self.table.is_kept(event)
+    }
+
+    /// Whether an event is a condition.
+    pub(crate) fn is_condition(&self, event: EventId) -> bool
+        requires kept { IsKept self.now.events event }
+        ensures { result ≡ is_some (kept_at self.now.events event).event.condition }
+    {
+        self.table.is_condition(event)
+    }
+
+    /// Whether an event stands in the value of a condition.
+    pub(crate) fn has_in_value(&self, condition: EventId, event: EventId) -> bool
+        requires kept { IsKept self.now.events condition }
+        requires condition { IsSome (kept_at self.now.events condition).event.condition }
+        ensures { result
+            ≡ list_any (events.is_same event) (kept_condition self.now.events condition).value }
+    {
+        self.table.has_in_value(condition, event)
+    }
+
+    /// Whether an event is processed.
+    pub(crate) fn is_processed(&self, event: EventId) -> bool
+        requires kept { IsKept self.now.events event }
+        ensures { result ≡ (kept_at self.now.events event).event.processed }
+    {
+        match self.table.state(event) {
+            EventState::Processed => true,
+            EventState::Triggered => false,
+            EventState::Pending => false,
+        }
+    }
+
+    /// How an event turned out. None where it is pending.
+    pub(crate) fn outcome(&self, event: EventId) -> Option<Outcome>
+        requires kept { IsKept self.now.events event }
+        ensures { result ≡ (kept_at self.now.events event).event.outcome }
+    {
+        self.table.outcome(event)
+    }
+
+    /// Whether a condition is met, where a member was just counted.
+    pub(crate) fn is_met(&self, condition: EventId) -> bool
+        requires kept { IsKept self.now.events condition }
+        requires condition { IsSome (kept_at self.now.events condition).event.condition }
+        ensures { result ≡ conditions.is_met (kept_condition self.now.events condition) }
+    {
+        self.table.is_met(condition)
+    }
+
+    /// What is kept of all events: each is held by the conditions that it is a member of, and none weighs too much.
+    pub(crate) fn tell(&self)
+        ensures held { AreOwed [] self.now.events }
+        ensures narrow { AreNarrow self.now.events }
+    {
+        let _kept = &self.table;
+    }
+
+    /// A condition more, whose members have a holder each and are yet to join it.
+    pub(crate) fn add_condition(&mut self, for_all: bool, members: Members) -> EventId
+        requires spare { 0 < self.old.spare.events }
+        requires spare_conditions { 0 < self.old.spare.conditions }
+        requires number { length self.old.events < 2 ^ 62 }
+        requires kept { All (IsKept self.old.events) members }
+        requires owed { AreOwed members self.old.events }
+        requires light { 1 + sum_by (weight_in conditions.most_weight self.old.events) members
+            ≤ conditions.most_weight }
+        ensures id { result.0 ≡ length self.old.events }
+        ensures made { Turns (λ c. with_members (if for_all then Every else Either) members
+            (events.next_event c) c) unheld_event self.old self.new }
+        ensures spare { more_events 1 (more_conditions 1 self.new.spare) ≡ self.old.spare }
+    {
+        let _places = &self.agenda;
+        if for_all {
+            self.table.make_all_of(members)
+        } else {
+            self.table.make_any_of(members)
+        }
+    }
+
+    /// The members of a condition, which are kept. Other events have none.
+    pub(crate) fn members(&self, event: EventId) -> Members
+        requires kept { IsKept self.now.events event }
+        ensures members { result ≡ (kept_condition self.now.events event).members }
+        ensures held { AreOwed [] self.now.events }
+        ensures narrow { AreNarrow self.now.events }
+        ensures kept { All (IsKept self.now.events) result }
+    {
+        self.table.members(event)
+    }
+
+    /// One member more of a condition is counted.
+    pub(crate) fn count_member(&mut self, condition: EventId)
+        requires kept { IsKept self.old.events condition }
+        requires condition { IsSome (kept_at self.old.events condition).event.condition }
+        requires few { let x = kept_condition self.old.events condition in
+            x.count < length x.members }
+        ensures follows { Follows (conditions.count_member condition) self.old self.new }
+        ensures spare { self.new.spare ≡ self.old.spare }
+    {
+        self.table.count_member(condition);
+    }
+
+    /// The value of a condition is now these events.
+    pub(crate) fn set_value(&mut self, condition: EventId, value: ConditionValue)
+        requires kept { IsKept self.old.events condition }
+        requires condition { IsSome (kept_at self.old.events condition).event.condition }
+        ensures follows { Follows (conditions.change_condition condition
+            (λ x. record x { value = value })) self.old self.new }
+        ensures spare { self.new.spare ≡ self.old.spare }
+    {
+        self.table.fix_value(condition, value);
+    }
+
+    /// Whether now and a delay pass the last time.
+    pub(crate) fn is_too_late(&self, delay: i64) -> bool
+        ensures { IsTrue result ↔ pos (2 ^ 62) <ℤ (self.now.time +ℤ delay) }
+    {
+        delay > LAST_TIME - self.time
+    }
+
+    // The key of an entry after a delay.
+    fn key_after(&self, priority: u8, delay: i64) -> Key
+        requires not_past { pos 0 ≤ℤ delay }
+        requires high { (self.now.time +ℤ delay) ≤ℤ pos (2 ^ 62) }
+        ensures { result ≡ record {
+          time = self.now.time +ℤ delay;
+          priority = priority;
+          number = self.now.scheduled;
+        } }
+    {
+        Key::new(self.time + delay, priority, self.scheduled)
+    }
+
+    /// A pending event gets its outcome, and an entry after a delay.
+    pub(crate) fn put(
+        &mut self,
+        event: EventId,
+        outcome: Outcome,
+        priority: u8,
+        delay: i64,
+    ) -> Result<(), AlreadyTriggered>
+        requires kept { IsKept self.old.events event }
+        requires not_cancelled { IsFalse (kept_at self.old.events event).event.cancelled }
+        requires not_past { pos 0 ≤ℤ delay }
+        requires high { (self.old.time +ℤ delay) ≤ℤ pos (2 ^ 62) }
+        ensures refused { IsErr result
+            ↔ IsSome (kept_at self.old.events event).event.outcome }
+        ensures ok { OnOk result (Follows (triggering.schedule event outcome priority delay)
+            self.old self.new) }
+        ensures err { OnErr result (self.new ≡ self.old) }
+        ensures members { SameMemberships self.old.events self.new.events }
+        ensures spare { self.new.spare ≡ self.old.spare }
+    {
+        let key = self.key_after(priority, delay);
+        match self.table.set(event, outcome) {
+            Err(_) => Err(AlreadyTriggered),
+            Ok(()) => {
+                self.scheduled += 1;
+                push(&mut self.agenda, Entry { key, event });
+                Ok(())
+            }
+        }
+    }
+
+    /// A pending event gets its outcome, and an entry at now.
+    pub(crate) fn put_now(
+        &mut self,
+        event: EventId,
+        outcome: Outcome,
+        priority: u8,
+    ) -> Result<(), AlreadyTriggered>
+        requires kept { IsKept self.old.events event }
+        requires not_cancelled { IsFalse (kept_at self.old.events event).event.cancelled }
+        ensures refused { IsErr result
+            ↔ IsSome (kept_at self.old.events event).event.outcome }
+        ensures ok { OnOk result (Follows (triggering.schedule event outcome priority (pos 0))
+            self.old self.new) }
+        ensures err { OnErr result (self.new ≡ self.old) }
+        ensures members { SameMemberships self.old.events self.new.events }
+        ensures spare { self.new.spare ≡ self.old.spare }
+    {
+        let _now = &self.time;
+        self.put(event, outcome, priority, 0)
+    }
+
+    /// Pops the entry that is due: it is its time, its event is processed and has a holder more, and its callbacks are
+    /// those that are left to call. The answer is the line of the trace that tells it. None where nothing is scheduled.
+    pub fn step(&mut self) -> Option<Line>
+        requires called { self.old.left ≡ [] }
+        requires few { AreHeldByFew self.old.events }
+        ensures steps { MatchOption result
+            ((self.old.agenda ≡ []) × (self.new ≡ self.old))
+            (λ line. (x : Entry) × PopsEntry x line self.old self.new) }
+        ensures spare { self.new.spare ≡ self.old.spare }
+    {
+        match pop(&mut self.agenda) {
+            None => None,
+            Some(entry) => {
+                let event = entry.event;
+                let (kind, outcome) = begin(&mut self.table, event);
+                let (time, priority, number) = entry.key.parts();
+                self.time = time;
+                Some(Line::Event {
+                    time,
+                    priority,
+                    number,
+                    kind,
+                    event,
+                    outcome,
+                })
+            }
+        }
+    }
+}

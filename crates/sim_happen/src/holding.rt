@@ -1,0 +1,58 @@
+//! How a holder is given back, with what the event held as a condition.
+ghost use Rattle.std.specs.Prelude.{◌≡◌, not, ◌&&◌};
+ghost use Rattle.sim_machine.specs.Events.{is_fail};
+ghost use Rattle.sim_events.specs.TableOf.{kept_at};
+ghost use Rattle.sim_happen_model.specs.HappenOf.{KeepsRoom};
+ghost use Rattle.sim_happen_model.specs.Holders.{HasOwnHolder, unheld_within, unheld};
+
+use crate::happen::Happen;
+use sim_types::EventId;
+
+impl Happen {
+    // One holder fewer; where the event goes, each of its members has one fewer, and so on inwards.
+    fn give_back(&mut self, depth: u64, event: EventId)
+        requires held { HasOwnHolder self.old.events event }
+        ensures events { self.new.events ≡ unheld_within depth event self.old.events }
+        ensures rest { self.new
+            ≡ record self.old { events = self.new.events; spare = self.new.spare } }
+        ensures room { KeepsRoom self.old self.new }
+    {
+        if depth > 0 {
+            let members = self.members(event);
+            self.release(event);
+            if !self.is_kept(event) {
+                for member in members.as_slice() {
+                    self.give_back(depth - 1, *member);
+                }
+            }
+        }
+    }
+
+    /// One holder fewer, beside those that are conditions. Where the event is processed or cancelled and nobody else holds
+    /// it, it goes, and where it is a condition each of its members has a holder fewer, and so on inwards.
+    pub fn unhold(&mut self, event: EventId)
+        requires held { HasOwnHolder self.old.events event }
+        ensures events { self.new.events ≡ unheld event self.old.events }
+        ensures rest { self.new
+            ≡ record self.old { events = self.new.events; spare = self.new.spare } }
+        ensures room { KeepsRoom self.old self.new }
+    {
+        self.give_back(self.depth_of(event), event);
+    }
+
+    /// All callbacks of an event were called: the holder that it had while it was processed is given back. The answer is
+    /// whether it failed and nobody defused it, so that it ends the run.
+    pub fn settle(&mut self, event: EventId) -> bool
+        requires held { HasOwnHolder self.old.events event }
+        ensures unhandled { let x = (kept_at self.old.events event).event in
+            result ≡ (is_fail x.outcome && not x.defused) }
+        ensures events { self.new.events ≡ unheld event self.old.events }
+        ensures rest { self.new
+            ≡ record self.old { events = self.new.events; spare = self.new.spare } }
+        ensures room { KeepsRoom self.old self.new }
+    {
+        let unhandled = self.is_unhandled(event);
+        self.unhold(event);
+        unhandled
+    }
+}
