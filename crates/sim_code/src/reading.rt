@@ -100,7 +100,8 @@ impl<'t, 'w> Reading<'t, 'w> {
     /// In front of the first line of a text.
     fn of_text(alloc: Global, text: &'t [u8], whole: &'w WholeText<'t>) -> Reading<'t, 'w>
         requires { length text.now ≤ most_bytes }
-        ensures { IsReading whole.now.heads (reads_text is_built whole.now (lines text.now)) result }
+        ensures { IsReading whole.now.heads
+            (reads_text is_built whole.now (lines text.now)) result }
     {
         Reading {
             lines: Lines::of_text(text, whole),
