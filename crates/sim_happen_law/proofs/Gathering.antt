@@ -151,7 +151,8 @@ pub gather_fits : (depth : ℕ) (es : List (Option Kept)) (ms : List EventId) (i
 gather_fits depth es ms i d old now within g =
     omega (arith, g.few, g.light, sum_next (weight_in depth es) ms i d within, sum_taken (weight_in depth es) ms (i + 1))
 
-pub gather_next : (depth : ℕ) (es : List (Option Kept)) (ms : List EventId) (i : ℕ) (d : EventId) (old now new : List EventId) → i < length ms → GathersUpTo depth es ms i old now
+pub gather_next : (depth : ℕ) (es : List (Option Kept)) (ms : List EventId) (i : ℕ) (d : EventId) (old now new : List EventId)
+    → i < length ms → GathersUpTo depth es ms i old now
     → Gathers es (leaves_in depth es (slice_index_or ms i d)) now new → length new ≤ length now + weight_in depth es (slice_index_or ms i d)
     → GathersUpTo depth es ms (i + 1) old new
 gather_next depth es ms i d old now new within g more few =

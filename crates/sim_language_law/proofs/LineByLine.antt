@@ -61,7 +61,8 @@ module _ (whole : WholeText) (end : Option Fault) (final : ScenarioOf) where
     pub record Steps : Type 0 where
       pub blank : (n : ℕ) (above : List TextLine) (ws : List Word) (below : List TextLine) (s : ScenarioOf)
           → Q n above (line ws Blank ∷ below) s → Q (n + 1) (line ws Blank ∷ above) below s
-      pub wrong : (n : ℕ) (above : List TextLine) (ws : List Word) (kind : FaultKind) (below : List TextLine) (s : ScenarioOf) → Q n above (line ws (Wrong kind) ∷ below) s → Q (n + 1) (line ws (Wrong kind) ∷ above) below s
+      pub wrong : (n : ℕ) (above : List TextLine) (ws : List Word) (kind : FaultKind) (below : List TextLine) (s : ScenarioOf)
+          → Q n above (line ws (Wrong kind) ∷ below) s → Q (n + 1) (line ws (Wrong kind) ∷ above) below s
       pub says : (n : ℕ) (above : List TextLine) (ws : List Word) (f : Form) (slots : List Operand) (below : List TextLine) (s : ScenarioOf)
           → Passing n above ws f slots below s → Q n above (line ws (Says f slots) ∷ below) s
           → Q (n + 1) (line ws (Says f slots) ∷ above) below (put_in (added whole.heads (place_at n above (line ws (Says f slots)) below) f slots) s)
