@@ -1,26 +1,24 @@
-ghost use Rattle.std.specs.Prelude.{◌≡◌, ◌↔◌, ℕ, ◌+◌, ◌<◌, ◌≤◌, ◌^◌, [], ◌∷◌, ◌++◌, length, Some, None, IsSome, IsFalse, is_some, IsOk, IfOk, IfNone, OnOk, OnErr, MatchOption, slice_index_or, if◌then◌else◌};
+ghost use Rattle.std.specs.Prelude.{◌≡◌, ◌↔◌, ◌+◌, ◌<◌, ◌≤◌, ◌^◌, [], ◌∷◌, ◌++◌, length, Some, None, IsSome, IsFalse, is_some, IsOk, IfOk, IfNone, OnOk, OnErr, MatchOption, slice_index_or};
 ghost use Rattle.std.specs.List.{list_any};
-ghost use Rattle.sim_machine.specs.State.{Every, Either};
-ghost use Rattle.sim_machine.specs.Events.{pending_event, is_same, without_first};
-ghost use Rattle.sim_machine.specs.Conditions.{is_met};
+ghost use Rattle.sim_machine.specs.Events.{pending_event, without_first};
 ghost use Rattle.sim_machine.specs.Standing.{one_if};
 ghost use Rattle.sim_chains.specs.Callbacks.{is_same_callback};
-ghost use Rattle.sim_events.specs.TableOf.{new_kept, first_kept, new_condition, kept_at, kept_condition, IsKept, AreNeeded, kept_count, kept_and_spare};
-ghost use Rattle.sim_events.specs.Changes.{with_outcome, with_defused, with_processed, with_cancelled, on_condition, with_callback, without_callback, with_holder, without_holder, change_kept, change_or_forget, callbacks_freed, conditions_freed, more_events, more_callbacks, more_conditions};
+ghost use Rattle.sim_events.specs.TableOf.{new_kept, first_kept, kept_at, IsKept, AreNeeded, kept_count, kept_and_spare};
+ghost use Rattle.sim_events.specs.Changes.{with_outcome, with_defused, with_processed, with_cancelled, with_callback, without_callback, with_holder, without_holder, change_kept, change_or_forget, callbacks_freed, conditions_freed, more_events, more_callbacks};
 ghost use Rattle.sim_events.specs.States.{state_of};
 ghost use Rattle.sim_events.specs.declared.table.EventState.TheVariants as state;
-ghost use Rattle.sim_chains.specs.Chains.{callbacks_in};
 ghost use Rattle.sim_events.specs.Stores.{IsStore, IsStored, ArePlaced, ForgetsSlot, AddsSlot};
 ghost use Rattle.sim_chains.specs.declared.chain.Chain.{Chain};
 ghost use Rattle.sim_index.specs.IndexOf.{place_of_number};
 ghost use Rattle.slab.specs.Slab.{HasRoomFor};
 
-use crate::part::{ConditionValue, Part};
+mod conditions;
+
 use crate::slot::Slot;
 use crate::store::Store;
 use sim_chains::{Chain, Nodes};
 use sim_index::Index;
-use sim_types::{Callback, EventId, EventKind, Members, Outcome};
+use sim_types::{Callback, EventId, EventKind, Outcome};
 use slab::Slab;
 use std::alloc::{AllocError, Global};
 use std::marker::Model;
@@ -147,18 +145,6 @@ impl Table {
         self.store.nodes.reserve(callbacks)
     }
 
-    /// Makes room for so many more of those events that are conditions.
-    pub fn reserve_conditions(&mut self, more: u32) -> Result<(), AllocError>
-        ensures ok { OnOk result (more ≤ self.new.spare.conditions) }
-        ensures succeeds { more ≤ self.old.spare.conditions → IsOk result }
-        ensures never_less { self.old.spare.conditions ≤ self.new.spare.conditions }
-        ensures events { self.new.spare.events ≡ self.old.spare.events }
-        ensures callbacks { self.new.spare.callbacks ≡ self.old.spare.callbacks }
-        ensures rest { self.new ≡ record self.old { spare = self.new.spare } }
-    {
-        self.store.parts.reserve(more as usize)
-    }
-
     /// How many events are kept: those that are neither processed nor cancelled, and those that have a holder.
     pub fn slots(&self) -> u64
         ensures count { result ≡ kept_count self.now.events }
@@ -185,55 +171,6 @@ impl Table {
         ensures spare { more_events 1 self.new.spare ≡ self.old.spare }
     {
         add(&mut self.index, &mut self.store.slots, Slot::new(kind))
-    }
-
-    // A condition more, that waits for all of its members or for one.
-    fn make_condition(&mut self, for_all: bool, members: Members) -> EventId
-        requires spare { 0 < self.old.spare.events }
-        requires spare_conditions { 0 < self.old.spare.conditions }
-        requires number { length self.old.events < 2 ^ 62 }
-        ensures id { result.0 ≡ length self.old.events }
-        ensures events { self.new.events
-            ≡ self.old.events
-            ++ Some (new_kept (new_condition (if for_all then Every else Either) members)) ∷ [] }
-        ensures left { self.new.left ≡ self.old.left }
-        ensures spare { more_events 1 (more_conditions 1 self.new.spare) ≡ self.old.spare }
-    {
-        let mut slot = Slot::new(EventKind::Cond);
-        slot.is_condition = true;
-        slot.part = self
-            .store
-            .parts
-            .insert_reserved(Part::new(for_all, members));
-        add(&mut self.index, &mut self.store.slots, slot)
-    }
-
-    /// A condition more, that waits for all of its members (SimPy's AllOf). Nobody holds its members yet.
-    pub fn make_all_of(&mut self, members: Members) -> EventId
-        requires spare { 0 < self.old.spare.events }
-        requires spare_conditions { 0 < self.old.spare.conditions }
-        requires number { length self.old.events < 2 ^ 62 }
-        ensures id { result.0 ≡ length self.old.events }
-        ensures events { self.new.events
-            ≡ self.old.events ++ Some (new_kept (new_condition Every members)) ∷ [] }
-        ensures left { self.new.left ≡ self.old.left }
-        ensures spare { more_events 1 (more_conditions 1 self.new.spare) ≡ self.old.spare }
-    {
-        self.make_condition(true, members)
-    }
-
-    /// A condition more, that waits for one of its members (SimPy's AnyOf). Nobody holds its members yet.
-    pub fn make_any_of(&mut self, members: Members) -> EventId
-        requires spare { 0 < self.old.spare.events }
-        requires spare_conditions { 0 < self.old.spare.conditions }
-        requires number { length self.old.events < 2 ^ 62 }
-        ensures id { result.0 ≡ length self.old.events }
-        ensures events { self.new.events
-            ≡ self.old.events ++ Some (new_kept (new_condition Either members)) ∷ [] }
-        ensures left { self.new.left ≡ self.old.left }
-        ensures spare { more_events 1 (more_conditions 1 self.new.spare) ≡ self.old.spare }
-    {
-        self.make_condition(false, members)
     }
 
     /// How far an event has come.
@@ -433,72 +370,5 @@ impl Table {
         let key = key_of(&self.index, event);
         self.store.slots[key].cancelled = true;
         forget_unneeded(&mut self.index, &mut self.store, event, key);
-    }
-
-    /// Whether an event is a condition.
-    pub fn is_condition(&self, event: EventId) -> bool
-        requires kept { IsKept self.now.events event }
-        ensures { result ≡ is_some (kept_at self.now.events event).event.condition }
-    {
-        self.store.slots[key_of(&self.index, event)].is_condition
-    }
-
-    /// The members of a condition. Other events have none.
-    pub fn members(&self, event: EventId) -> Members
-        requires kept { IsKept self.now.events event }
-        ensures { result ≡ (kept_condition self.now.events event).members }
-    {
-        let slot = &self.store.slots[key_of(&self.index, event)];
-        if slot.is_condition {
-            self.store.parts[slot.part].members()
-        } else {
-            Members::new()
-        }
-    }
-
-    /// Whether a condition is met, where a member was just counted.
-    pub fn is_met(&self, event: EventId) -> bool
-        requires kept { IsKept self.now.events event }
-        requires condition { IsSome (kept_at self.now.events event).event.condition }
-        ensures { result ≡ is_met (kept_condition self.now.events event) }
-    {
-        let part = self.store.slots[key_of(&self.index, event)].part;
-        self.store.parts[part].is_met()
-    }
-
-    /// One member more of a condition is counted.
-    pub fn count_member(&mut self, event: EventId)
-        requires kept { IsKept self.old.events event }
-        requires condition { IsSome (kept_at self.old.events event).event.condition }
-        requires few { let x = kept_condition self.old.events event in x.count < length x.members }
-        ensures events { self.new.events ≡ change_kept event
-            (on_condition (λ x. record x { count = x.count + 1 })) self.old.events }
-        ensures rest { self.new ≡ record self.old { events = self.new.events } }
-    {
-        let part = self.store.slots[key_of(&self.index, event)].part;
-        self.store.parts[part].count_member();
-    }
-
-    /// The value of a condition is now these events.
-    pub fn fix_value(&mut self, event: EventId, value: ConditionValue)
-        requires kept { IsKept self.old.events event }
-        requires condition { IsSome (kept_at self.old.events event).event.condition }
-        ensures events { self.new.events ≡ change_kept event
-            (on_condition (λ x. record x { value = value })) self.old.events }
-        ensures rest { self.new ≡ record self.old { events = self.new.events } }
-    {
-        let part = self.store.slots[key_of(&self.index, event)].part;
-        self.store.parts[part].fix_value(value);
-    }
-
-    /// Whether an event stands in the value of a condition.
-    pub fn has_in_value(&self, condition: EventId, event: EventId) -> bool
-        requires kept { IsKept self.now.events condition }
-        requires condition { IsSome (kept_at self.now.events condition).event.condition }
-        ensures { result
-            ≡ list_any (is_same event) (kept_condition self.now.events condition).value }
-    {
-        let part = self.store.slots[key_of(&self.index, condition)].part;
-        self.store.parts[part].has_in_value(event)
     }
 }
