@@ -17,7 +17,7 @@ use Rattle.sim_chains.specs.Keeping.{Relinked, MayBePassedOn}
 use Rattle.sim_events.specs.Slots.{kept_in}
 use Rattle.sim_events.specs.Stores.{events_in, HasPart, IsStored, ArePlaced, IsSoundTable}
 use Rattle.sim_events.specs.TableOf.{Kept, IsKept, IsInOrder, kept_at}
-use Rattle.sim_events.specs.Changes.{change_kept, with_processed, on_condition}
+use Rattle.sim_events.specs.Changes.{change_kept, on_condition}
 use Rattle.sim_events.proofs.Slabs.{with_value_len, there_from}
 use Rattle.sim_events.proofs.Nodes.{KeepsNodes, nodes_same, nodes_relinked, nodes_begun}
 use Rattle.sim_events.proofs.Parts.{condition_written, KeepsParts, parts_same, parts_updated, free_own}
@@ -106,12 +106,12 @@ module _ (places : List (Option ℕ)) (s : Store) (left : Chain) (t : IsSoundTab
 
   -- ---- the event begins: its chain is handed over to what is left to call
 
-  pub rewrites_begun : (y : Slot) → IsEmpty y.callbacks → MayBePassedOn x.callbacks → y.is_condition ≡ x.is_condition → y.part ≡ x.part
-      → kept_in s.nodes s.parts y ≡ with_processed (kept_in s.nodes s.parts x)
-      → Rewrites places s (record s { slots = with_value s.slots key y }) x.callbacks e with_processed
-  rewrites_begun y none passes condition part is =
+  pub rewrites_begun : (y : Slot) (change : Kept → Kept) → IsEmpty y.callbacks → MayBePassedOn x.callbacks → y.is_condition ≡ x.is_condition → y.part ≡ x.part
+      → kept_in s.nodes s.parts y ≡ change (kept_in s.nodes s.parts x)
+      → Rewrites places s (record s { slots = with_value s.slots key y }) x.callbacks e change
+  rewrites_begun y change none passes condition part is =
       let begun = nodes_begun s.nodes t.stored.owners key y x.callbacks (passes s.nodes t.stored.owners (suc key) 0 (t.stored.chains key x found)) none in
-      rewrites places s (record s { slots = with_value s.slots key y }) left x.callbacks t e key x y with_processed at found (Updates-with_value s.slots key y (there_from s.slots key x found)) (still_fit y) begun (own_parts y condition part) is
+      rewrites places s (record s { slots = with_value s.slots key y }) left x.callbacks t e key x y change at found (Updates-with_value s.slots key y (there_from s.slots key x found)) (still_fit y) begun (own_parts y condition part) is
 
   -- an event that is seen as a condition has a part
   pub is_condition : IsSome (kept_at (events_in places s) e).event.condition → x.is_condition ≡ true

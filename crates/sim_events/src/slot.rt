@@ -1,4 +1,4 @@
-ghost use Rattle.std.specs.Prelude.{◌≡◌, is_none};
+ghost use Rattle.std.specs.Prelude.{◌≡◌, ◌-◌, not, is_none};
 ghost use Rattle.sim_chains.specs.Chains.{IsEmpty};
 ghost use Rattle.sim_events.specs.Slots.{new_slot, outcome_in, slot_with_outcome, is_slot_needed};
 
@@ -103,5 +103,13 @@ impl Slot {
         ensures { result ≡ is_slot_needed self.now }
     {
         !(self.processed || self.cancelled) || 0 < self.holders
+    }
+
+    /// Whether the event is not to be kept where it has one holder fewer.
+    pub(crate) fn goes_without_holder(&self) -> bool
+        ensures { result
+            ≡ not (is_slot_needed (record self.now { holders = self.now.holders - 1 })) }
+    {
+        (self.processed || self.cancelled) && self.holders <= 1
     }
 }

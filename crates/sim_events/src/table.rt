@@ -1,9 +1,9 @@
-ghost use Rattle.std.specs.Prelude.{◌≡◌, ◌↔◌, ◌+◌, ◌<◌, ◌≤◌, ◌^◌, [], ◌∷◌, ◌++◌, length, Some, None, IsSome, IsFalse, is_some, IsOk, IfOk, IfNone, OnOk, OnErr, MatchOption, slice_index_or};
+ghost use Rattle.std.specs.Prelude.{◌≡◌, ◌↔◌, ◌+◌, ◌<◌, ◌≤◌, ◌^◌, [], ◌∷◌, ◌++◌, length, Some, None, IsSome, IsFalse, is_some, not, IsOk, IfOk, IfNone, OnOk, OnErr, MatchOption, slice_index_or};
 ghost use Rattle.std.specs.List.{list_any};
 ghost use Rattle.sim_machine.specs.Events.{pending_event, without_first};
 ghost use Rattle.sim_machine.specs.Standing.{one_if};
 ghost use Rattle.sim_chains.specs.Callbacks.{is_same_callback};
-ghost use Rattle.sim_events.specs.TableOf.{new_kept, first_kept, kept_at, IsKept, AreNeeded, kept_count, kept_and_spare};
+ghost use Rattle.sim_events.specs.TableOf.{new_kept, first_kept, kept_at, IsKept, AreNeeded, is_needed, kept_count, kept_and_spare};
 ghost use Rattle.sim_events.specs.Changes.{with_outcome, with_defused, with_processed, with_cancelled, with_callback, without_callback, with_holder, without_holder, change_kept, change_or_forget, callbacks_freed, conditions_freed, more_events, more_callbacks};
 ghost use Rattle.sim_events.specs.States.{state_of};
 ghost use Rattle.sim_events.specs.declared.table.EventState.TheVariants as state;
@@ -300,6 +300,32 @@ impl Table {
         forget_unneeded(&mut self.index, &mut self.store, event, key);
     }
 
+    /// A triggered event is processed, as by `begin`, and has a holder more, so it stays. It is looked up once. The answer is
+    /// its kind and how it turned out.
+    pub fn begin_held(&mut self, event: EventId) -> (EventKind, Option<Outcome>)
+        requires kept { IsKept self.old.events event }
+        requires triggered { IsSome (kept_at self.old.events event).event.outcome }
+        requires few { (kept_at self.old.events event).holders < 2 ^ 61 }
+        requires called { self.old.left ≡ [] }
+        ensures kind { result.0 ≡ (kept_at self.old.events event).event.kind }
+        ensures outcome { result.1 ≡ (kept_at self.old.events event).event.outcome }
+        ensures events { self.new.events ≡ change_kept event
+            (λ k. with_processed (with_holder k)) self.old.events }
+        ensures left { self.new.left ≡ (kept_at self.old.events event).callbacks }
+        ensures spare { self.new.spare ≡ self.old.spare }
+    {
+        let key = match self.index.seek(event.0) {
+            Some(key) => key,
+            None => unreachable!(),
+        };
+        let slot = &mut self.store.slots[key];
+        slot.processed = true;
+        slot.holders += 1;
+        let callbacks = slot.callbacks.take();
+        self.left = callbacks;
+        (slot.kind, slot.outcome())
+    }
+
     /// Takes the first of the callbacks that are left to call.
     pub fn next(&mut self) -> Option<Callback>
         ensures left { MatchOption result
@@ -351,6 +377,14 @@ impl Table {
         let key = key_of(&self.index, event);
         self.store.slots[key].holders -= 1;
         forget_unneeded(&mut self.index, &mut self.store, event, key);
+    }
+
+    /// Whether an event goes where it has one holder fewer.
+    pub fn goes_without_holder(&self, event: EventId) -> bool
+        requires kept { IsKept self.now.events event }
+        ensures { result ≡ not (is_needed (without_holder (kept_at self.now.events event))) }
+    {
+        self.store.slots[key_of(&self.index, event)].goes_without_holder()
     }
 
     /// A pending event is cancelled: it was taken out of its queue. It goes where nobody holds it.

@@ -82,11 +82,8 @@ fn begin(table: &mut Table, event: EventId) -> (EventKind, Outcome)
     ensures left { table.new.left ≡ (kept_at table.old.events event).callbacks }
     ensures spare { table.new.spare ≡ table.old.spare }
 {
-    let kind = table.kind(event);
-    let outcome = table.outcome(event).unwrap_or(Outcome::Ok(0));
-    table.hold(event);
-    table.begin(event);
-    (kind, outcome)
+    let (kind, outcome) = table.begin_held(event);
+    (kind, outcome.unwrap_or(Outcome::Ok(0)))
 }
 
 impl Happen {

@@ -1,14 +1,34 @@
 //! How a holder is given back, with what the event held as a condition.
-ghost use Rattle.std.specs.Prelude.{◌≡◌, not, ◌&&◌};
+ghost use Rattle.std.specs.Prelude.{◌≡◌, ◌⊎◌, not, ◌&&◌, [], IsTrue, IsFalse, IfNone, IfSome};
 ghost use Rattle.sim_machine.specs.Events.{is_fail};
-ghost use Rattle.sim_events.specs.TableOf.{kept_at};
+ghost use Rattle.sim_events.specs.TableOf.{IsKept, is_needed, kept_at};
+ghost use Rattle.sim_events.specs.Changes.{without_holder};
 ghost use Rattle.sim_happen_model.specs.HappenOf.{KeepsRoom};
-ghost use Rattle.sim_happen_model.specs.Holders.{HasOwnHolder, unheld_within, unheld};
+ghost use Rattle.sim_happen_model.specs.Holders.{HasOwnHolder, AreOwed, members_in, unheld_within, unheld};
 
 use crate::happen::Happen;
-use sim_types::EventId;
+use sim_types::{EventId, Members};
 
 impl Happen {
+    // The members that an event gives back with one holder fewer: those of a condition that goes then. None where it stays
+    // or is no condition.
+    fn members_given_back(&self, event: EventId) -> Option<Members>
+        requires kept { IsKept self.now.events event }
+        ensures stays { IfNone result (let k = kept_at self.now.events event in
+            IsTrue (is_needed (without_holder k)) ⊎ (members_in k ≡ [])) }
+        ensures goes { IfSome result (λ ms. let k = kept_at self.now.events event in
+            IsFalse (is_needed (without_holder k))) }
+        ensures members { IfSome result (λ ms. ms ≡ members_in (kept_at self.now.events event)) }
+        ensures owed { AreOwed [] self.now.events }
+    {
+        self.tell();
+        if self.is_condition(event) && self.goes_without_holder(event) {
+            Some(self.members(event))
+        } else {
+            None
+        }
+    }
+
     // One holder fewer; where the event goes, each of its members has one fewer, and so on inwards.
     fn give_back(&mut self, depth: u64, event: EventId)
         requires held { HasOwnHolder self.old.events event }
@@ -18,9 +38,9 @@ impl Happen {
         ensures room { KeepsRoom self.old self.new }
     {
         if depth > 0 {
-            let members = self.members(event);
+            let given_back = self.members_given_back(event);
             self.release(event);
-            if !self.is_kept(event) {
+            if let Some(members) = given_back {
                 for member in members.as_slice() {
                     self.give_back(depth - 1, *member);
                 }

@@ -1,7 +1,6 @@
 -- Holders are given back one after the other.
-use Rattle.std.proofs.Common.{◌≡◌, ℕ, ◌+◌, ◌-◌, ◌<◌, ◌≤◌, Bool, true, false, List, [], length, take, drop, fold, refl, sym, ap, subst, ◌∙◌, arith, zero, suc, Option, Some, None, if◌then◌else◌}
-use Rattle.std.specs.Prelude.{slice_index_or, slice_set, is_some, not}
-use Rattle.std.proofs.lemmas.Bool.{false≢true}
+use Rattle.std.proofs.Common.{◌≡◌, ℕ, ◌+◌, ◌-◌, ◌<◌, ◌≤◌, false, List, [], length, take, drop, fold, refl, sym, ap, subst, ◌∙◌, arith, zero, suc, Option, None}
+use Rattle.std.specs.Prelude.{slice_index_or, slice_set}
 use Rattle.std.proofs.lemmas.List.{append-nil, take_more, drop_more, take_all}
 use Rattle.std.proofs.lemmas.List.Sums.{fold_push}
 use Rattle.sim_types.specs.declared.event.EventId.{EventId}
@@ -9,8 +8,6 @@ use Rattle.sim_events.specs.TableOf.{Kept, IsKept, kept_at, is_needed}
 use Rattle.sim_events.specs.Changes.{some_if_needed, without_holder}
 use Rattle.sim_happen_model.specs.HappenOf.{HappenOf, KeepsRoom}
 use Rattle.sim_happen_model.specs.Holders.{members_in, AreOwed, HasOwnHolder, unheld_within}
-use Rattle.sim_happen_law.proofs.KeptPlaces.{kept_made, set_same}
-use Rattle.sim_happen_law.proofs.PoppedEntries.{needed_stays}
 use Rattle.sim_happen_law.proofs.Shutting.{own_kept, own_owed, owed_own, owed_goes, owed_unheld, unneeded_is, by_need}
 
 pub room_then : (a b d : HappenOf) → KeepsRoom a b → KeepsRoom b d → KeepsRoom a d
@@ -27,29 +24,14 @@ pub record UnheldUpTo (depth : ℕ) (e : EventId) (ms : List EventId) (i : ℕ) 
   pub gone : is_needed (without_holder (kept_at old.events e)) ≡ false
   pub members : ms ≡ members_in (kept_at old.events e)
 
-kept_by : (b : Bool) (k : Kept) (o : Option Kept) → o ≡ (if b then Some k else None) → is_some o ≡ false → b ≡ false
-kept_by true k o h none = absurd (false≢true (sym none ∙ ap is_some h))
-kept_by false k o h none = refl
-
--- an event that is gone was not needed
-pub gone_unneeded : (old now : List (Option Kept)) (e : EventId) → IsKept old e → now ≡ slice_set old e.0 (some_if_needed (without_holder (kept_at old e)))
-    → is_some (slice_index_or now e.0 None) ≡ false → is_needed (without_holder (kept_at old e)) ≡ false
-gone_unneeded old now e kept is none =
-    let j : Kept = without_holder (kept_at old e) in
-    kept_by (is_needed j) j (slice_index_or now e.0 None) (ap (λ es. slice_index_or es e.0 None) is ∙ set_same old e (some_if_needed j) (kept_made old e kept)) none
-
-not_is : (b : Bool) → b ≡ false → (not b) ≡ true
-not_is b h = rw h refl
-
 none_needed : (j : Kept) → is_needed j ≡ false → some_if_needed j ≡ None
 none_needed j h = rw h refl
 
 pub unheld_start : (depth : ℕ) (e : EventId) (ms : List EventId) (old now : HappenOf) → HasOwnHolder old.events e → AreOwed [] old.events
     → now.events ≡ slice_set old.events e.0 (some_if_needed (without_holder (kept_at old.events e))) → now ≡ record old { events = now.events; spare = now.spare }
-    → is_some (slice_index_or now.events e.0 None) ≡ false → ms ≡ members_in (kept_at old.events e) → KeepsRoom old now → UnheldUpTo depth e ms 0 old now
-unheld_start depth e ms old now own owed is rest none members room =
+    → is_needed (without_holder (kept_at old.events e)) ≡ false → ms ≡ members_in (kept_at old.events e) → KeepsRoom old now → UnheldUpTo depth e ms 0 old now
+unheld_start depth e ms old now own owed is rest off members room =
     let kept : IsKept old.events e = own_kept old.events e own in
-    let off = gone_unneeded old.events now.events e kept is none in
     let gone : now.events ≡ slice_set old.events e.0 None = is ∙ ap (slice_set old.events e.0) (none_needed (without_holder (kept_at old.events e)) off) in
     record {
       events = gone;
@@ -89,23 +71,3 @@ unheld_end (suc depth) e ms i old now deep whole u =
     let P : ℕ → List EventId → Type 0 = λ n ns. now.events ≡ fold (λ es m. unheld_within n m es) (slice_set old.events e.0 None) ns in
     let all : P depth (members_in (kept_at old.events e)) = subst (P depth) (take_all i ms whole ∙ u.members) (subst (λ n. P n (take i ms)) (omega arith) u.events) in
     all ∙ sym (by_need old.events depth e false u.gone)
-
-by_kept : (depth : ℕ) (e : EventId) (old now : HappenOf) → HasOwnHolder old.events e
-    → now.events ≡ slice_set old.events e.0 (some_if_needed (without_holder (kept_at old.events e))) → is_some (slice_index_or now.events e.0 None) ≡ true
-    → (b : Bool) → is_needed (without_holder (kept_at old.events e)) ≡ b → now.events ≡ unheld_within (suc depth) e old.events
-by_kept depth e old now own is some true h =
-    let j : Kept = without_holder (kept_at old.events e) in
-    is ∙ (ap (slice_set old.events e.0) (needed_stays j h) ∙ sym (by_need old.events depth e true h))
-by_kept depth e old now own is some false h =
-    let j : Kept = without_holder (kept_at old.events e) in
-    let kept : IsKept old.events e = own_kept old.events e own in
-    let none : slice_index_or now.events e.0 None ≡ None =
-    ap (λ es. slice_index_or es e.0 None) is ∙ (set_same old.events e (some_if_needed j) (kept_made old.events e kept) ∙ none_needed j h) in
-    absurd (false≢true (sym (ap is_some none) ∙ some))
-
--- an event that stays
-pub unheld_stays : (depth : ℕ) (e : EventId) (old now : HappenOf) → 0 < depth → HasOwnHolder old.events e
-    → now.events ≡ slice_set old.events e.0 (some_if_needed (without_holder (kept_at old.events e))) → is_some (slice_index_or now.events e.0 None) ≡ true
-    → now.events ≡ unheld_within depth e old.events
-unheld_stays zero e old now deep own is some = absurd (omega (arith, deep))
-unheld_stays (suc depth) e old now deep own is some = by_kept depth e old now own is some (is_needed (without_holder (kept_at old.events e))) refl

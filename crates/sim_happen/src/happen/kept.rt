@@ -1,11 +1,11 @@
 //! What is asked of an event that is kept, and of what it has as a condition.
-ghost use Rattle.std.specs.Prelude.{◌≡◌, ◌+◌, ◌<◌, ◌≤◌, ◌^◌, [], length, Some, None, IsSome, is_some, not, ◌&&◌, slice_index_or, All, if◌then◌else◌};
+ghost use Rattle.std.specs.Prelude.{◌≡◌, ◌+◌, ◌<◌, ◌≤◌, ◌^◌, [], length, Some, None, IsSome, is_some, not, ◌&&◌, All, if◌then◌else◌};
 ghost use Rattle.std.specs.List.{list_any, sum_by};
 ghost use Rattle.sim_machine.specs.State.{Every, Either};
 ghost use Rattle.sim_machine.specs.Conditions as conditions;
 ghost use Rattle.sim_machine.specs.Events as events;
-ghost use Rattle.sim_events.specs.TableOf.{IsKept, kept_at, kept_condition};
-ghost use Rattle.sim_events.specs.Changes.{more_events, more_conditions};
+ghost use Rattle.sim_events.specs.TableOf.{IsKept, is_needed, kept_at, kept_condition};
+ghost use Rattle.sim_events.specs.Changes.{more_events, more_conditions, without_holder};
 ghost use Rattle.sim_happen_model.specs.HappenOf.{held, unheld_event};
 ghost use Rattle.sim_happen_model.specs.Holders.{AreOwed};
 ghost use Rattle.sim_happen_model.specs.Shows.{Turns, Follows};
@@ -46,11 +46,12 @@ impl Happen {
         event.0 + 1
     }
 
-    /// Whether an event is kept.
-    pub(crate) fn is_kept(&self, event: EventId) -> bool
-        ensures { result ≡ is_some (slice_index_or self.now.events event.0 None) }
+    /// Whether an event goes where it has one holder fewer.
+    pub(crate) fn goes_without_holder(&self, event: EventId) -> bool
+        requires kept { IsKept self.now.events event }
+        ensures { result ≡ not (is_needed (without_holder (kept_at self.now.events event))) }
     {
-        self.table.is_kept(event)
+        self.table.goes_without_holder(event)
     }
 
     /// Whether an event is a condition.

@@ -26,7 +26,7 @@ rewritten c =
     let x = c.index_mut-slot.result.now in
     let at = sym c.seek.ensures.place ∙ c.in-Some.is in
     let none = c.take-self-inside.ensures.empty in
-    rewrites_begun c.self.inside.index.places c.self.inside.store c.self.inside.left c.self.invariant c.args.event c.in-Some.key x at c.index_mut-slot.ensures.value (begun x c.take-self-inside.new.self) none (rw c.take-self-inside.ensures.taken at c.take-self-inside.ensures.passed_on) refl refl (ap (λ cs. kept_with (begun x c.take-self-inside.new.self) cs (condition_in c.self.inside.store.parts x)) (none.none c.self.inside.store.nodes))
+    rewrites_begun c.self.inside.index.places c.self.inside.store c.self.inside.left c.self.invariant c.args.event c.in-Some.key x at c.index_mut-slot.ensures.value (begun x c.take-self-inside.new.self) with_processed none (rw c.take-self-inside.ensures.taken at c.take-self-inside.ensures.passed_on) refl refl (ap (λ cs. kept_with (begun x c.take-self-inside.new.self) cs (condition_in c.self.inside.store.parts x)) (none.none c.self.inside.store.nodes))
 
 pub forget_unneeded-requires-clause-store : goal.forget_unneeded-requires-clause-store
 forget_unneeded-requires-clause-store c = record { left = c.index_mut-slot.result.now.callbacks; stored = (rewritten c).stored }

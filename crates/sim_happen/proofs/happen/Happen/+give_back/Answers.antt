@@ -1,10 +1,10 @@
-use Rattle.std.proofs.Common.{rules, arith, sym, ◌∙◌}
-use Rattle.sim_happen_law.proofs.Unholding.{unheld_start, unheld_owns, unheld_more, unheld_end, unheld_stays}
+use Rattle.std.proofs.Common.{arith, ◌∙◌}
+use Rattle.sim_happen_law.proofs.Unholding.{unheld_start, unheld_owns, unheld_more, unheld_end}
 use Rattle.sim_happen.proofs.happen.Happen.+give_back.Goals as goal
 
 pub loop-member-init : goal.loop-member-init
 loop-member-init t c =
-    unheld_start _ c.args.event _ c.args.self.now c.release.new.self c.requires.held c.members-members.ensures.held c.release.ensures.events c.release.ensures.rest (sym c.is_kept.ensures ∙ c.if-not-is_kept.true) (c.as_slice-member-items.ensures.values ∙ c.members-members.ensures.members) c.release.ensures.room
+    unheld_start _ c.args.event _ c.args.self.now c.release.new.self c.requires.held c.members_given_back-given_back.ensures.owed c.release.ensures.events c.release.ensures.rest c.in-Some.ensures.goes (c.as_slice-member-items.ensures.values ∙ c.in-Some.ensures.members) c.release.ensures.room
 
 pub give_back-requires : goal.give_back-requires
 give_back-requires t c =
@@ -17,7 +17,3 @@ loop-member-preserved t c =
 pub returns-after-loop-member-clause-events : goal.returns-after-loop-member-clause-events
 returns-after-loop-member-clause-events t c =
     unheld_end c.args.depth c.args.event _ _ c.args.self.now c.loop-member.self c.if-depth-gt0.true c.loop-member-test.false c.loop-member.invariant
-
-pub returns-else-not-is_kept-clause-events : goal.returns-else-not-is_kept-clause-events
-returns-else-not-is_kept-clause-events t c =
-    unheld_stays c.args.depth c.args.event c.args.self.now c.release.new.self c.if-depth-gt0.true c.requires.held c.release.ensures.events (sym c.is_kept.ensures ∙ search rules)
