@@ -1,4 +1,4 @@
-ghost use Rattle.std.specs.Prelude.{◌≡◌, ◌↔◌, ◌+◌, ◌<◌, ◌≤◌, ◌^◌, pos, ◌≤ℤ◌, ◌<ℤ◌, ◌+ℤ◌, [], ◌∷◌, length, Some, None, IsSome, IsFalse, IsTrue, is_some, not, IfOk, IsErr, IfNone, IfSome, OnOk, OnErr, MatchOption, if◌then◌else◌};
+ghost use Rattle.std.specs.Prelude.{◌≡◌, ◌↔◌, ◌+◌, ◌<◌, ◌≤◌, ◌^◌, pos, ◌≤ℤ◌, ◌<ℤ◌, ◌+ℤ◌, [], ◌∷◌, length, Some, None, IsSome, IsFalse, IsTrue, is_some, not, IfOk, IsOk, IsErr, IfNone, IfSome, OnOk, OnErr, MatchOption, if◌then◌else◌};
 ghost use Rattle.std.specs.List.{list_any};
 ghost use Rattle.sim_types.specs.declared.event.Entry.{Entry};
 ghost use Rattle.sim_machine.specs.Conditions as conditions;
@@ -110,13 +110,16 @@ impl Happen {
         ensures events { OnOk result (events ≤ self.new.spare.events) }
         ensures callbacks { OnOk result (callbacks ≤ self.new.spare.callbacks) }
         ensures conditions { OnOk result (events ≤ self.new.spare.conditions) }
+        ensures ready { events ≤ self.old.spare.events → events ≤ self.old.spare.conditions
+            → callbacks ≤ self.old.spare.callbacks → IsOk result }
         ensures never_less_events { self.old.spare.events ≤ self.new.spare.events }
         ensures never_less_callbacks { self.old.spare.callbacks ≤ self.new.spare.callbacks }
         ensures never_less_conditions { self.old.spare.conditions ≤ self.new.spare.conditions }
         ensures rest { self.new ≡ record self.old { spare = self.new.spare } }
     {
-        let kept = self.table.slots() as usize;
-        self.agenda.reserve(kept + events as usize)?;
+        // An event that is scheduled has its place already.
+        let unscheduled = (self.table.slots() - self.agenda.len()) as usize;
+        self.agenda.reserve(unscheduled + events as usize)?;
         self.table.reserve(events, callbacks)?;
         self.table.reserve_conditions(events)
     }

@@ -1,5 +1,5 @@
 -- The room that there is.
-use Rattle.std.proofs.Common.{◌≡◌, ℕ, ◌+◌, ◌≤◌, List, [], ◌∷◌, length, refl, sym, subst, ap, ◌∙◌, arith, Option}
+use Rattle.std.proofs.Common.{◌≡◌, ℕ, ◌+◌, ◌≤◌, Bool, true, false, List, [], ◌∷◌, length, refl, sym, subst, ap, ◌∙◌, arith, Option, Some, None}
 use Rattle.std.specs.Prelude.{min}
 use Rattle.std.specs.List.{sum_by}
 use Rattle.std.specs.List.Sorted.{IsPermutation}
@@ -12,7 +12,8 @@ use Rattle.sim_happen_law.proofs.KeptPlaces.{sum_set}
 use Rattle.std.specs.Prelude.{is_some, slice_set}
 use Rattle.std.proofs.lemmas.List.Sums.{sum_by-cons}
 use Rattle.sim_machine_law.proofs.CallbackLaws.{count_by-cons}
-use Rattle.sim_happen_model.specs.Sound.{kept_one, places_for, spare_in}
+use Rattle.sim_machine.specs.Standing.{one_if}
+use Rattle.sim_happen_model.specs.Sound.{awaits, awaiting_one, kept_one, places_for, spare_in}
 
 -- as many places of the agenda, as many events that are kept, and as much room in the table
 pub spare_same : (a b : AgendaOf) (t u : TableOf) → u.spare ≡ t.spare → sum_by kept_one u.events ≡ sum_by kept_one t.events
@@ -46,3 +47,16 @@ pub kept_fewer : (es fs : List (Option Kept)) (e : EventId) (o : Option Kept) �
     → kept_one o ≤ 1 → kept_count fs ≤ kept_count es
 kept_fewer es fs e o kept is one =
     subst (λ gs. kept_count gs ≤ kept_count es) (sym is) (omega (arith, kept_sum es, kept_sum (slice_set es e.0 o), sum_set kept_one es e o kept, one))
+
+-- what is scheduled is kept
+one_at_most : (b : Bool) → one_if b ≤ 1
+one_at_most true = omega arith
+one_at_most false = omega arith
+
+scheduled_one : (o : Option Kept) → awaiting_one o ≤ kept_one o
+scheduled_one None = omega arith
+scheduled_one (Some k) = one_at_most (awaits k)
+
+pub scheduled_sum : (es : List (Option Kept)) → sum_by awaiting_one es ≤ kept_count es
+scheduled_sum [] = omega arith
+scheduled_sum (k ∷ es) = omega (arith, scheduled_sum es, scheduled_one k, count_by-cons is_some k es, sum_by-cons awaiting_one k es)
