@@ -69,6 +69,13 @@ impl Agenda {
         self.entries.len() as u64
     }
 
+    /// For how many more entries there is room.
+    pub fn spare(&self) -> usize
+        ensures { result ≡ self.now.spare }
+    {
+        self.entries.capacity() - self.entries.len()
+    }
+
     /// Whether nothing is scheduled.
     pub fn is_empty(&self) -> bool
         ensures { IsTrue result ↔ (self.now.entries ≡ []) }

@@ -50,6 +50,13 @@ impl Nodes {
         self.slab.reserve(more as usize)
     }
 
+    /// For how many more callbacks there is room.
+    pub fn spare(&self) -> usize
+        ensures { result ≡ spare_in self.now }
+    {
+        self.slab.capacity() - self.slab.len()
+    }
+
     /// Appends a callback to a chain.
     pub fn append(&mut self, chain: &mut Chain, callback: Callback)
         requires spare { 0 < spare_in self.old }

@@ -1,4 +1,4 @@
-ghost use Rattle.std.specs.Prelude.{◌≡◌, ◌↔◌, ◌+◌, ◌<◌, ◌≤◌, ◌^◌, [], ◌∷◌, ◌++◌, length, Some, None, IsSome, IsFalse, is_some, not, IsOk, IfOk, IfNone, OnOk, OnErr, MatchOption, slice_index_or};
+ghost use Rattle.std.specs.Prelude.{◌≡◌, ◌↔◌, ◌+◌, ◌<◌, ◌≤◌, ◌^◌, [], ◌∷◌, ◌++◌, length, Some, None, IsSome, IsFalse, IsTrue, is_some, not, IsOk, IfOk, IfNone, OnOk, OnErr, MatchOption, slice_index_or};
 ghost use Rattle.std.specs.List.{list_any};
 ghost use Rattle.sim_machine.specs.Events.{pending_event, without_first};
 ghost use Rattle.sim_machine.specs.Standing.{one_if};
@@ -143,6 +143,18 @@ impl Table {
         self.index.reserve(events)?;
         self.store.slots.reserve(events as usize)?;
         self.store.nodes.reserve(callbacks)
+    }
+
+    /// Whether there is room for so many more events and callbacks.
+    pub fn has_room(&self, events: u32, callbacks: u32) -> bool
+        ensures { IsTrue result ↔ ((events ≤ self.now.spare.events)
+            × (callbacks ≤ self.now.spare.callbacks)) }
+    {
+        let slots = &self.store.slots;
+        let events = events as usize;
+        events <= self.index.spare()
+            && events <= slots.capacity() - slots.len()
+            && callbacks as usize <= self.store.nodes.spare()
     }
 
     /// How many events are kept: those that are neither processed nor cancelled, and those that have a holder.

@@ -10,7 +10,7 @@ ghost use Rattle.sim_machine.specs.Steps.{outcome_or_zero};
 ghost use Rattle.std.specs.List.Sorted.{IsPermutation};
 ghost use Rattle.sim_agenda.specs.Agendas.{PopsFirst};
 ghost use Rattle.sim_chains.specs.Callbacks.{is_same_callback};
-ghost use Rattle.sim_events.specs.TableOf.{IsKept, kept_at};
+ghost use Rattle.sim_events.specs.TableOf.{IsKept, kept_at, kept_count};
 ghost use Rattle.sim_events.specs.Changes.{more_events, more_callbacks, change_kept, change_or_forget, with_processed, with_holder, without_holder};
 ghost use Rattle.sim_happen_model.specs.HappenOf.{IsOpen, AreHeldByFew, held, unheld_event, one_more, gone_if_unheld, KeepsRoom};
 ghost use Rattle.sim_happen_model.specs.Holders.{HasOwnHolder, SameMemberships};
@@ -104,6 +104,26 @@ impl Happen {
         })
     }
 
+    // How many of the events that are kept are yet to be scheduled. Those that are have their places in the agenda.
+    fn unscheduled(&self) -> usize
+        ensures count { result + length self.now.agenda ≡ kept_count self.now.events }
+        ensures few { result ≤ 2 ^ 62 }
+    {
+        (self.table.slots() - self.agenda.len()) as usize
+    }
+
+    /// Whether there is room for so many more events, all of which may be conditions, with their places in the agenda, and
+    /// for so many more callbacks. Where there is, `reserve` is sure to succeed.
+    pub fn has_room(&self, events: u32, callbacks: u32) -> bool
+        ensures { IsTrue result ↔ ((events ≤ self.now.spare.events)
+            × (callbacks ≤ self.now.spare.callbacks)
+            × (events ≤ self.now.spare.conditions)) }
+    {
+        self.unscheduled() + events as usize <= self.agenda.spare()
+            && self.table.has_room(events, callbacks)
+            && self.table.has_room_for_conditions(events)
+    }
+
     /// Makes room for so many more events, all of which may be conditions, with their places in the agenda, and for so many
     /// more callbacks.
     pub fn reserve(&mut self, events: u32, callbacks: u32) -> Result<(), AllocError>
@@ -117,8 +137,7 @@ impl Happen {
         ensures never_less_conditions { self.old.spare.conditions ≤ self.new.spare.conditions }
         ensures rest { self.new ≡ record self.old { spare = self.new.spare } }
     {
-        // An event that is scheduled has its place already.
-        let unscheduled = (self.table.slots() - self.agenda.len()) as usize;
+        let unscheduled = self.unscheduled();
         self.agenda.reserve(unscheduled + events as usize)?;
         self.table.reserve(events, callbacks)?;
         self.table.reserve_conditions(events)
@@ -129,6 +148,13 @@ impl Happen {
         ensures { result ≡ self.now.time }
     {
         self.time
+    }
+
+    /// Whether nothing is scheduled.
+    pub fn is_empty(&self) -> bool
+        ensures { IsTrue result ↔ (self.now.agenda ≡ []) }
+    {
+        self.agenda.is_empty()
     }
 
     /// The table, for reading.

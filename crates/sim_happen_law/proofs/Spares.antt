@@ -60,3 +60,20 @@ scheduled_one (Some k) = one_at_most (awaits k)
 pub scheduled_sum : (es : List (Option Kept)) → sum_by awaiting_one es ≤ kept_count es
 scheduled_sum [] = omega arith
 scheduled_sum (k ∷ es) = omega (arith, scheduled_sum es, scheduled_one k, count_by-cons is_some k es, sum_by-cons awaiting_one k es)
+
+-- no more are kept than were made
+pub kept_few : (es : List (Option Kept)) → kept_count es ≤ length es
+kept_few [] = omega arith
+kept_few (k ∷ es) = omega (arith, kept_few es, one_at_most (is_some k), count_by-cons is_some k es)
+
+-- room for n more events, where u of those that are kept are not scheduled
+module _ (a : AgendaOf) (t : TableOf) (u n : ℕ) where
+  pub spare_is : u + length a.entries ≡ kept_count t.events → u + n ≤ a.spare → n ≤ t.spare.events → n ≤ (spare_in a t).events
+  spare_is unscheduled places events = omega (arith, unscheduled, places, events, kept_sum t.events)
+
+  pub places_are : u + length a.entries ≡ kept_count t.events → sum_by kept_one t.events ≤ length a.entries + a.spare
+      → n ≤ (spare_in a t).events → u + n ≤ a.spare
+  places_are unscheduled fit events = omega (arith, unscheduled, fit, events, kept_sum t.events)
+
+pub events_are : (a : AgendaOf) (t : TableOf) (n : ℕ) → n ≤ (spare_in a t).events → n ≤ t.spare.events
+events_are a t n events = omega (arith, events)

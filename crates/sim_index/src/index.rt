@@ -65,6 +65,13 @@ impl Index {
         self.live
     }
 
+    /// For how many more numbers there is room.
+    pub fn spare(&self) -> usize
+        ensures { result ≡ self.now.spare }
+    {
+        self.entries.capacity() / ENTRIES_PER_NUMBER - self.live
+    }
+
     /// The least number that may still be given by `insert`.
     pub fn next(&self) -> u64
         ensures { result ≡ length self.now.places }

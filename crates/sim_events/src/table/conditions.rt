@@ -1,5 +1,5 @@
 //! What an event has as a condition.
-ghost use Rattle.std.specs.Prelude.{◌≡◌, ◌+◌, ◌<◌, ◌≤◌, ◌^◌, [], ◌∷◌, ◌++◌, length, Some, IsSome, is_some, IsOk, OnOk, if◌then◌else◌};
+ghost use Rattle.std.specs.Prelude.{◌≡◌, ◌↔◌, ◌+◌, ◌<◌, ◌≤◌, ◌^◌, [], ◌∷◌, ◌++◌, length, Some, IsSome, IsTrue, is_some, IsOk, OnOk, if◌then◌else◌};
 ghost use Rattle.std.specs.List.{list_any};
 ghost use Rattle.sim_machine.specs.State.{Every, Either};
 ghost use Rattle.sim_machine.specs.Events.{is_same};
@@ -24,6 +24,14 @@ impl Table {
         ensures rest { self.new ≡ record self.old { spare = self.new.spare } }
     {
         self.store.parts.reserve(more as usize)
+    }
+
+    /// Whether there is room for so many more of those events that are conditions.
+    pub fn has_room_for_conditions(&self, more: u32) -> bool
+        ensures { IsTrue result ↔ more ≤ self.now.spare.conditions }
+    {
+        let parts = &self.store.parts;
+        more as usize <= parts.capacity() - parts.len()
     }
 
     // A condition more, that waits for all of its members or for one.

@@ -27,7 +27,7 @@ impl Happen {
     }
 
     /// Whether an event has an outcome that is a failure.
-    pub(crate) fn is_failed(&self, event: EventId) -> bool
+    pub fn is_failed(&self, event: EventId) -> bool
         requires kept { IsKept self.now.events event }
         ensures { result ≡ events.is_fail (kept_at self.now.events event).event.outcome }
     {
