@@ -66,6 +66,10 @@ impl Happen {
         ensures events { self.new.spare.events ≡ self.old.spare.events }
         ensures callbacks { self.old.spare.callbacks ≤ self.new.spare.callbacks + 1 }
         ensures conditions { self.new.spare.conditions ≡ self.old.spare.conditions }
+        ensures one_callback { IsFalse (kept_at self.old.events event).event.processed
+            → more_callbacks 1 self.new.spare ≡ self.old.spare }
+        ensures no_callback { IsTrue (kept_at self.old.events event).event.processed
+            → self.new.spare ≡ self.old.spare }
     {
         if !self.is_processed(event) {
             self.append_trigger(event, other);
