@@ -15,12 +15,12 @@ use Rattle.sim_machine.specs.State.{State, Plan}
 use Rattle.sim_machine.specs.Effect.{calendar}
 use Rattle.sim_machine.specs.Runs.{start_process}
 use Rattle.sim_machine_law.proofs.LineLaws.{unit_adds}
-use Rattle.sim_kernel.specs.PartsOf.{PartsOf}
-use Rattle.sim_kernel.specs.Resting.{rest_of}
-use Rattle.sim_kernel.specs.StandsFor.{lines_of}
-use Rattle.sim_kernel.specs.declared.mode.Rest.{Rest}
-use Rattle.sim_kernel.specs.declared.mode.Unit.{Unit}
-use Rattle.sim_kernel.specs.declared.mode.Unit.TheVariants as unit
+use Rattle.sim_steps.specs.PartsOf.{PartsOf}
+use Rattle.sim_steps.specs.Resting.{rest_of}
+use Rattle.sim_steps.specs.StandsFor.{lines_of}
+use Rattle.sim_steps.specs.declared.mode.Rest.{Rest}
+use Rattle.sim_steps.specs.declared.mode.Unit.{Unit}
+use Rattle.sim_steps.specs.declared.mode.Unit.TheVariants as unit
 use Rattle.sim_script_model.specs.Scripts.{Script}
 use Rattle.sim_script_model.specs.Polls.{script_turn}
 use Rattle.sim_engine.specs.declared.fault.EngineFault.{EngineFault}
@@ -108,11 +108,11 @@ none_added scenario n answer h is = rw h (rw is refl)
 
 -- the line on the end, as the kernel tells it
 abbrev pub finish_of : PartsOf Script ScenarioOf → Line
-finish_of parts = line.Finish (stopped_at (rest_of parts.control parts.calendar.agenda)) parts.calendar.time parts.processed
+finish_of parts = line.Finish (stopped_at (rest_of parts.control parts.happen.agenda)) parts.happen.time parts.processed
 
 pub finish_is : (parts : PartsOf Script ScenarioOf) (rest : Rest) (end : End) (finish : Line)
-    → rest ≡ rest_of parts.control parts.calendar.agenda → end ≡ stopped_at rest
-    → finish ≡ line.Finish end parts.calendar.time parts.processed → finish ≡ finish_of parts
+    → rest ≡ rest_of parts.control parts.happen.agenda → end ≡ stopped_at rest
+    → finish ≡ line.Finish end parts.happen.time parts.processed → finish ≡ finish_of parts
 finish_is parts rest end finish stands ended is = is ∙ rw (ended, stands) refl
 
 -- the text of the whole trace

@@ -1,7 +1,7 @@
 //! Runs a scenario and writes its trace.
 ghost use Rattle.std.specs.Prelude.{◌≡◌, ◌+◌, ◌<◌, ◌^◌, [], true, IfOk, OnOk, OnErr};
 ghost use Rattle.sim_outside.specs.Writes.{IsUnflushed, IsFlushedOnce, Writes};
-ghost use Rattle.sim_kernel.specs.Resting.{CanStep, can_step};
+ghost use Rattle.sim_steps.specs.Resting.{CanStep, can_step};
 ghost use Rattle.sim_trace.specs.Texts.{line_text, trace_text};
 ghost use Rattle.sim_engine.specs.EngineFaults.{is_write};
 ghost use Rattle.sim_engine.specs.RunOfScenario.{end_of_scenario, trace_of_scenario, printed_trace};
@@ -123,7 +123,7 @@ fn write_line<K: Sink>(line: &Line, buffer: &mut LineBuf, out: &mut K) -> Result
 /// The line on the end of a run that ended so.
 fn finish_line(end: End, kernel: &Kernel<Script>) -> Line
     ensures { result
-        ≡ Line.Finish end kernel.now.parts.calendar.time kernel.now.parts.processed }
+        ≡ Line.Finish end kernel.now.parts.happen.time kernel.now.parts.processed }
 {
     Line::Finish {
         end,

@@ -29,7 +29,9 @@ use std::marker::Model;
 /// are whole numbers, and their unit is the model's own.
 ///
 /// What contracts say of a call is what the machine does to each calendar that was shown before it. A calendar is shown
-/// where it says of the events that are kept just what is kept of them.
+/// where it says of the events that are kept just what is kept of them. Some calendar always is (`shows_seen` of
+/// `sim_happen_law`), and all that are shown agree on the time, the entries and what is kept (`seen_alike`), so a clause
+/// `follows` or `made` says exactly what is kept after the call.
 #[derive(Drop)]
 pub struct Happen {
     time: i64,

@@ -1,39 +1,55 @@
 -- What holds of every kernel holds of one that was opened.
-use Rattle.std.proofs.Common.{◌≡◌, ◌+◌, ◌*◌, length, ap, ◌∙◌, arith}
-use Rattle.sim_types.specs.declared.setup.Until.{Until}
+use Rattle.std.proofs.Common.{◌≡◌, ◌≤◌, List, [], ◌∷◌, length, refl, ap, arith}
+use Rattle.std.specs.Prelude.{fold}
+use Rattle.sim_types.specs.declared.setup.Start.{Start}
+use Rattle.sim_machine.specs.State.{Plan, State}
 use Rattle.sim_machine.specs.Bodies.{BodyOf}
-use Rattle.sim_machine.specs.Runs.{opening}
+use Rattle.sim_machine.specs.Runs.{blank_state, start_process, opening}
 use Rattle.sim_machine.specs.Setups.{FitsCode}
+use Rattle.sim_machine.specs.Standing.{left_of}
+use Rattle.sim_machine_law.proofs.OpeningLaws.{starts_open}
 use Rattle.sim_machine_law.proofs.WholeSteps.{lawful_opening}
-use Rattle.sim_kernel.specs.Built.{HasBuiltCallbacks}
-use Rattle.sim_kernel.specs.PartsOf.{PartsOf, plan_of}
-use Rattle.sim_kernel.specs.StandsFor.{StandsFor, LawfulOf}
-use Rattle.sim_kernel.specs.Holding.{Holds}
-use Rattle.sim_kernel.proofs.Running.{KeepsLaw}
-use Rattle.sim_kernel.proofs.Stopping.{StopsBy, stop_built, stop_bounded}
+use Rattle.sim_happen_model.specs.HappenOf.{held}
+use Rattle.sim_steps.specs.PartsOf.{PartsOf, plan_of}
+use Rattle.sim_steps.specs.StandsFor.{StandsFor, LawfulOf}
+use Rattle.sim_steps.specs.Becoming.{AreAllKept}
+use Rattle.sim_kernel.specs.Holding.{Holds, most_opened}
+use Rattle.sim_steps.proofs.Running.{KeepsLaw}
+use Rattle.sim_kernel.proofs.StartingAll.{with_starts, events_of_starts}
+use Rattle.sim_kernel.proofs.Stopping.{opening_built, stop_events}
 
 -- the opening state is lawful
 pub opens_lawfully : {B Code : Type 0} (body : BodyOf B Code) (parts : PartsOf B Code) → KeepsLaw body parts.code →
     FitsCode (body.facts parts.code) parts.setup → LawfulOf body parts (opening (plan_of body parts))
 opens_lawfully body parts law fits = lawful_opening (plan_of body parts) (body.tell parts.code) (body.sound parts.code) (body.turn parts.code) (body.facts parts.code) fits law
 
--- all that run from the start were made, and no more
-pub record HasStarted {B Code : Type 0} (first old : PartsOf B Code) : Type 0 where
-  pub kept : old ≡ record first { calendar = old.calendar; live = old.live; room = old.room }
-  pub built : HasBuiltCallbacks old
-  pub events : length old.calendar.events ≡ first.setup.events + 1 + 2 * length first.setup.starts
+-- nothing is being done yet
+opening_idle : {B : Type 0} (g : Plan B) → left_of (opening g).control ≡ []
+opening_idle g = ap left_of (starts_open g).idle
 
-pub opening_holds : {B Code : Type 0} (body : BodyOf B Code) (first old new : PartsOf B Code) (x : Until) → ((code : Code) → KeepsLaw body code) →
-    FitsCode (body.facts first.code) first.setup → first.processed ≡ 0 → HasStarted first old → StopsBy x old new →
-    StandsFor new (opening (plan_of body new)) → Holds body 0 new
-opening_holds {B} {Code} body first old new x law fits none started stops st =
-    let code : new.code ≡ first.code = ap (λ (p : PartsOf B Code). p.code) stops.kept ∙ ap (λ (p : PartsOf B Code). p.code) started.kept in
-    let setup : new.setup ≡ first.setup = ap (λ (p : PartsOf B Code). p.setup) stops.kept ∙ ap (λ (p : PartsOf B Code). p.setup) started.kept in
-    let processed : old.processed ≡ 0 = ap (λ (p : PartsOf B Code). p.processed) started.kept ∙ none in
-    let here : FitsCode (body.facts new.code) new.setup = rw (code, setup) fits in
+-- and nothing was processed
+processed_from : {B : Type 0} (g : Plan B) (s : State B) (xs : List Start) → (fold (start_process g) s xs).processed ≡ s.processed
+processed_from g s [] = refl
+processed_from g s (x ∷ xs) = processed_from g (start_process g s x) xs
+
+opening_events : {B Code : Type 0} (body : BodyOf B Code) (parts : PartsOf B Code) → FitsCode (body.facts parts.code) parts.setup →
+    length (opening (plan_of body parts)).facilities.calendar.events ≤ most_opened
+opening_events {B} body parts fits =
+    let g : Plan B = plan_of body parts in
+    let s : State B = with_starts g g.setup.starts in
+    omega (arith, stop_events g.setup.until s.facilities.calendar, events_of_starts g g.setup.starts, fits.few_events, fits.few_starts)
+
+pub opening_holds : {B Code : Type 0} (body : BodyOf B Code) (new : PartsOf B Code) → KeepsLaw body new.code → FitsCode (body.facts new.code) new.setup →
+    StandsFor new (opening (plan_of body new)) → AreAllKept 1 (held new.happen) → Holds body 0 new
+opening_holds {B} body new law fits st kept =
+    let g : Plan B = plan_of body new in
+    let few = opening_events body new fits in
     record {
-      fits = here;
-      stands = record { state = opening (plan_of body new); lawful = opens_lawfully body new (law new.code) here; stands = st };
-      built = stop_built x old new stops started.built;
-      bounded = stop_bounded x old new stops (omega (arith, started.events, fits.few_events, fits.few_starts)) processed;
+      fits = fits;
+      state = opening g;
+      lawful = opens_lawfully body new law fits;
+      stands = st;
+      built = opening_built g (opening_idle g);
+      bounded = record { events = omega (arith, few, st.calendar.made); processed = omega (arith, st.processed, processed_from g (blank_state g) g.setup.starts) };
+      kept = kept;
     }

@@ -1,93 +1,127 @@
 -- What the code sets to stop a run is what the machine sets.
-use Rattle.std.proofs.Common.{Some, ◌≡◌, ◌+◌, ◌<◌, ◌≤◌, pos, true, List, [], ◌∷◌, ◌++◌, length, refl, sym, ap, subst, ◌∙◌, arith}
-use Rattle.std.specs.Prelude.{All, fold}
+use Rattle.std.proofs.Common.{Some, ◌≡◌, ◌+◌, ◌<◌, ◌≤◌, ◌^◌, pos, ℤ, ◌≤ℤ◌, Bool, true, false, not, ◌&&◌, List, [], ◌∷◌, ◌++◌, length, refl, sym, ap, subst, ◌∙◌, arith}
+use Rattle.std.specs.Prelude.{All, fold, int_le, IsTrue}
+use Rattle.std.specs.List.{AllPass}
+use Rattle.std.proofs.lemmas.Bool.{and_parts, false≢true}
+use Rattle.std.proofs.lemmas.Int.{ints}
 use Rattle.std.proofs.lemmas.List.Elements.{All-cons, All-nil, All-append}
-use Rattle.sim_types.specs.declared.event.EventId.{EventId}
 use Rattle.sim_types.specs.declared.event.EventKind.TheVariants as kind
 use Rattle.sim_types.specs.declared.event.Outcome.TheVariants as outcome
-use Rattle.sim_types.specs.declared.event.Callback.TheVariants as callback
+use Rattle.sim_types.specs.declared.setup.Start.{Start}
 use Rattle.sim_types.specs.declared.setup.Until.{Until}
 use Rattle.sim_types.specs.declared.setup.Until.TheVariants as until
-use Rattle.sim_machine.specs.State.{Calendar, Registration, State, Plan}
+use Rattle.sim_machine.specs.State.{EventOf, Calendar, Registration, State, Plan}
 use Rattle.sim_machine.specs.Bodies.{BodyOf}
-use Rattle.sim_machine.specs.Events.{next_event}
+use Rattle.sim_machine.specs.Events.{next_event, is_pending, is_processed}
 use Rattle.sim_machine.specs.Triggering.{make}
 use Rattle.sim_machine.specs.Scopes.{on_events}
+use Rattle.sim_machine.specs.Setups.{FitsCode, until_fits}
+use Rattle.sim_machine.specs.Tellings.{CodeFacts}
+use Rattle.sim_machine.specs.Standing.{left_of}
 use Rattle.sim_machine.specs.Runs.{blank_state, start_process, set_stop, opening}
 use Rattle.sim_machine_law.proofs.EventLaws.{change_event-length, make-length}
-use Rattle.sim_calendar.specs.Same.{SameCalendar}
-use Rattle.sim_calendar.proofs.SameCalendars.{same_trans, same_stop}
-use Rattle.sim_kernel.specs.Built.{HasBuiltCallbacks, IsBounded, is_built_callback, most_opened}
-use Rattle.sim_kernel.specs.PartsOf.{PartsOf, plan_of}
-use Rattle.sim_kernel.specs.StandsFor.{StandsFor}
+use Rattle.sim_machine_law.proofs.KeptRegistrations.{named_within}
+use Rattle.sim_machine_law.proofs.OpeningLaws.{Opens, starts_open}
+use Rattle.sim_happen_model.specs.HappenOf.{HappenOf, held}
+use Rattle.sim_happen_model.specs.Shows.{Shows}
+use Rattle.sim_happen_law.proofs.Following.{read_is}
+use Rattle.sim_steps.specs.Becoming.{AreAllKept}
+use Rattle.sim_steps.specs.Built.{is_built_callback}
+use Rattle.sim_kernel.specs.Holding.{HasBuiltCallbacks}
+use Rattle.sim_steps.specs.Opening.{CanStop, SetsStop}
+use Rattle.sim_steps.specs.PartsOf.{PartsOf, plan_of}
+use Rattle.sim_steps.specs.StandsFor.{StandsFor}
+use Rattle.sim_steps.proofs.Keeping.{made_is_kept}
+use Rattle.sim_steps.proofs.Becoming.{stands_on_events}
+use Rattle.sim_kernel.proofs.StartingAll.{with_starts}
 
--- what is to stop the run is set in a calendar, and all else stays
+-- ---- a run can be stopped as its setup says
+
+not_processed : (p q : Bool) → (p && not q) ≡ true → q ≡ false
+not_processed p false h = refl
+not_processed true true h = absurd (false≢true h)
+not_processed false true h = absurd (false≢true h)
+
+within : (low high time : ℤ) → pos 0 ≤ℤ low → (int_le low time && int_le time high) ≡ true → (pos 0 ≤ℤ time) × (time ≤ℤ high)
+within low high time h k =
+    let both = and_parts (int_le low time) (int_le time high) k in
+    (from_low low time h both.0, to_high time high both.1)
+  where
+    from_low : (low time : ℤ) → pos 0 ≤ℤ low → int_le low time ≡ true → pos 0 ≤ℤ time
+    from_low low time h k = grind (arith, ints)
+
+    to_high : (time high : ℤ) → int_le time high ≡ true → time ≤ℤ high
+    to_high time high k = grind (arith, ints)
+
+can_stop : {B : Type 0} (g : Plan B) (s : State B) (h : HappenOf) (x : Until) → IsTrue (until_fits g.setup.events x) → Opens g s →
+    AreAllKept 1 (held h) → Shows h s.facilities.calendar → CanStop x h
+can_stop g s h until.Never fits o kept shown = tt
+can_stop g s h (until.At time) fits o kept shown = within (pos 1) (pos (2 ^ 62)) time (omega arith) fits
+can_stop g s h (until.Event e) fits o kept shown =
+    let c : Calendar = s.facilities.calendar in
+    let all_named = o.named_made in
+    let made : e.0 < length h.events = omega (arith, shown.made, named_within e.0 g.setup.events fits, all_named) in
+    let here = made_is_kept 1 h e kept made in
+    (here, ap (λ (y : EventOf). y.processed) (read_is h c e here shown) ∙ not_processed (is_pending c e) (is_processed c e) (o.named e fits))
+
+-- once all that run from the start are started
+pub started_can_stop : {B Code : Type 0} (body : BodyOf B Code) (first old : PartsOf B Code) (f : CodeFacts) → FitsCode f first.setup →
+    StandsFor old (with_starts (plan_of body first) first.setup.starts) → AreAllKept 1 (held old.happen) → CanStop first.setup.until old.happen
+started_can_stop body first old f fits st kept =
+    let until = subst (λ n. IsTrue (until_fits n first.setup.until)) (sym fits.events) fits.until in
+    can_stop (plan_of body first) (with_starts (plan_of body first) first.setup.starts) old.happen first.setup.until until (starts_open (plan_of body first)) kept st.calendar
+
+-- ---- what becomes of the state
+
+-- what is to stop the run is set, and all else stays
 pub record StopsBy {B Code : Type 0} (x : Until) (old new : PartsOf B Code) : Type 0 where
-  pub kept : new ≡ record old { calendar = new.calendar; room = new.room }
-  pub calendar : SameCalendar new.calendar (set_stop x old.calendar)
+  pub kept : new ≡ record old { happen = new.happen }
+  pub sets : SetsStop x old.happen new.happen
 
 pub stop_stands : {B Code : Type 0} (x : Until) (old new : PartsOf B Code) (s : State B) → StopsBy x old new → StandsFor old s →
     StandsFor new (on_events (set_stop x) s)
-stop_stands {B} {Code} x old new s h st =
-    record {
-      calendar = same_trans new.calendar (set_stop x old.calendar) (set_stop x s.facilities.calendar) h.calendar (same_stop x old.calendar s.facilities.calendar st.calendar);
-      processed = ap (λ (n : PartsOf B Code). n.processed) h.kept ∙ st.processed;
-      generator = rw h.kept st.generator;
-      processes = rw h.kept st.processes;
-      scopes = rw h.kept st.scopes;
-      control = ap (λ (n : PartsOf B Code). n.control) h.kept ∙ st.control;
-      waiters = st.waiters;
-      ledger = st.ledger;
-    }
-
-abbrev IsBuilt : Registration → Type 0
-IsBuilt r = is_built_callback r.callback ≡ true
-
-with_stop : (e : EventId) (rs : List Registration) → All IsBuilt rs → All IsBuilt (rs ++ record { event = e; callback = callback.Stop } ∷ [])
-with_stop e rs h =
-    let r : Registration = record { event = e; callback = callback.Stop } in
-    All-append IsBuilt rs (r ∷ []) h (All-cons IsBuilt r [] refl (All-nil IsBuilt))
-
-stop_registered : (x : Until) (c : Calendar) → All IsBuilt c.registered → All IsBuilt (set_stop x c).registered
-stop_registered until.Never c h = h
-stop_registered (until.At time) c h = with_stop (next_event c) c.registered h
-stop_registered (until.Event e) c h = with_stop e c.registered h
-
-pub stop_built : {B Code : Type 0} (x : Until) (old new : PartsOf B Code) → StopsBy x old new → HasBuiltCallbacks old → HasBuiltCallbacks new
-stop_built x old new h built =
-    record {
-      registered = rw h.calendar.registered (stop_registered x old.calendar built.registered);
-      left = rw h.kept built.left;
-    }
+stop_stands x old new s h st = subst (λ n. StandsFor n (on_events (set_stop x) s)) (sym h.kept) (stands_on_events (set_stop x) old new.happen s h.sets.each st)
 
 -- once all that run from the start are started, the kernel stands for the opening state
 pub opened_stands : {B Code : Type 0} (body : BodyOf B Code) (first old new : PartsOf B Code) (x : Until) → x ≡ first.setup.until →
-    old ≡ record first { calendar = old.calendar; live = old.live; room = old.room } → StopsBy x old new →
-    StandsFor old (fold (start_process (plan_of body first)) (blank_state (plan_of body first)) first.setup.starts) →
-    StandsFor new (opening (plan_of body new))
+    old ≡ record first { happen = old.happen; live = old.live; spare = old.spare } → StopsBy x old new →
+    StandsFor old (with_starts (plan_of body first) first.setup.starts) → StandsFor new (opening (plan_of body new))
 opened_stands {B} {Code} body first old new x is kept stops st =
     let g : Plan B = plan_of body first in
-    let s : State B = fold (start_process g) (blank_state g) g.setup.starts in
+    let s : State B = with_starts g g.setup.starts in
     let plan : PartsOf B Code → Plan B = λ parts. plan_of body parts in
     let same : plan new ≡ g = ap plan stops.kept ∙ ap plan kept in
     let P : Until → Type 0 = λ y. StandsFor new (on_events (set_stop y) s) in
     let Q : Plan B → Type 0 = λ h. StandsFor new (opening h) in
     subst Q (sym same) (subst P is (stop_stands x old new s stops st))
 
--- ---- numbers
+-- ---- only callbacks that are built are registered at the opening
 
-stop_events : (x : Until) (c : Calendar) → length (set_stop x c).events ≤ length c.events + 1
+abbrev IsBuilt : Registration → Type 0
+IsBuilt r = is_built_callback r.callback ≡ true
+
+one_more : (r : Registration) (rs : List Registration) → IsBuilt r → All IsBuilt rs → All IsBuilt (rs ++ r ∷ [])
+one_more r rs here h = All-append IsBuilt rs (r ∷ []) h (All-cons IsBuilt r [] here (All-nil IsBuilt))
+
+starts_built : {B : Type 0} (g : Plan B) (s : State B) (xs : List Start) → All IsBuilt s.facilities.calendar.registered →
+    All IsBuilt (fold (start_process g) s xs).facilities.calendar.registered
+starts_built g s [] h = h
+starts_built g s (x ∷ xs) h = starts_built g (start_process g s x) xs (one_more _ s.facilities.calendar.registered refl h)
+
+stop_built : (x : Until) (c : Calendar) → All IsBuilt c.registered → All IsBuilt (set_stop x c).registered
+stop_built until.Never c h = h
+stop_built (until.At time) c h = one_more _ c.registered refl h
+stop_built (until.Event e) c h = one_more _ c.registered refl h
+
+pub opening_built : {B : Type 0} (g : Plan B) → left_of (opening g).control ≡ [] → HasBuiltCallbacks (opening g)
+opening_built g none =
+    record {
+      registered = stop_built g.setup.until _ (starts_built g (blank_state g) g.setup.starts (All-nil IsBuilt));
+      left = subst (AllPass is_built_callback) (sym none) (All-nil (λ x. is_built_callback x ≡ true));
+    }
+
+-- ---- what is to stop a run makes one event at most
+pub stop_events : (x : Until) (c : Calendar) → length (set_stop x c).events ≤ length c.events + 1
 stop_events until.Never c = omega arith
 stop_events (until.At time) c = omega (arith, change_event-length (next_event c) (λ y. record y { outcome = Some (outcome.Ok (pos 0)) }) (make kind.Stop c), make-length kind.Stop c)
 stop_events (until.Event e) c = omega arith
-
--- what is to stop the run makes one event at most
-pub stop_bounded : {B Code : Type 0} (x : Until) (old new : PartsOf B Code) → StopsBy x old new → length old.calendar.events < most_opened →
-    old.processed ≡ 0 → IsBounded 0 new
-stop_bounded {B} {Code} x old new h events processed =
-    let made : length new.calendar.events ≡ length (set_stop x old.calendar).events = ap length h.calendar.events in
-    let done : new.processed ≡ 0 = ap (λ (n : PartsOf B Code). n.processed) h.kept ∙ processed in
-    record {
-      events = omega (arith, made, stop_events x old.calendar);
-      processed = omega (arith, done);
-    }

@@ -1,9 +1,4 @@
-pub mod PartsOf
-pub mod Changes
-pub mod StandsFor
-pub mod Built
-pub mod Polling
-pub mod Resting
-pub mod Holding
+pub mod KernelOf
 pub mod Opening
+pub mod Holding
 pub mod Stepping

@@ -1,15 +1,16 @@
 //! A kernel stands for a lawful state of the machine, and makes one unit of it at a time.
 ghost use Rattle.std.specs.Prelude.{◌≡◌, ◌+◌, ◌<◌, ◌^◌, IfOk, OnOk, OnErr};
 ghost use Rattle.sim_machine.specs.Setups.{FitsCode};
-ghost use Rattle.sim_kernel.specs.Built.{AsksForBuilt};
-ghost use Rattle.sim_kernel.specs.PartsOf.{IsOpenedAs, IsAsBefore};
-ghost use Rattle.sim_kernel.specs.Resting.{CanStep, rest_in};
-ghost use Rattle.sim_kernel.specs.StandsFor.{IsLawfulOpening, StandsForOpening};
+ghost use Rattle.sim_steps.specs.Built.{AsksForBuilt};
+ghost use Rattle.sim_steps.specs.PartsOf.{IsOpenedAs};
+ghost use Rattle.sim_steps.specs.Resting.{CanStep, rest_in};
+ghost use Rattle.sim_steps.specs.StandsFor.{IsLawfulOpening, StandsForOpening};
+ghost use Rattle.sim_kernel.specs.KernelOf.{IsAsBefore};
 ghost use Rattle.sim_kernel.specs.Stepping.{MakesStep};
 
-use crate::mode::{Rest, Unit};
-use crate::parts::Parts;
+use crate::opening::open;
 use sim_procs::Body;
+use sim_steps::{Parts, Rest, Unit};
 use sim_types::Setup;
 use std::alloc::{AllocError, Global};
 use std::marker::Model;
@@ -22,7 +23,7 @@ pub struct Kernel<B: Body> {
 }
 
 impl<B: Body> Model for Kernel<B> {
-    ghost use Rattle.sim_kernel.specs.PartsOf.{KernelOf};
+    ghost use Rattle.sim_kernel.specs.KernelOf.{KernelOf};
     ghost use Rattle.sim_kernel.specs.Holding.{Holds};
 
     ghost Value = { KernelOf B B.Code };
@@ -50,7 +51,7 @@ impl<B: Body> Kernel<B> {
         ensures lawful { IfOk result (λ k. IsLawfulOpening B.body k.parts) }
     {
         let mut parts = Parts::<B>::blank(alloc, code, setup, seed)?;
-        match parts.open(alloc, code, setup) {
+        match open(alloc, &mut parts, code, setup) {
             Ok(()) => Ok(Kernel { parts, units: 0 }),
             Err(AllocError) => {
                 parts.abandon();
@@ -90,24 +91,24 @@ impl<B: Body> Kernel<B> {
     pub fn processed(&self) -> u64
         ensures { result ≡ self.now.parts.processed }
     {
-        self.parts.processed
+        self.parts.processed()
     }
 
     /// The time of the machine.
     pub fn now(&self) -> i64
-        ensures { result ≡ self.now.parts.calendar.time }
+        ensures { result ≡ self.now.parts.happen.time }
     {
-        self.parts.calendar.time()
+        self.parts.now()
     }
 
     /// Spends the kernel and tells its time and how many events were processed.
     pub fn finish(self) -> (i64, u64)
-        ensures time { result.0 ≡ self.parts.calendar.time }
+        ensures time { result.0 ≡ self.parts.happen.time }
         ensures processed { result.1 ≡ self.parts.processed }
     {
         let Kernel { parts, units: _ } = self;
-        let time = parts.calendar.time();
-        let processed = parts.processed;
+        let time = parts.now();
+        let processed = parts.processed();
         parts.abandon();
         (time, processed)
     }

@@ -1,11 +1,8 @@
-//! The kernel: one unit of the machine at a time, for every body, over plain lists.
+//! The kernel: it stands for a lawful state of the machine, and makes one unit at a time, for every body.
 #![tactic(auto)]
 
-mod draw;
 mod kernel;
-mod mode;
 mod opening;
-mod parts;
 
 pub use kernel::Kernel;
-pub use mode::{Rest, Unit};
+pub use sim_steps::{Rest, Unit};

@@ -87,6 +87,17 @@ impl<B> Procs<B> {
         self.index.get(id.0)
     }
 
+    // The same, for a process that runs and is looked up again and again: until another one is sought, it is found at once.
+    #[tactic(auto, using(crate::proofs::Places::found_at))]
+    fn seek(&mut self, id: ProcId) -> Option<usize>
+        ensures place { MatchOption result (record_of id self.old.live ≡ None)
+            (λ i. StandsAt id self.old.live i) }
+        ensures same { self.new ≡ self.old }
+    {
+        let _ = &self.records;
+        self.index.seek(id.0)
+    }
+
     /// Whether the process has not ended.
     pub fn is_alive(&self, id: ProcId) -> bool
         ensures { result ≡ is_some (record_of id self.now.live) }
@@ -113,7 +124,7 @@ impl<B> Procs<B> {
         ensures* lends { sem 𝓛 (LendsBodyOf B.row self.entry id result) }
         ensures value { option_map (λ r. r.body) (record_of id self.old.live) ≡ Some result.now }
     {
-        match self.place(id) {
+        match self.seek(id) {
             Some(at) => self.body_at(at),
             None => unreachable!(),
         }

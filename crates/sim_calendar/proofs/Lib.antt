@@ -1,3 +1,0 @@
-pub mod Calendars
-pub mod Signed
-pub mod SameCalendars

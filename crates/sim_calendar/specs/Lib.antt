@@ -1,4 +1,0 @@
-pub mod Same
-pub mod CalendarOf
-pub mod Popping
-pub mod Making

@@ -1,0 +1,42 @@
+use Rattle.std.proofs.Common.{◌≡◌, ap, sym, subst, ◌∙◌}
+use Rattle.std.proofs.lemmas.Result.{on_ok_weaker}
+use Rattle.sim_types.specs.declared.setup.Setup.{Setup}
+use Rattle.sim_machine.specs.Setups.{FitsCode}
+use Rattle.sim_machine_law.proofs.OpeningLaws.{starts_open}
+use Rattle.sim_steps.specs.PartsOf.{plan_of}
+use Rattle.sim_steps.specs.Opening.{CanStop}
+use Rattle.sim_kernel.proofs.StartingAll.{all_few}
+use Rattle.sim_kernel.proofs.Stopping.{started_can_stop, opened_stands}
+use Rattle.sim_kernel.proofs.OpeningHolds.{opening_holds}
+use Rattle.sim_kernel.proofs.opening.open.Goals as goal
+
+pub set_stop-requires-clause-at_start : goal.set_stop-requires-clause-at_start
+set_stop-requires-clause-at_start g c = c.in_ok-start_all.ensures.stands.calendar.time ∙ (starts_open (plan_of g.B.LawfulBody.body c.args.parts.now)).time
+
+pub set_stop-requires-clause-number : goal.set_stop-requires-clause-number
+set_stop-requires-clause-number g c =
+    all_few g.B.LawfulBody.body c.args.parts.now c.start_all.new.parts _ (rw c.requires.setup at c.requires.fits) c.in_ok-start_all.ensures.stands
+
+pub set_stop-requires-clause-possible : goal.set_stop-requires-clause-possible
+set_stop-requires-clause-possible g c =
+    subst (λ (x : Setup). CanStop x.until c.start_all.new.parts.happen) (sym c.requires.setup)
+    (started_can_stop g.B.LawfulBody.body c.args.parts.now c.start_all.new.parts _ (rw c.requires.setup at c.requires.fits) c.in_ok-start_all.ensures.stands c.in_ok-start_all.ensures.all_kept)
+
+pub returns-clause-stands : goal.returns-clause-stands
+returns-clause-stands g c =
+    on_ok_weaker c.set_stop.result
+    (λ sets. opened_stands g.B.LawfulBody.body c.args.parts.now c.start_all.new.parts c.set_stop.new.self c.args.setup.now.until (ap (λ x. x.until) c.requires.setup) c.start_all.ensures.kept (record { kept = c.set_stop.ensures.kept; sets = sets }) c.in_ok-start_all.ensures.stands)
+    c.set_stop.ensures.sets
+
+pub returns-clause-holds : goal.returns-clause-holds
+returns-clause-holds g c =
+    let body = g.B.LawfulBody.body in
+    let new = c.set_stop.new.self in
+    let code : c.args.code.now ≡ new.code = rw (c.set_stop.ensures.kept, c.start_all.ensures.kept) c.requires.code in
+    let setup : c.args.setup.now ≡ new.setup = rw (c.set_stop.ensures.kept, c.start_all.ensures.kept) c.requires.setup in
+    let fits : FitsCode (body.facts new.code) new.setup = rw (← code, ← setup) c.requires.fits in
+    on_ok_weaker c.set_stop.result
+    (λ sets. opening_holds body new (g.B.LawfulBody.lawful new.code) fits
+    (opened_stands body c.args.parts.now c.start_all.new.parts new c.args.setup.now.until (ap (λ x. x.until) c.requires.setup) c.start_all.ensures.kept (record { kept = c.set_stop.ensures.kept; sets = sets }) c.in_ok-start_all.ensures.stands)
+    (sets.kept 1 c.in_ok-start_all.ensures.all_kept))
+    c.set_stop.ensures.sets

@@ -1,0 +1,15 @@
+use Rattle.std.proofs.Common.{◌≡◌, take}
+use Rattle.sim_steps.specs.PartsOf.{plan_of}
+use Rattle.sim_steps.specs.StandsFor.{StandsFor}
+use Rattle.sim_steps.specs.Opening.{IsOpening}
+use Rattle.sim_kernel.proofs.StartingAll.{with_starts}
+use Rattle.sim_kernel.proofs.opening.start_all.Given as goal
+
+-- the processes of the starts so far are made
+abbrev pub invariant-loop-start : goal.invariant-loop-start
+invariant-loop-start g l =
+    record {
+      kept : l.parts ≡ record l.initial.parts { happen = l.parts.happen; live = l.parts.live; spare = l.parts.spare };
+      opening : IsOpening l.parts;
+      stands : StandsFor l.parts (with_starts (plan_of g.B.LawfulBody.body l.initial.parts) (take l.start-index l.initial.parts.setup.starts));
+    }

@@ -1,0 +1,11 @@
+use Rattle.std.proofs.Common.{◌∙◌, refl}
+use Rattle.sim_steps.proofs.Waiting.{waited_becomes}
+use Rattle.sim_steps.proofs.parts.Parts.wait.Goals as goal
+
+pub returns : goal.returns
+returns g c =
+    let kept = rw (← c.self.view_is) at c.requires.kept in
+    let unprocessed = rw (← c.self.view_is) at c.requires.unprocessed in
+    rw (← c.self.view_is) (record {
+      becomes = waited_becomes _ c.rest.new.self c.register.new.self c.args.on c.args.process kept unprocessed c.register.ensures.follows (c.rest.ensures ∙ rw (c.set_target.ensures, c.register.ensures.follows.left) refl);
+    })

@@ -1,0 +1,15 @@
+//! One unit of the machine, for every body: an event is popped, a callback is called, an event is settled, or a process is
+//! polled.
+#![tactic(auto)]
+
+mod calling;
+mod draw;
+mod making;
+mod mode;
+mod opening;
+mod operations;
+mod parts;
+mod polling;
+
+pub use mode::{Rest, Unit};
+pub use parts::Parts;

@@ -1,0 +1,85 @@
+//! What is made where a kernel is opened.
+ghost use Rattle.std.specs.Prelude.{◌≡◌, ◌<◌, ◌≤◌, ◌^◌, ◌+◌, pos, ◌≤ℤ◌, [], length, IfOk};
+ghost use Rattle.sim_machine.specs.Runs.{first_calendar};
+ghost use Rattle.sim_happen_model.specs.HappenOf.{held};
+ghost use Rattle.sim_happen_model.specs.Shows.{Shows};
+ghost use Rattle.sim_steps.specs.Becoming.{AreAllKept};
+ghost use Rattle.sim_steps.specs.Opening.{next_process, next_init, MakesProcess, CanStop, SetsStop};
+
+use sim_happen::Happen;
+use sim_types::{Callback, EventId, EventKind, Outcome, ProcId, Until};
+use std::alloc::{AllocError, Global};
+
+/// The priority of what comes first at a time (SimPy's URGENT).
+const URGENT: u8 = 0;
+
+/// Time 0 with event 0 and so many named events, in which nothing is scheduled or registered.
+pub(crate) fn named_events(alloc: Global, named: u64) -> Result<Happen, AllocError>
+    requires { named ≤ 1024 }
+    ensures shows { IfOk result (λ h. Shows h (first_calendar named)) }
+    ensures left { IfOk result (λ h. h.left ≡ []) }
+    ensures kept { IfOk result (λ h. AreAllKept 1 (held h)) }
+{
+    let mut happen = Happen::new(alloc)?;
+    for made in 0..named {
+        happen.reserve(1, 0)?;
+        happen.make(EventKind::Plain);
+    }
+    Ok(happen)
+}
+
+/// Makes the event of a process and its init event, which is urgent, is due now, and resumes the process. The answer is
+/// the number of the process, which is that of its event, and the init event.
+pub(crate) fn make_process(happen: &mut Happen) -> (ProcId, EventId)
+    requires events { 2 ≤ happen.old.spare.events }
+    requires callbacks { 1 ≤ happen.old.spare.callbacks }
+    requires number { length happen.old.events + 2 ≤ 2 ^ 62 }
+    requires time { happen.old.time ≤ℤ pos (2 ^ 62) }
+    ensures process { result.0 ≡ next_process happen.old }
+    ensures init { result.1 ≡ next_init happen.old }
+    ensures made { MakesProcess happen.old happen.new }
+{
+    let event = happen.make(EventKind::Process);
+    let process = ProcId(event.0);
+    let init = happen.make(EventKind::Init);
+    happen.register(init, Callback::Resume(process));
+    match happen.schedule(init, Outcome::Ok(0), URGENT, 0) {
+        Ok(()) => {}
+        Err(_) => unreachable!(),
+    }
+    (process, init)
+}
+
+/// Makes an urgent event that is due at this time and stops the run. So far it is time 0.
+fn stop_at(happen: &mut Happen, time: i64)
+    requires events { 1 ≤ happen.old.spare.events }
+    requires callbacks { 1 ≤ happen.old.spare.callbacks }
+    requires number { length happen.old.events < 2 ^ 62 }
+    requires at_start { happen.old.time ≡ pos 0 }
+    requires low { pos 0 ≤ℤ time }
+    requires high { time ≤ℤ pos (2 ^ 62) }
+    ensures { SetsStop (Until.At time) happen.old happen.new }
+{
+    let stop = happen.make(EventKind::Stop);
+    happen.register(stop, Callback::Stop);
+    match happen.schedule(stop, Outcome::Ok(0), URGENT, time) {
+        Ok(()) => {}
+        Err(_) => unreachable!(),
+    }
+}
+
+/// Sets what is to stop the run. So far it is time 0.
+pub(crate) fn set_stop(happen: &mut Happen, until: Until)
+    requires events { 1 ≤ happen.old.spare.events }
+    requires callbacks { 1 ≤ happen.old.spare.callbacks }
+    requires number { length happen.old.events < 2 ^ 62 }
+    requires at_start { happen.old.time ≡ pos 0 }
+    requires possible { CanStop until happen.old }
+    ensures { SetsStop until happen.old happen.new }
+{
+    match until {
+        Until::Never => {}
+        Until::At(time) => stop_at(happen, time),
+        Until::Event(event) => happen.register(event, Callback::Stop),
+    }
+}

@@ -1,0 +1,115 @@
+ghost use Rattle.std.specs.Prelude.{◌≡◌, ◌+◌, ◌<◌, ◌≤◌, ◌^◌, pos, length, IfOk, OnOk, OnErr, IsTrue, None};
+ghost use Rattle.sim_machine.specs.Runs.{blank_state};
+ghost use Rattle.sim_machine.specs.Setups.{FitsCode, start_fits};
+ghost use Rattle.sim_procs.specs.RecordOf.{record_of};
+ghost use Rattle.sim_happen_model.specs.HappenOf.{held};
+ghost use Rattle.sim_steps.specs.Becoming.{AreAllKept};
+ghost use Rattle.sim_steps.specs.PartsOf.{plan_of};
+ghost use Rattle.sim_steps.specs.StandsFor.{StandsFor};
+ghost use Rattle.sim_steps.specs.Opening.{Begins, CanStop, IsOpening, Starts, SetsStop, next_process, KeepsButHappen, KeepsButProcesses, KeepsButRoom};
+
+use crate::making::{make_process, named_events, set_stop};
+use crate::mode::Mode;
+use crate::parts::Parts;
+use rand_core::SeedableRng;
+use rand_pcg::Pcg64;
+use sim_memo::Memo;
+use sim_procs::{Body, Procs};
+use sim_types::{Setup, Start};
+use std::alloc::{AllocError, Global};
+
+impl<B: Body> Parts<B> {
+    /// What a kernel has before any process is made.
+    pub fn blank(
+        alloc: Global,
+        code: &B::Code,
+        setup: &Setup,
+        seed: u64,
+    ) -> Result<Parts<B>, AllocError>
+        requires few { setup.now.events ≤ 1024 }
+        ensures code { IfOk result (λ p. p.code ≡ code.now) }
+        ensures setup { IfOk result (λ p. p.setup ≡ setup.now) }
+        ensures seed { IfOk result (λ p. p.seed ≡ seed) }
+        ensures stands { IfOk result (λ p. StandsFor p (blank_state (plan_of B.body p))) }
+        ensures kept { IfOk result (λ p. AreAllKept 1 (held p.happen)) }
+    {
+        let happen = named_events(alloc, setup.events)?;
+        let generator = Pcg64::seed_from_u64(seed);
+        let processes = Procs::new(alloc)?;
+        Ok(Parts {
+            happen,
+            processed: 0,
+            generator,
+            processes,
+            mode: Mode::Idle,
+            code: Memo::of(code),
+            setup: Memo::of(setup),
+            seed: Memo::of(&seed),
+        })
+    }
+
+    // Makes a process of a body that was filled. It is told its number, which is that of its event.
+    fn begin(&mut self, body: B)
+        requires events { 2 ≤ self.old.happen.spare.events }
+        requires callbacks { 1 ≤ self.old.happen.spare.callbacks }
+        requires record_room { 1 ≤ self.old.spare }
+        requires number { length self.old.happen.events + 2 ≤ 2 ^ 62 }
+        requires at_start { self.old.happen.time ≡ pos 0 }
+        requires not_alive { record_of (next_process self.old.happen) self.old.live ≡ None }
+        ensures { Begins (B.body.numbered body (next_process self.old.happen)) self.old self.new }
+    {
+        let (process, init) = make_process(&mut self.happen);
+        let mut body = body;
+        body.own(process);
+        self.processes.add(process, body, init);
+    }
+
+    /// Makes a process that runs from the start.
+    pub fn start(&mut self, alloc: Global, code: &B::Code, start: &Start) -> Result<(), AllocError>
+        requires code { code.now ≡ self.old.code }
+        requires setup { FitsCode (B.body.facts code.now) self.old.setup }
+        requires fits { IsTrue (start_fits (B.body.facts code.now) start.now) }
+        requires opening { IsOpening self.old }
+        requires number { length self.old.happen.events + 2 ≤ 2 ^ 62 }
+        ensures kept { KeepsButProcesses self.old self.new }
+        ensures err { OnErr result (KeepsButRoom self.old self.new) }
+        ensures starts { OnOk result (Starts B.body start.now self.old self.new) }
+        ensures opening { OnOk result (IsOpening self.new) }
+    {
+        self.happen.reserve(2, 1)?;
+        self.processes.reserve()?;
+        let mut body = B::blank(alloc, code)?;
+        body.fill(code, start.kind, start.args.copied());
+        self.begin(body);
+        Ok(())
+    }
+
+    /// Sets what is to stop the run. So far it is time 0.
+    pub fn set_stop(&mut self, setup: &Setup) -> Result<(), AllocError>
+        requires at_start { self.old.happen.time ≡ pos 0 }
+        requires number { length self.old.happen.events < 2 ^ 62 }
+        requires possible { CanStop setup.now.until self.old.happen }
+        ensures kept { KeepsButHappen self.old self.new }
+        ensures sets { OnOk result
+            (SetsStop setup.now.until self.old.happen self.new.happen) }
+    {
+        self.happen.reserve(1, 1)?;
+        set_stop(&mut self.happen, setup.until);
+        Ok(())
+    }
+
+    /// Spends the parts.
+    pub fn abandon(self) {
+        let Parts {
+            happen: _,
+            processed: _,
+            generator: _,
+            processes,
+            mode: _,
+            code: _,
+            setup: _,
+            seed: _,
+        } = self;
+        processes.abandon();
+    }
+}

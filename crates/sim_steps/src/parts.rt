@@ -1,0 +1,137 @@
+ghost use Rattle.std.specs.Prelude.{◌≡◌, ◌≢◌, ◌<◌, ◌≤◌, ◌^◌, [], length, OnOk};
+ghost use Rattle.std.specs.List.{AllPass};
+ghost use Rattle.sim_machine.specs.Processes.{told_more, not_active};
+ghost use Rattle.sim_machine.specs.Standing.{left_of};
+ghost use Rattle.sim_happen_model.specs.HappenOf.{held};
+ghost use Rattle.sim_steps.specs.Becoming.{AreAllKept, Moves};
+ghost use Rattle.sim_steps.specs.Built.{AsksForBuilt, is_built_callback};
+ghost use Rattle.sim_steps.specs.Resting.{CanStep, rest_in};
+ghost use Rattle.sim_steps.specs.PartsOf.{HasUnitRoom, IsRunningIn, IsRunningAt, with_room};
+ghost use Rattle.sim_steps.specs.StandsFor.{StandsForSome};
+
+use crate::mode::{Mode, Rest, Unit};
+use rand_pcg::Pcg64;
+use sim_happen::Happen;
+use sim_memo::Memo;
+use sim_procs::{Body, Procs};
+use sim_types::{EventId, ProcId, Setup, Signal};
+use std::alloc::AllocError;
+use std::marker::Model;
+
+/// One unit makes so many events at most, and registers so many callbacks.
+const MOST_MADE: u32 = 1;
+
+/// Where room is made, it is made for so many events and callbacks at once.
+const ROOM: u32 = 64;
+
+/// Time and what happens in it, the live processes and the numbers of a kernel, and what it was opened with.
+pub struct Parts<B: Body> {
+    pub(crate) happen: Happen,
+    pub(crate) processed: u64,
+    pub(crate) generator: Pcg64,
+    pub(crate) processes: Procs<B>,
+    pub(crate) mode: Mode,
+    pub(crate) code: Memo<B::Code>,
+    pub(crate) setup: Memo<Setup>,
+    pub(crate) seed: Memo<u64>,
+}
+
+impl<B: Body> Model for Parts<B> {
+    ghost use Rattle.sim_steps.specs.PartsOf.{PartsOf, control_of, NoneLeftIdle};
+
+    ghost Value = { PartsOf B B.Code };
+
+    ghost view = { λ a. record {
+      happen = a.happen;
+      processed = a.processed;
+      generator = a.generator;
+      live = a.processes.live;
+      control = control_of a.mode a.happen.left;
+      code = a.code.value;
+      setup = a.setup.value;
+      seed = a.seed.value;
+      spare = a.processes.spare;
+    } };
+
+    ghost invariant = { λ a. NoneLeftIdle a.mode a.happen.left };
+}
+
+impl<B: Body> Parts<B> {
+    /// Makes room for all that one unit takes.
+    pub fn reserve(&mut self) -> Result<(), AllocError>
+        ensures kept { self.new ≡ with_room self.new.happen.spare self.new.spare self.old }
+        ensures room { OnOk result (HasUnitRoom self.new) }
+    {
+        if self.happen.has_room(MOST_MADE, MOST_MADE) {
+            Ok(())
+        } else {
+            self.happen.reserve(ROOM, ROOM)
+        }
+    }
+
+    /// The running process goes on, and is told this.
+    pub(crate) fn tell(&mut self, event: EventId, process: ProcId, told: Signal)
+        requires running { IsRunningIn event process self.old.control }
+        ensures { self.new ≡ record self.old { control = told_more told self.old.control } }
+    {
+        self.mode = Mode::Active(event, process, told);
+    }
+
+    /// The running process waits or has ended.
+    pub(crate) fn rest(&mut self, event: EventId)
+        requires running { IsRunningAt event self.old.control }
+        ensures { self.new ≡ record self.old { control = not_active self.old.control } }
+    {
+        self.mode = Mode::Calling(event);
+    }
+
+    /// Where the kernel stands.
+    pub fn rest_now(&self) -> Rest
+        ensures { result ≡ rest_in self.now }
+    {
+        match self.mode {
+            Mode::Idle if self.happen.is_empty() => Rest::Empty,
+            Mode::Idle => Rest::Idle,
+            Mode::Calling(_) | Mode::Active(_, _, _) => Rest::Busy,
+            Mode::Over(why, _) => Rest::Over(why),
+        }
+    }
+
+    /// The time of the machine.
+    pub fn now(&self) -> i64
+        ensures { result ≡ self.now.happen.time }
+    {
+        self.happen.now()
+    }
+
+    /// How many events were processed.
+    pub fn processed(&self) -> u64
+        ensures { result ≡ self.now.processed }
+    {
+        self.processed
+    }
+
+    /// One unit: an event is popped, a callback is called, an event is settled, or a process is polled.
+    pub fn unit(&mut self, code: &B::Code) -> Unit
+        requires code { code.now ≡ self.old.code }
+        requires stands { StandsForSome B.body self.old }
+        requires can { CanStep self.old }
+        requires asks { AsksForBuilt B.body code.now }
+        requires built { AllPass is_built_callback (left_of self.old.control) }
+        requires room { HasUnitRoom self.old }
+        requires kept { AreAllKept (2 ^ 32) (held self.old.happen) }
+        requires events { length self.old.happen.events < 2 ^ 62 }
+        requires processed { self.old.processed < 2 ^ 62 }
+        ensures moves { Moves B.body self.old result self.new }
+    {
+        match self.mode {
+            Mode::Idle => self.pop(),
+            Mode::Calling(event) => {
+                self.call(event);
+                Unit::Quiet
+            }
+            Mode::Active(event, process, told) => self.poll(code, event, process, told),
+            Mode::Over(_, _) => unreachable!(),
+        }
+    }
+}
