@@ -1,0 +1,10 @@
+pub mod Keys
+pub mod StableSorts
+pub mod Removals
+pub mod GrantOrders
+pub mod LastElements
+pub mod Slots
+pub mod MachineQueues
+pub mod DeskChanges
+pub mod WaitersInOrder
+pub mod Attempting

@@ -1,0 +1,5 @@
+pub mod DeskOf
+pub mod Attempts
+pub mod Sorting
+pub mod GrantOrder
+pub mod SoundDesks
