@@ -1,0 +1,15 @@
+//! Containers and stores: who waits at them, what is in them, and which waiter is served next.
+#![tactic(auto)]
+
+mod heap;
+mod item;
+mod row;
+mod shelf;
+mod stock;
+mod tank;
+mod waiting;
+
+pub use shelf::Shelf;
+pub use stock::ShelfKind;
+pub use tank::Tank;
+pub use waiting::{Served, WaitingAmount, WaitingGet, WaitingPut};

@@ -1,0 +1,212 @@
+ghost use Rattle.std.specs.Prelude.{◌≡◌, ◌+◌, ◌-◌, ◌≤◌, ℕ, [], ◌∷◌, ◌++◌, length, IsFalse, IsOk, OnOk};
+ghost use Rattle.sim_machine.specs.Trying.{get_reach};
+ghost use Rattle.sim_stores.specs.Waiting.{stands_among, looked_at, AllDiffer};
+ghost use Rattle.sim_stores.specs.Stocks.{kind_of_stock, items_of_stock};
+ghost use Rattle.sim_stores.specs.Shelves.{waiting_at_shelf, TriesDeposit, TriesHandOut, shelf_besides, store_kind};
+ghost use Rattle.sim_stores.specs.Finding.{FindsGetIfAny};
+
+use crate::item::Item;
+use crate::stock::{ShelfKind, Stock};
+use crate::waiting::{Served, WaitingGet, WaitingPut, leave_queue};
+use sim_types::EventId;
+use std::alloc::{AllocError, Global};
+use std::collections::VecDeque;
+use std::marker::Model;
+
+/// A store (SimPy's Store, PriorityStore and FilterStore): items, at most as many as its capacity, and the puts and gets
+/// that wait at it. A put is served once there is place for its item, a get once there is an item for it.
+#[derive(Drop)]
+pub struct Shelf {
+    puts: VecDeque<WaitingPut>,
+    gets: VecDeque<WaitingGet>,
+    // It has room for the items of all puts that wait.
+    stock: Stock,
+    capacity: u64,
+}
+
+impl Model for Shelf {
+    ghost use Rattle.std.specs.Prelude.{◌-◌, ◌≤◌, min};
+    ghost use Rattle.std.specs.VecDeque.{deque_len, deque_capacity};
+    ghost use Rattle.sim_stores.specs.Stocks.{kind_of_stock, items_of_stock};
+    ghost use Rattle.sim_stores.specs.Shelves.{ShelfOf};
+    ghost use Rattle.sim_stores.specs.Sound.{IsSoundShelf};
+
+    ghost Value = { ShelfOf };
+
+    ghost view = { λ a. record {
+      kind = kind_of_stock a.stock;
+      capacity = a.capacity;
+      puts = a.puts.items;
+      gets = a.gets.items;
+      items = (items_of_stock a.stock).items;
+      spare_puts = min (deque_capacity a.puts - deque_len a.puts)
+          ((items_of_stock a.stock).spare - deque_len a.puts);
+      spare_gets = deque_capacity a.gets - deque_len a.gets;
+    } };
+
+    ghost invariant = { λ a.
+        IsSoundShelf a.capacity (items_of_stock a.stock).items a.puts.items a.gets.items
+        × (deque_len a.puts ≤ (items_of_stock a.stock).spare) };
+}
+
+impl Shelf {
+    /// Nobody waits, and there are no items. It takes no memory.
+    pub fn new(alloc: Global, kind: ShelfKind, capacity: u64) -> Shelf
+        requires { 1 ≤ capacity }
+        ensures kind { result.kind ≡ kind }
+        ensures capacity { result.capacity ≡ capacity }
+        ensures items { result.items ≡ [] }
+        ensures puts { result.puts ≡ [] }
+        ensures gets { result.gets ≡ [] }
+    {
+        Shelf {
+            puts: VecDeque::new(alloc),
+            gets: VecDeque::new(alloc),
+            stock: Stock::new(alloc, kind),
+            capacity,
+        }
+    }
+
+    /// No event waits twice. The call does nothing: it tells what every store has.
+    pub fn waiters_differ(&self)
+        ensures { AllDiffer (waiting_at_shelf self.now) }
+    {
+        let _kept = &self.puts;
+    }
+
+    /// Makes room for one put and one get more, and for the items of all puts that wait.
+    pub fn reserve(&mut self) -> Result<(), AllocError>
+        ensures put { OnOk result (1 ≤ self.new.spare_puts) }
+        ensures get { OnOk result (1 ≤ self.new.spare_gets) }
+        ensures never_less_puts { self.old.spare_puts ≤ self.new.spare_puts }
+        ensures never_less_gets { self.old.spare_gets ≤ self.new.spare_gets }
+        ensures succeeds { 1 ≤ self.old.spare_puts → 1 ≤ self.old.spare_gets → IsOk result }
+        ensures rest { self.new ≡ record self.old {
+          spare_puts = self.new.spare_puts;
+          spare_gets = self.new.spare_gets;
+        } }
+    {
+        self.puts.reserve(1)?;
+        self.gets.reserve(1)?;
+        self.stock.reserve(self.puts.len() + 1)
+    }
+
+    /// A put waits behind the others. It takes no memory.
+    pub fn join_put(&mut self, event: EventId, value: i64, priority: i64)
+        requires spare { 1 ≤ self.old.spare_puts }
+        requires apart { IsFalse (stands_among event (waiting_at_shelf self.old)) }
+        ensures { self.new ≡ record self.old {
+          puts = self.old.puts ++ record {
+            event = event;
+            value = value;
+            priority = priority;
+          } ∷ [];
+          spare_puts = self.old.spare_puts - 1;
+        } }
+    {
+        self.puts.push_back_reserved(WaitingPut {
+            event,
+            value,
+            priority,
+        });
+    }
+
+    /// A get waits behind the others. It takes no memory.
+    pub fn join_get(&mut self, event: EventId, least: i64, greatest: i64)
+        requires spare { 1 ≤ self.old.spare_gets }
+        requires apart { IsFalse (stands_among event (waiting_at_shelf self.old)) }
+        ensures { self.new ≡ record self.old {
+          gets = self.old.gets ++ record {
+            event = event;
+            least = least;
+            greatest = greatest;
+          } ∷ [];
+          spare_gets = self.old.spare_gets - 1;
+        } }
+    {
+        self.gets.push_back_reserved(WaitingGet {
+            event,
+            least,
+            greatest,
+        });
+    }
+
+    /// Serves the first put, if there is place for its item. It takes no memory.
+    pub fn try_put(&mut self) -> Option<Served>
+        ensures { (res : ℕ) → TriesDeposit res result self.old self.new }
+    {
+        if self.capacity <= self.stock.len() {
+            return None;
+        }
+        let put = self.puts.pop_front()?;
+        self.stock
+            .put(Item::new(put.event, put.value, put.priority));
+        Some(Served {
+            event: put.event,
+            value: 0,
+        })
+    }
+
+    /// Serves a get with the item that it is given: the first get, if there is an item for it; at a filter store the first
+    /// for which there is one. It takes no memory.
+    pub fn try_get(&mut self) -> Option<Served>
+        ensures { (res : ℕ) → TriesHandOut res result self.old self.new }
+    {
+        let (at, value) = take_for_one(&mut self.stock, &self.gets)?;
+        let get = self.gets.remove(at)?;
+        Some(Served {
+            event: get.event,
+            value,
+        })
+    }
+
+    /// Takes a put or get out of its queue. The answer is whether it waited.
+    pub fn cancel(&mut self, event: EventId) -> bool
+        ensures waited { result ≡ stands_among event (waiting_at_shelf self.old) }
+        ensures besides { self.new ≡ record (shelf_besides event self.old) {
+          spare_puts = self.new.spare_puts;
+          spare_gets = self.new.spare_gets;
+        } }
+        ensures never_less_puts { self.old.spare_puts ≤ self.new.spare_puts }
+        ensures never_less_gets { self.old.spare_gets ≤ self.new.spare_gets }
+        ensures same { IsFalse result → self.new ≡ self.old }
+    {
+        let put = leave_queue(&mut self.puts, event);
+        let get = leave_queue(&mut self.gets, event);
+        put | get
+    }
+
+    /// How many items it has: at most as many as the capacity.
+    pub fn len(&self) -> u64
+        ensures len { result ≡ length self.now.items }
+        ensures most { result ≤ self.now.capacity }
+    {
+        self.stock.len()
+    }
+}
+
+// How many gets a try looks at.
+fn most_looked_at(stock: &Stock, gets: &VecDeque<WaitingGet>) -> usize
+    ensures { let reach = get_reach (store_kind (kind_of_stock stock.now)) in
+        result ≡ length (looked_at reach gets.now.items) }
+{
+    if stock.is_filter() {
+        gets.len()
+    } else {
+        gets.len().min(1)
+    }
+}
+
+// Takes an item out for the first of the gets that a try looks at for which there is one. The answer is the place of that
+// get, and the value of the item.
+fn take_for_one(stock: &mut Stock, gets: &VecDeque<WaitingGet>) -> Option<(usize, i64)>
+    ensures { FindsGetIfAny gets.now.items stock.old result stock.new }
+{
+    for at in 0..most_looked_at(stock, gets) {
+        let get = gets[at];
+        if let Some(value) = stock.take(get.least, get.greatest) {
+            return Some((at, value));
+        }
+    }
+    None
+}

@@ -1,0 +1,97 @@
+//! Who waits at a container or a store, and who was served.
+ghost use Rattle.std.specs.Prelude.{◌≡◌, ◌≤◌, not, IsFalse};
+ghost use Rattle.std.specs.List.{list_any};
+ghost use Rattle.std.specs.VecDeque.{deque_len, deque_capacity};
+ghost use Rattle.sim_machine.specs.Events.{is_same};
+ghost use Rattle.sim_types.specs.declared.event.EventId.{EventId};
+ghost use Rattle.sim_stores.specs.Waiting.{besides};
+
+use sim_types::EventId;
+use std::collections::VecDeque;
+
+/// A put or get that was served.
+#[derive(Clone, Copy, Debug, PartialEq, Eq)]
+pub struct Served {
+    /// The event of the put or get.
+    pub event: EventId,
+    /// What the event is to succeed with: the value of the item that a get of a store is given, else 0.
+    pub value: i64,
+}
+
+/// A put or get that waits at a container.
+#[derive(Clone, Copy)]
+pub struct WaitingAmount {
+    pub event: EventId,
+    /// How much is put or got.
+    pub amount: i64,
+}
+
+/// A put that waits at a store.
+#[derive(Clone, Copy)]
+pub struct WaitingPut {
+    pub event: EventId,
+    /// The value of the item.
+    pub value: i64,
+    /// The priority of the item: a priority store gives the least first. Others take no notice of it.
+    pub priority: i64,
+}
+
+/// A get that waits at a store.
+#[derive(Clone, Copy)]
+pub struct WaitingGet {
+    pub event: EventId,
+    /// A filter store gives an item from here ..
+    pub least: i64,
+    /// .. to here. Others take no notice of the two.
+    pub greatest: i64,
+}
+
+/// What waits, and is known by its event.
+pub(crate) trait Waits: Drop {
+    ghost event_of: { Self → EventId };
+
+    fn event(&self) -> EventId
+        ensures { result ≡ event_of self.now };
+}
+
+impl Waits for WaitingAmount {
+    ghost event_of = { λ w. w.event };
+
+    fn event(&self) -> EventId {
+        self.event
+    }
+}
+
+impl Waits for WaitingPut {
+    ghost event_of = { λ w. w.event };
+
+    fn event(&self) -> EventId {
+        self.event
+    }
+}
+
+impl Waits for WaitingGet {
+    ghost event_of = { λ w. w.event };
+
+    fn event(&self) -> EventId {
+        self.event
+    }
+}
+
+/// Takes what waits for an event out of a queue. The answer is whether it stood there.
+pub(crate) fn leave_queue<W: Waits>(queue: &mut VecDeque<W>, event: EventId) -> bool
+    ensures waited { result ≡ list_any (λ w. is_same (W.event_of w) event) queue.old.items }
+    ensures besides { queue.new.items ≡ besides W.event_of event queue.old.items }
+    ensures same { IsFalse result → queue.new.items ≡ queue.old.items }
+    ensures same_len { IsFalse result → deque_len queue.new ≡ deque_len queue.old }
+    ensures len { deque_len queue.new ≤ deque_len queue.old }
+    ensures capacity { deque_capacity queue.new ≡ deque_capacity queue.old }
+{
+    let before = queue.len();
+    queue.retain(
+        |waiter: &W| -> bool
+            ensures { result ≡ not (is_same (W.event_of waiter.now) event) }
+        { waiter.event() != event },
+    );
+    queue.len() != before
+}
