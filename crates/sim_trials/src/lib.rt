@@ -12,10 +12,16 @@ mod devices;
 #[cfg(test)]
 mod events;
 #[cfg(test)]
+mod happen;
+#[cfg(test)]
 mod records;
+#[cfg(test)]
+mod resources;
 #[cfg(test)]
 mod sinks;
 #[cfg(test)]
 mod sources;
+#[cfg(test)]
+mod stores;
 #[cfg(test)]
 mod trace;
