@@ -1,0 +1,13 @@
+-- resources in their places
+pub mod ResourcePlaces
+pub mod OpenedResources
+-- who waits
+pub mod WaitingEvents
+pub mod CancelledEvents
+-- who uses
+pub mod ReleasedSlots
+-- what is shown
+pub mod ShownCounts
+pub mod FollowingFacilities
+-- events that are made, and events that go
+pub mod MadeEvents

@@ -1,0 +1,145 @@
+//! Time, what happens in it, and the resources.
+ghost use Rattle.std.specs.Prelude.{◌≡◌, ◌≤◌, ◌<◌, [], ◌∷◌, length, slice_get, Some, None, IfOk, IsOk, OnOk};
+ghost use Rattle.std.specs.List.{AllPass};
+ghost use Rattle.sim_types.specs.Setups.{resource_fits};
+ghost use Rattle.sim_machine.specs.State.{Facilities};
+ghost use Rattle.sim_machine.specs.Requests as requests;
+ghost use Rattle.sim_happen_model.specs.HappenOf.{held};
+ghost use Rattle.sim_shared.specs.declared.resource.SharedResource.{SharedResource};
+ghost use Rattle.sim_shared.specs.Resources.{count_at};
+ghost use Rattle.sim_shared.specs.SharedOf.{IsSameButRoom};
+ghost use Rattle.sim_shared.specs.ShowsAll.{ShowsAll};
+ghost use Rattle.sim_shared.specs.Opening.{first_facilities};
+
+use crate::opening::open_all;
+use crate::resource::SharedResource;
+use sim_happen::Happen;
+use sim_memo::Memo;
+use sim_types::{List, Resource};
+use std::alloc::{AllocError, Global};
+use std::marker::Model;
+
+/// How many events one unit may make at most.
+const EVENTS: u32 = 40;
+
+/// How many callbacks one unit may register at most.
+const CALLBACKS: u32 = 64;
+
+/// Time and what happens in it, with the resources that processes share, named by their places in the scenario.
+///
+/// What contracts say of a call is what the machine does to any facilities that were shown before it. Facilities are
+/// shown where their calendar is, and the queues, users, levels and items of the resources are theirs.
+#[derive(Drop)]
+pub struct Shared {
+    pub(crate) happen: Happen,
+    pub(crate) resources: Vec<SharedResource>,
+    // The resource whose place was taken since room was made.
+    used: Option<u32>,
+    // What the resources were opened with.
+    setup: Memo<List<Resource>>,
+}
+
+impl Model for Shared {
+    ghost use Rattle.sim_shared.specs.SharedOf.{SharedOf};
+    ghost use Rattle.sim_shared.specs.Places.{IsSoundShared};
+
+    ghost Value = { SharedOf };
+
+    ghost view = { λ a. record {
+      happen = a.happen;
+      resources = a.resources.items;
+      setup = a.setup.value;
+      used = a.used;
+    } };
+
+    ghost invariant = { λ a. IsSoundShared a.used a.resources.items a.setup.value };
+}
+
+impl Shared {
+    ghost use Rattle.std.specs.Borrow.{sem};
+    ghost use Rattle.sim_shared.specs.Lending.{LendsHappen};
+
+    /// Time 0, at which nothing is scheduled, and all of these resources as they open. Each has room for one to wait.
+    pub fn new(alloc: Global, resources: &List<Resource>) -> Result<Shared, AllocError>
+        requires fit { AllPass resource_fits resources.now }
+        ensures shows { IfOk result (λ h. ShowsAll h first_facilities) }
+        ensures held { IfOk result (λ h. held h.happen ≡ Some 1 ∷ []) }
+        ensures left { IfOk result (λ h. h.happen.left ≡ []) }
+        ensures setup { IfOk result (λ h. h.setup ≡ resources.now) }
+        ensures places { IfOk result (λ h. h.used ≡ None) }
+    {
+        let opened = open_all(alloc, resources.as_slice())?;
+        Ok(Shared {
+            happen: Happen::new(alloc)?,
+            resources: opened,
+            used: None,
+            setup: Memo::of(resources),
+        })
+    }
+
+    /// Time and what happens in it, for reading.
+    pub fn happen(&self) -> &Happen
+        ensures { result.now ≡ self.now.happen }
+    {
+        &self.happen
+    }
+
+    /// Time and what happens in it, to be changed.
+    pub fn happen_mut(&mut self) -> &mut Happen
+        ensures* lends { sem 𝓛 (LendsHappen self.entry result) }
+        ensures value { result.now ≡ self.old.happen }
+    {
+        &mut self.happen
+    }
+
+    // Makes room for one more to wait at the resource that was used, if one was.
+    fn reserve_place(&mut self) -> Result<(), AllocError>
+        ensures place { OnOk result (self.new.used ≡ None) }
+        ensures ready { self.old.used ≡ None → IsOk result }
+        ensures happen { self.new.happen ≡ self.old.happen }
+        ensures rest { IsSameButRoom self.old self.new }
+    {
+        if let Some(used) = self.used {
+            self.resources[used as usize].reserve()?;
+            self.used = None;
+        }
+        Ok(())
+    }
+
+    /// Makes room for all that one unit may take: 40 events, each of which may be a condition, 64 callbacks, and a
+    /// place to wait at each resource.
+    pub fn reserve(&mut self) -> Result<(), AllocError>
+        ensures events { OnOk result (40 ≤ self.new.happen.spare.events) }
+        ensures callbacks { OnOk result (64 ≤ self.new.happen.spare.callbacks) }
+        ensures conditions { OnOk result (40 ≤ self.new.happen.spare.conditions) }
+        ensures places { OnOk result (self.new.used ≡ None) }
+        ensures ready { 40 ≤ self.old.happen.spare.events
+            → 64 ≤ self.old.happen.spare.callbacks
+            → 40 ≤ self.old.happen.spare.conditions
+            → self.old.used ≡ None
+            → IsOk result }
+        ensures never_less_events { self.old.happen.spare.events ≤ self.new.happen.spare.events }
+        ensures never_less_callbacks { self.old.happen.spare.callbacks
+            ≤ self.new.happen.spare.callbacks }
+        ensures never_less_conditions { self.old.happen.spare.conditions
+            ≤ self.new.happen.spare.conditions }
+        ensures rest { IsSameButRoom self.old self.new }
+    {
+        self.reserve_place()?;
+        if self.happen.has_room(EVENTS, CALLBACKS) {
+            return Ok(());
+        }
+        self.happen.reserve(EVENTS, CALLBACKS)
+    }
+
+    /// How much is in use at a resource, or stands in it: users, level or number of items.
+    pub fn count(&self, res: u32) -> i64
+        requires res { res < length self.now.setup }
+        ensures value { (x : SharedResource) →
+            slice_get self.now.resources res ≡ Some x → result ≡ count_at x }
+        ensures shown { (f : Facilities) → ShowsAll self.now f →
+            result ≡ requests.held self.now.setup res f }
+    {
+        self.resources[res as usize].count()
+    }
+}
