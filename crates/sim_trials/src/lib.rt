@@ -18,6 +18,8 @@ mod records;
 #[cfg(test)]
 mod resources;
 #[cfg(test)]
+mod shared;
+#[cfg(test)]
 mod sinks;
 #[cfg(test)]
 mod sources;
