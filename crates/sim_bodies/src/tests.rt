@@ -4,7 +4,7 @@ ghost use Rattle.sim_machine.specs.Bodies.{start_of};
 ghost use Rattle.sim_machine.specs.NumberBounds.{most_events};
 ghost use Rattle.sim_machine.specs.Setups.{FitsCode, start_fits, until_fits};
 ghost use Rattle.sim_procs.specs.Premises.{CanBegin, CanBeTold};
-ghost use Rattle.sim_steps.specs.Built.{AsksForBuilt};
+ghost use Rattle.sim_steps_model.specs.Built.{AsksForBuilt};
 ghost use Rattle.sim_bodies.specs.Travellers.{traveller_facts};
 
 use crate::{Car, Clock, Land, Pace, Road, Traveller};

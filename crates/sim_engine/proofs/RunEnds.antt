@@ -11,11 +11,11 @@ use Rattle.sim_machine.specs.State.{Control, Idle, Calling, Active, Over}
 use Rattle.sim_machine.specs.Effect.{calendar}
 use Rattle.sim_machine.specs.Runs.{end_by, end_of, opening_course}
 use Rattle.sim_machine_law.proofs.UnitLaws.{ended_stays_on}
-use Rattle.sim_steps.specs.PartsOf.{PartsOf}
-use Rattle.sim_steps.specs.Resting.{rest_of, can_step}
-use Rattle.sim_steps.specs.StandsFor.{StandsFor, LawfulOf}
-use Rattle.sim_steps.specs.declared.mode.Rest.{Rest}
-use Rattle.sim_steps.specs.declared.mode.Rest.TheVariants as rest
+use Rattle.sim_steps_model.specs.PartsOf.{PartsOf}
+use Rattle.sim_steps_model.specs.Resting.{rest_of, can_step}
+use Rattle.sim_steps_model.specs.StandsFor.{StandsFor, LawfulOf}
+use Rattle.sim_steps_model.specs.declared.mode.Rest.{Rest}
+use Rattle.sim_steps_model.specs.declared.mode.Rest.TheVariants as rest
 use Rattle.sim_script_model.specs.Scripts.{Script}
 use Rattle.sim_script_model.specs.Polls.{script_turn}
 use Rattle.sim_script_law.specs.ScriptMembers.{script_body}

@@ -15,12 +15,12 @@ use Rattle.sim_machine.specs.State.{State, Plan}
 use Rattle.sim_machine.specs.Effect.{calendar}
 use Rattle.sim_machine.specs.Runs.{start_process}
 use Rattle.sim_machine_law.proofs.LineLaws.{unit_adds}
-use Rattle.sim_steps.specs.PartsOf.{PartsOf}
-use Rattle.sim_steps.specs.Resting.{rest_of}
-use Rattle.sim_steps.specs.StandsFor.{lines_of}
-use Rattle.sim_steps.specs.declared.mode.Rest.{Rest}
-use Rattle.sim_steps.specs.declared.mode.Unit.{Unit}
-use Rattle.sim_steps.specs.declared.mode.Unit.TheVariants as unit
+use Rattle.sim_steps_model.specs.PartsOf.{PartsOf}
+use Rattle.sim_steps_model.specs.Resting.{rest_of}
+use Rattle.sim_steps_model.specs.StandsFor.{lines_of}
+use Rattle.sim_steps_model.specs.declared.mode.Rest.{Rest}
+use Rattle.sim_steps_model.specs.declared.mode.Unit.{Unit}
+use Rattle.sim_steps_model.specs.declared.mode.Unit.TheVariants as unit
 use Rattle.sim_script_model.specs.Scripts.{Script}
 use Rattle.sim_script_model.specs.Polls.{script_turn}
 use Rattle.sim_engine.specs.declared.fault.EngineFault.{EngineFault}

@@ -13,10 +13,10 @@ use Rattle.sim_machine.specs.Runs.{after_units, opening, opening_course}
 use Rattle.sim_machine_law.proofs.UnitLaws.{only_step}
 use Rattle.sim_machine_law.specs.Courses.{OfFunction}
 use Rattle.sim_types.specs.declared.setup.Until.TheVariants as until
-use Rattle.sim_steps.specs.PartsOf.{PartsOf, IsOpenedAs, plan_of}
-use Rattle.sim_steps.specs.StandsFor.{StandsFor, LawfulOf, StandsForOpening, IsLawfulOpening, lines_of}
+use Rattle.sim_steps_model.specs.PartsOf.{PartsOf, IsOpenedAs, plan_of}
+use Rattle.sim_steps_model.specs.StandsFor.{StandsFor, LawfulOf, StandsForOpening, IsLawfulOpening, lines_of}
 use Rattle.sim_kernel.specs.Stepping.{MakesStep, StepsFrom}
-use Rattle.sim_steps.specs.declared.mode.Unit.{Unit}
+use Rattle.sim_steps_model.specs.declared.mode.Unit.{Unit}
 use Rattle.sim_script_model.specs.Scripts.{Script}
 use Rattle.sim_script_model.specs.Polls.{script_turn}
 use Rattle.sim_script_law.specs.ScriptMembers.{IsScriptTurn, script_body}

@@ -11,7 +11,7 @@ use Rattle.sim_types.specs.declared.setup.Until.TheVariants as until
 use Rattle.sim_machine_law.proofs.PlainBodies.{is_plain}
 use Rattle.sim_language.specs.Built.{is_never, is_built_statement, is_built_scenario}
 use Rattle.sim_language.specs.Lines.{is_empty}
-use Rattle.sim_steps.specs.Built.{is_built, AsksForBuilt}
+use Rattle.sim_steps_model.specs.Built.{is_built, AsksForBuilt}
 use Rattle.sim_script_law.specs.ScriptMembers.{script_body}
 use Rattle.sim_script_law.proofs.PlainAsking.{asks_plain}
 

@@ -6,10 +6,10 @@ use Rattle.sim_types.specs.declared.line.End.TheVariants as end
 use Rattle.sim_types.specs.declared.line.Line.{Line}
 use Rattle.sim_types.specs.declared.setup.Until.TheVariants as until
 use Rattle.sim_language.specs.Built.{is_built_scenario}
-use Rattle.sim_steps.specs.PartsOf.{PartsOf}
-use Rattle.sim_steps.specs.StandsFor.{StandsFor, LawfulOf}
-use Rattle.sim_steps.specs.declared.mode.Rest.{Rest}
-use Rattle.sim_steps.specs.declared.mode.Rest.TheVariants as rest
+use Rattle.sim_steps_model.specs.PartsOf.{PartsOf}
+use Rattle.sim_steps_model.specs.StandsFor.{StandsFor, LawfulOf}
+use Rattle.sim_steps_model.specs.declared.mode.Rest.{Rest}
+use Rattle.sim_steps_model.specs.declared.mode.Rest.TheVariants as rest
 use Rattle.sim_script_model.specs.Scripts.{Script}
 use Rattle.sim_script_law.specs.ScriptMembers.{script_body}
 use Rattle.sim_trace.specs.Texts.{trace_text}

@@ -1,7 +1,7 @@
 //! Runs a scenario and writes its trace.
 ghost use Rattle.std.specs.Prelude.{◌≡◌, ◌+◌, ◌<◌, ◌^◌, [], true, IfOk, OnOk, OnErr};
 ghost use Rattle.sim_outside.specs.Writes.{IsUnflushed, IsFlushedOnce, Writes};
-ghost use Rattle.sim_steps.specs.Resting.{CanStep, can_step};
+ghost use Rattle.sim_steps_model.specs.Resting.{CanStep, can_step};
 ghost use Rattle.sim_trace.specs.Texts.{line_text, trace_text};
 ghost use Rattle.sim_engine.specs.EngineFaults.{is_write};
 ghost use Rattle.sim_engine.specs.RunOfScenario.{end_of_scenario, trace_of_scenario, printed_trace};

@@ -10,11 +10,11 @@ use Rattle.sim_machine.specs.Standing.{left_of}
 use Rattle.sim_machine_law.proofs.OpeningLaws.{starts_open}
 use Rattle.sim_machine_law.proofs.WholeSteps.{lawful_opening}
 use Rattle.sim_happen_model.specs.HappenOf.{held}
-use Rattle.sim_steps.specs.PartsOf.{PartsOf, plan_of}
-use Rattle.sim_steps.specs.StandsFor.{StandsFor, LawfulOf}
-use Rattle.sim_steps.specs.Becoming.{AreAllKept}
+use Rattle.sim_steps_model.specs.PartsOf.{PartsOf, plan_of}
+use Rattle.sim_steps_model.specs.StandsFor.{StandsFor, LawfulOf}
+use Rattle.sim_steps_model.specs.Becoming.{AreAllKept}
 use Rattle.sim_kernel.specs.Holding.{Holds, most_opened}
-use Rattle.sim_steps.proofs.Running.{KeepsLaw}
+use Rattle.sim_steps_law.proofs.Running.{KeepsLaw}
 use Rattle.sim_kernel.proofs.StartingAll.{with_starts, events_of_starts}
 use Rattle.sim_kernel.proofs.Stopping.{opening_built, stop_events}
 

@@ -14,11 +14,11 @@ use Rattle.sim_machine.specs.Setups.{FitsCode}
 use Rattle.sim_machine.specs.Tellings.{CodeFacts}
 use Rattle.sim_machine.specs.Runs.{blank_state, start_process}
 use Rattle.sim_happen_model.specs.HappenOf.{held}
-use Rattle.sim_steps.specs.PartsOf.{PartsOf, plan_of}
-use Rattle.sim_steps.specs.StandsFor.{StandsFor, process_of}
-use Rattle.sim_steps.specs.Becoming.{AreAllKept}
-use Rattle.sim_steps.specs.Opening.{IsOpening, Starts}
-use Rattle.sim_steps.proofs.Starting.{of_process_events}
+use Rattle.sim_steps_model.specs.PartsOf.{PartsOf, plan_of}
+use Rattle.sim_steps_model.specs.StandsFor.{StandsFor, process_of}
+use Rattle.sim_steps_model.specs.Becoming.{AreAllKept}
+use Rattle.sim_steps_model.specs.Opening.{IsOpening, Starts}
+use Rattle.sim_steps_law.proofs.Starting.{of_process_events}
 
 -- the state in which these were started
 abbrev pub with_starts : {B : Type 0} → Plan B → List Start → State B

@@ -29,7 +29,7 @@ use Rattle.sim_machine.specs.Steps.{IsPoll, IsStepAt, IsStep, pop_entry, control
 use Rattle.sim_machine_law.proofs.EventLaws.{change_event-length, make-length}
 use Rattle.sim_machine_law.proofs.CallbackLaws.{callbacks_of-AllPass, left_of-told, left_of-rest}
 use Rattle.sim_machine_law.proofs.KeptTimesCases.{if_cases, timeout_cases, draw_cases, wait_cases, found_has}
-use Rattle.sim_steps.specs.Built.{AsksForBuilt, is_built, is_built_callback}
+use Rattle.sim_steps_model.specs.Built.{AsksForBuilt, is_built, is_built_callback}
 
 -- callbacks that are built, and registrations of such
 abbrev are_built : List Callback → Type 0

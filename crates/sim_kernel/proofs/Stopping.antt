@@ -25,14 +25,14 @@ use Rattle.sim_machine_law.proofs.OpeningLaws.{Opens, starts_open}
 use Rattle.sim_happen_model.specs.HappenOf.{HappenOf, held}
 use Rattle.sim_happen_model.specs.Shows.{Shows}
 use Rattle.sim_happen_law.proofs.Following.{read_is}
-use Rattle.sim_steps.specs.Becoming.{AreAllKept}
-use Rattle.sim_steps.specs.Built.{is_built_callback}
+use Rattle.sim_steps_model.specs.Becoming.{AreAllKept}
+use Rattle.sim_steps_model.specs.Built.{is_built_callback}
 use Rattle.sim_kernel.specs.Holding.{HasBuiltCallbacks}
-use Rattle.sim_steps.specs.Opening.{CanStop, SetsStop}
-use Rattle.sim_steps.specs.PartsOf.{PartsOf, plan_of}
-use Rattle.sim_steps.specs.StandsFor.{StandsFor}
-use Rattle.sim_steps.proofs.Keeping.{made_is_kept}
-use Rattle.sim_steps.proofs.Becoming.{stands_on_events}
+use Rattle.sim_steps_model.specs.Opening.{CanStop, SetsStop}
+use Rattle.sim_steps_model.specs.PartsOf.{PartsOf, plan_of}
+use Rattle.sim_steps_model.specs.StandsFor.{StandsFor}
+use Rattle.sim_steps_law.proofs.Keeping.{made_is_kept}
+use Rattle.sim_steps_law.proofs.Becoming.{stands_on_events}
 use Rattle.sim_kernel.proofs.StartingAll.{with_starts}
 
 -- ---- a run can be stopped as its setup says

@@ -5,15 +5,15 @@ use Rattle.sim_machine.specs.Bodies.{BodyOf}
 use Rattle.sim_machine.specs.Setups.{FitsCode}
 use Rattle.sim_machine_law.proofs.WholeSteps.{lawful_step}
 use Rattle.sim_events.specs.TableOf.{Spare}
-use Rattle.sim_steps.specs.declared.mode.Unit.{Unit}
-use Rattle.sim_steps.specs.PartsOf.{PartsOf, IsOpenedAs, plan_of, with_room}
-use Rattle.sim_steps.specs.StandsFor.{StandsFor, LawfulOf, StepOf}
-use Rattle.sim_steps.specs.Becoming.{Moves}
-use Rattle.sim_steps.specs.Built.{AsksForBuilt}
+use Rattle.sim_steps_model.specs.declared.mode.Unit.{Unit}
+use Rattle.sim_steps_model.specs.PartsOf.{PartsOf, IsOpenedAs, plan_of, with_room}
+use Rattle.sim_steps_model.specs.StandsFor.{StandsFor, LawfulOf, StepOf}
+use Rattle.sim_steps_model.specs.Becoming.{Moves}
+use Rattle.sim_steps_model.specs.Built.{AsksForBuilt}
 use Rattle.sim_kernel.specs.Holding.{Holds, HasBuiltCallbacks, IsBounded, most_opened, most_made}
 use Rattle.sim_kernel.specs.Stepping.{MakesStep}
-use Rattle.sim_steps.proofs.Rooms.{roomier_stands}
-use Rattle.sim_steps.proofs.Running.{KeepsLaw}
+use Rattle.sim_steps_law.proofs.Rooms.{roomier_stands}
+use Rattle.sim_steps_law.proofs.Running.{KeepsLaw}
 use Rattle.sim_kernel.proofs.StepAdds.{AddsLittle, step_adds}
 
 -- ---- the state after a unit is lawful, since the machine keeps what is lawful

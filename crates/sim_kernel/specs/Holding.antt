@@ -6,10 +6,10 @@ use Rattle.sim_machine.specs.Bodies.{BodyOf}
 use Rattle.sim_machine.specs.Setups.{FitsCode}
 use Rattle.sim_machine.specs.Standing.{left_of}
 use Rattle.sim_happen_model.specs.HappenOf.{held}
-use Rattle.sim_steps.specs.PartsOf.{PartsOf}
-use Rattle.sim_steps.specs.StandsFor.{StandsFor, LawfulOf}
-use Rattle.sim_steps.specs.Becoming.{AreAllKept}
-use Rattle.sim_steps.specs.Built.{is_built_callback}
+use Rattle.sim_steps_model.specs.PartsOf.{PartsOf}
+use Rattle.sim_steps_model.specs.StandsFor.{StandsFor, LawfulOf}
+use Rattle.sim_steps_model.specs.Becoming.{AreAllKept}
+use Rattle.sim_steps_model.specs.Built.{is_built_callback}
 
 -- only callbacks that are built are registered or left to call
 pub record HasBuiltCallbacks {B : Type 0} (s : State B) : Type 0 where

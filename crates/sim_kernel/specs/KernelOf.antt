@@ -1,6 +1,6 @@
 -- What contracts see of a kernel.
 use Rattle.std.specs.Prelude.{◌≡◌, ℕ}
-use Rattle.sim_steps.specs.PartsOf.{PartsOf, with_room}
+use Rattle.sim_steps_model.specs.PartsOf.{PartsOf, with_room}
 
 -- its parts, and how many units it has made
 pub record KernelOf (B Code : Type 0) : Type 0 where

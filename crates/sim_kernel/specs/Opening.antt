@@ -2,8 +2,8 @@
 use Rattle.std.specs.Prelude.{fold}
 use Rattle.sim_machine.specs.Bodies.{BodyOf}
 use Rattle.sim_machine.specs.Runs.{blank_state, start_process}
-use Rattle.sim_steps.specs.PartsOf.{PartsOf, plan_of}
-use Rattle.sim_steps.specs.StandsFor.{StandsFor}
+use Rattle.sim_steps_model.specs.PartsOf.{PartsOf, plan_of}
+use Rattle.sim_steps_model.specs.StandsFor.{StandsFor}
 
 -- the new kernel stands for the state in which all that run from the start were made, before it is said what stops the run
 abbrev pub HasMadeStarts : {B Code : Type 0} → BodyOf B Code → (old new : PartsOf B Code) → Type 0

@@ -2,9 +2,9 @@
 use Rattle.std.specs.Prelude.{◌≡◌, ◌++◌}
 use Rattle.sim_machine.specs.State.{State}
 use Rattle.sim_machine.specs.Bodies.{BodyOf}
-use Rattle.sim_steps.specs.PartsOf.{PartsOf}
-use Rattle.sim_steps.specs.StandsFor.{StandsFor, LawfulOf, StepOf, lines_of}
-use Rattle.sim_steps.specs.declared.mode.Unit.{Unit}
+use Rattle.sim_steps_model.specs.PartsOf.{PartsOf}
+use Rattle.sim_steps_model.specs.StandsFor.{StandsFor, LawfulOf, StepOf, lines_of}
+use Rattle.sim_steps_model.specs.declared.mode.Unit.{Unit}
 
 -- a step leads from s, a state of the machine that the old kernel was opened with, to a lawful state that the new one
 -- stands for, and adds the line answered

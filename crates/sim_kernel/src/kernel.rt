@@ -1,10 +1,10 @@
 //! A kernel stands for a lawful state of the machine, and makes one unit of it at a time.
 ghost use Rattle.std.specs.Prelude.{◌≡◌, ◌+◌, ◌<◌, ◌^◌, IfOk, OnOk, OnErr};
 ghost use Rattle.sim_machine.specs.Setups.{FitsCode};
-ghost use Rattle.sim_steps.specs.Built.{AsksForBuilt};
-ghost use Rattle.sim_steps.specs.PartsOf.{IsOpenedAs};
-ghost use Rattle.sim_steps.specs.Resting.{CanStep, rest_in};
-ghost use Rattle.sim_steps.specs.StandsFor.{IsLawfulOpening, StandsForOpening};
+ghost use Rattle.sim_steps_model.specs.Built.{AsksForBuilt};
+ghost use Rattle.sim_steps_model.specs.PartsOf.{IsOpenedAs};
+ghost use Rattle.sim_steps_model.specs.Resting.{CanStep, rest_in};
+ghost use Rattle.sim_steps_model.specs.StandsFor.{IsLawfulOpening, StandsForOpening};
 ghost use Rattle.sim_kernel.specs.KernelOf.{IsAsBefore};
 ghost use Rattle.sim_kernel.specs.Stepping.{MakesStep};
 

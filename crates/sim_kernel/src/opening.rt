@@ -2,10 +2,10 @@ ghost use Rattle.std.specs.Prelude.{◌≡◌, OnOk};
 ghost use Rattle.sim_machine.specs.Runs.{blank_state};
 ghost use Rattle.sim_machine.specs.Setups.{FitsCode};
 ghost use Rattle.sim_happen_model.specs.HappenOf.{held};
-ghost use Rattle.sim_steps.specs.Becoming.{AreAllKept};
-ghost use Rattle.sim_steps.specs.Opening.{KeepsButProcesses};
-ghost use Rattle.sim_steps.specs.PartsOf.{IsOpenedAs, plan_of};
-ghost use Rattle.sim_steps.specs.StandsFor.{StandsFor, StandsForOpening};
+ghost use Rattle.sim_steps_model.specs.Becoming.{AreAllKept};
+ghost use Rattle.sim_steps_model.specs.Opening.{KeepsButProcesses};
+ghost use Rattle.sim_steps_model.specs.PartsOf.{IsOpenedAs, plan_of};
+ghost use Rattle.sim_steps_model.specs.StandsFor.{StandsFor, StandsForOpening};
 ghost use Rattle.sim_kernel.specs.Holding.{Holds};
 ghost use Rattle.sim_kernel.specs.Opening.{HasMadeStarts};
 

@@ -1,13 +1,2 @@
--- resources in their places
-pub mod ResourcePlaces
+-- resources as they open
 pub mod OpenedResources
--- who waits
-pub mod WaitingEvents
-pub mod CancelledEvents
--- who uses
-pub mod ReleasedSlots
--- what is shown
-pub mod ShownCounts
-pub mod FollowingFacilities
--- events that are made, and events that go
-pub mod MadeEvents

@@ -6,8 +6,8 @@ ghost use Rattle.sim_machine.specs.MayAsk.{takes_requests};
 ghost use Rattle.sim_machine.specs.Users.{resource_at};
 ghost use Rattle.sim_events.specs.Changes.{more_events, more_callbacks};
 ghost use Rattle.sim_happen_model.specs.HappenOf.{KeepsRoom, gone_if_unheld, unheld_event};
-ghost use Rattle.sim_shared.specs.ShowsAll.{ShowsAll, FollowsAll, TurnsAll};
-ghost use Rattle.sim_shared.specs.Waiting.{AreAllOpen, LeavesRoom, WaitsAtMostAt, gone_if_waits, waits_anywhere, waits_in};
+ghost use Rattle.sim_shared_model.specs.ShowsAll.{ShowsAll, FollowsAll, TurnsAll};
+ghost use Rattle.sim_shared_model.specs.Waiting.{AreAllOpen, LeavesRoom, WaitsAtMostAt, gone_if_waits, waits_anywhere, waits_in};
 
 use crate::shared::Shared;
 use sim_types::{Callback, EventId, EventKind};

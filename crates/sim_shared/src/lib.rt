@@ -5,8 +5,6 @@
 mod leaving;
 mod making;
 mod opening;
-mod resource;
 mod shared;
 
-pub use resource::SharedResource;
 pub use shared::Shared;

@@ -5,7 +5,7 @@ ghost use Rattle.sim_machine.specs.Triggering as triggering;
 ghost use Rattle.sim_machine.specs.Trying.{on_calendar};
 ghost use Rattle.sim_events.specs.Changes.{more_events, more_callbacks};
 ghost use Rattle.sim_happen_model.specs.HappenOf.{IsOpen, unheld_event};
-ghost use Rattle.sim_shared.specs.ShowsAll.{FollowsAll, TurnsAll};
+ghost use Rattle.sim_shared_model.specs.ShowsAll.{FollowsAll, TurnsAll};
 
 use crate::shared::Shared;
 use sim_types::{Callback, EventId, EventKind};

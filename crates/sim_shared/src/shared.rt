@@ -5,14 +5,14 @@ ghost use Rattle.sim_types.specs.Setups.{resource_fits};
 ghost use Rattle.sim_machine.specs.State.{Facilities};
 ghost use Rattle.sim_machine.specs.Requests as requests;
 ghost use Rattle.sim_happen_model.specs.HappenOf.{held};
-ghost use Rattle.sim_shared.specs.declared.resource.SharedResource.{SharedResource};
-ghost use Rattle.sim_shared.specs.Resources.{count_at};
-ghost use Rattle.sim_shared.specs.SharedOf.{IsSameButRoom};
-ghost use Rattle.sim_shared.specs.ShowsAll.{ShowsAll};
+ghost use Rattle.sim_shared_model.specs.declared.resource.SharedResource.{SharedResource};
+ghost use Rattle.sim_shared_model.specs.Resources.{count_at};
+ghost use Rattle.sim_shared_model.specs.SharedOf.{IsSameButRoom};
+ghost use Rattle.sim_shared_model.specs.ShowsAll.{ShowsAll};
 ghost use Rattle.sim_shared.specs.Opening.{first_facilities};
 
 use crate::opening::open_all;
-use crate::resource::SharedResource;
+use sim_shared_model::SharedResource;
 use sim_happen::Happen;
 use sim_memo::Memo;
 use sim_types::{List, Resource};
@@ -40,8 +40,8 @@ pub struct Shared {
 }
 
 impl Model for Shared {
-    ghost use Rattle.sim_shared.specs.SharedOf.{SharedOf};
-    ghost use Rattle.sim_shared.specs.Places.{IsSoundShared};
+    ghost use Rattle.sim_shared_model.specs.SharedOf.{SharedOf};
+    ghost use Rattle.sim_shared_model.specs.Places.{IsSoundShared};
 
     ghost Value = { SharedOf };
 

@@ -9,12 +9,12 @@ ghost use Rattle.sim_machine.specs.Steps as steps;
 ghost use Rattle.sim_events.specs.TableOf.{IsKept, kept_at};
 ghost use Rattle.sim_happen_model.specs.HappenOf.{held};
 ghost use Rattle.sim_happen_model.specs.Shows.{Follows};
-ghost use Rattle.sim_steps.specs.Becoming.{AreAllKept, Becomes, Moves};
-ghost use Rattle.sim_steps.specs.Built.{is_built_callback};
-ghost use Rattle.sim_steps.specs.Calling.{called};
-ghost use Rattle.sim_steps.specs.PartsOf.{IsCalling, plan_of};
+ghost use Rattle.sim_steps_model.specs.Becoming.{AreAllKept, Becomes, Moves};
+ghost use Rattle.sim_steps_model.specs.Built.{is_built_callback};
+ghost use Rattle.sim_steps_model.specs.Calling.{called};
+ghost use Rattle.sim_steps_model.specs.PartsOf.{IsCalling, plan_of};
 
-use crate::mode::{Mode, Unit};
+use sim_steps_model::{Mode, Unit};
 use crate::parts::Parts;
 use sim_procs::Body;
 use sim_types::{Callback, End, EventId, EventKind, Line, Outcome, ProcId, Signal};

@@ -5,11 +5,10 @@
 mod calling;
 mod draw;
 mod making;
-mod mode;
 mod opening;
 mod operations;
 mod parts;
 mod polling;
 
-pub use mode::{Rest, Unit};
+pub use sim_steps_model::{Rest, Unit};
 pub use parts::Parts;

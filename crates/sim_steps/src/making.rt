@@ -3,8 +3,8 @@ ghost use Rattle.std.specs.Prelude.{◌≡◌, ◌<◌, ◌≤◌, ◌^◌, ◌+
 ghost use Rattle.sim_machine.specs.Runs.{first_calendar};
 ghost use Rattle.sim_happen_model.specs.HappenOf.{held};
 ghost use Rattle.sim_happen_model.specs.Shows.{Shows};
-ghost use Rattle.sim_steps.specs.Becoming.{AreAllKept};
-ghost use Rattle.sim_steps.specs.Opening.{next_process, next_init, MakesProcess, CanStop, SetsStop};
+ghost use Rattle.sim_steps_model.specs.Becoming.{AreAllKept};
+ghost use Rattle.sim_steps_model.specs.Opening.{next_process, next_init, MakesProcess, CanStop, SetsStop};
 
 use sim_happen::Happen;
 use sim_types::{Callback, EventId, EventKind, Outcome, ProcId, Until};

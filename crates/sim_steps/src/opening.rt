@@ -3,13 +3,13 @@ ghost use Rattle.sim_machine.specs.Runs.{blank_state};
 ghost use Rattle.sim_machine.specs.Setups.{FitsCode, start_fits};
 ghost use Rattle.sim_procs.specs.RecordOf.{record_of};
 ghost use Rattle.sim_happen_model.specs.HappenOf.{held};
-ghost use Rattle.sim_steps.specs.Becoming.{AreAllKept};
-ghost use Rattle.sim_steps.specs.PartsOf.{plan_of};
-ghost use Rattle.sim_steps.specs.StandsFor.{StandsFor};
-ghost use Rattle.sim_steps.specs.Opening.{Begins, CanStop, IsOpening, Starts, SetsStop, next_process, KeepsButHappen, KeepsButProcesses, KeepsButRoom};
+ghost use Rattle.sim_steps_model.specs.Becoming.{AreAllKept};
+ghost use Rattle.sim_steps_model.specs.PartsOf.{plan_of};
+ghost use Rattle.sim_steps_model.specs.StandsFor.{StandsFor};
+ghost use Rattle.sim_steps_model.specs.Opening.{Begins, CanStop, IsOpening, Starts, SetsStop, next_process, KeepsButHappen, KeepsButProcesses, KeepsButRoom};
 
 use crate::making::{make_process, named_events, set_stop};
-use crate::mode::Mode;
+use sim_steps_model::Mode;
 use crate::parts::Parts;
 use rand_core::SeedableRng;
 use rand_pcg::Pcg64;

@@ -7,8 +7,8 @@ ghost use Rattle.sim_procs.specs.RecordOf.{record_of};
 ghost use Rattle.sim_events.specs.TableOf.{IsKept, kept_at};
 ghost use Rattle.sim_happen_model.specs.HappenOf.{IsOpen};
 ghost use Rattle.sim_happen_model.specs.Shows.{Follows};
-ghost use Rattle.sim_steps.specs.Becoming.{Becomes};
-ghost use Rattle.sim_steps.specs.PartsOf.{HasUnitRoom, IsRunningIn, plan_of};
+ghost use Rattle.sim_steps_model.specs.Becoming.{Becomes};
+ghost use Rattle.sim_steps_model.specs.PartsOf.{HasUnitRoom, IsRunningIn, plan_of};
 
 use crate::draw::number_between;
 use crate::parts::Parts;

@@ -3,13 +3,13 @@ ghost use Rattle.std.specs.List.{AllPass};
 ghost use Rattle.sim_machine.specs.Processes.{told_more, not_active};
 ghost use Rattle.sim_machine.specs.Standing.{left_of};
 ghost use Rattle.sim_happen_model.specs.HappenOf.{held};
-ghost use Rattle.sim_steps.specs.Becoming.{AreAllKept, Moves};
-ghost use Rattle.sim_steps.specs.Built.{AsksForBuilt, is_built_callback};
-ghost use Rattle.sim_steps.specs.Resting.{CanStep, rest_in};
-ghost use Rattle.sim_steps.specs.PartsOf.{HasUnitRoom, IsRunningIn, IsRunningAt, with_room};
-ghost use Rattle.sim_steps.specs.StandsFor.{StandsForSome};
+ghost use Rattle.sim_steps_model.specs.Becoming.{AreAllKept, Moves};
+ghost use Rattle.sim_steps_model.specs.Built.{AsksForBuilt, is_built_callback};
+ghost use Rattle.sim_steps_model.specs.Resting.{CanStep, rest_in};
+ghost use Rattle.sim_steps_model.specs.PartsOf.{HasUnitRoom, IsRunningIn, IsRunningAt, with_room};
+ghost use Rattle.sim_steps_model.specs.StandsFor.{StandsForSome};
 
-use crate::mode::{Mode, Rest, Unit};
+use sim_steps_model::{Mode, Rest, Unit};
 use rand_pcg::Pcg64;
 use sim_happen::Happen;
 use sim_memo::Memo;
@@ -37,7 +37,7 @@ pub struct Parts<B: Body> {
 }
 
 impl<B: Body> Model for Parts<B> {
-    ghost use Rattle.sim_steps.specs.PartsOf.{PartsOf, control_of, NoneLeftIdle};
+    ghost use Rattle.sim_steps_model.specs.PartsOf.{PartsOf, control_of, NoneLeftIdle};
 
     ghost Value = { PartsOf B B.Code };
 

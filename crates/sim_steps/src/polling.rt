@@ -1,13 +1,13 @@
 //! A process is polled, and what it asks for is done.
 ghost use Rattle.std.specs.Prelude.{◌≡◌, ◌<◌, ◌≤◌, ◌^◌, IsTrue, length};
-ghost use Rattle.sim_steps.specs.Becoming.{AreAllKept, Moves};
-ghost use Rattle.sim_steps.specs.Built.{AsksForBuilt, is_built};
-ghost use Rattle.sim_steps.specs.PartsOf.{HasUnitRoom, IsRunning};
-ghost use Rattle.sim_steps.specs.Polling.{Asks};
-ghost use Rattle.sim_steps.specs.StandsFor.{StandsForSome};
+ghost use Rattle.sim_steps_model.specs.Becoming.{AreAllKept, Moves};
+ghost use Rattle.sim_steps_model.specs.Built.{AsksForBuilt, is_built};
+ghost use Rattle.sim_steps_model.specs.PartsOf.{HasUnitRoom, IsRunning};
+ghost use Rattle.sim_steps_model.specs.Polling.{Asks};
+ghost use Rattle.sim_steps_model.specs.StandsFor.{StandsForSome};
 ghost use Rattle.sim_happen_model.specs.HappenOf.{held};
 
-use crate::mode::Unit;
+use sim_steps_model::Unit;
 use crate::parts::Parts;
 use sim_procs::Body;
 use sim_types::{EventId, Line, Op, Outcome, ProcId, Signal};

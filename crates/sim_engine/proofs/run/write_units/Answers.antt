@@ -1,6 +1,6 @@
 use Rattle.std.proofs.Common.{◌≡◌, ◌+◌, ◌≤◌, false, [], refl, sym, subst, ap, ◌∙◌, arith}
 use Rattle.sim_outside.proofs.Written.{told_err, none_to_write, as_well, as_failed, both_written, cut_behind}
-use Rattle.sim_steps.specs.Resting.{can_step, rest_of}
+use Rattle.sim_steps_model.specs.Resting.{can_step, rest_of}
 use Rattle.sim_trace.specs.Texts.{trace_text}
 use Rattle.sim_engine.specs.EngineFaults.{is_write}
 use Rattle.sim_engine.specs.StandsForRun.{StandsForRun}

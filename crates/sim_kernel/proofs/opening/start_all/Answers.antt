@@ -1,6 +1,6 @@
 use Rattle.std.proofs.Common.{◌≡◌, ◌<◌, length, refl, ap, ◌∙◌}
 use Rattle.std.specs.Prelude.{slice_index_or}
-use Rattle.sim_steps.specs.PartsOf.{plan_of}
+use Rattle.sim_steps_model.specs.PartsOf.{plan_of}
 use Rattle.sim_kernel.proofs.StartingAll.{blank_opening, starts_few, kept_on, next_stands}
 use Rattle.sim_kernel.proofs.opening.start_all.Goals as goal
 

@@ -1,7 +1,7 @@
 use Rattle.std.proofs.Common.{◌≡◌, take}
-use Rattle.sim_steps.specs.PartsOf.{plan_of}
-use Rattle.sim_steps.specs.StandsFor.{StandsFor}
-use Rattle.sim_steps.specs.Opening.{IsOpening}
+use Rattle.sim_steps_model.specs.PartsOf.{plan_of}
+use Rattle.sim_steps_model.specs.StandsFor.{StandsFor}
+use Rattle.sim_steps_model.specs.Opening.{IsOpening}
 use Rattle.sim_kernel.proofs.StartingAll.{with_starts}
 use Rattle.sim_kernel.proofs.opening.start_all.Given as goal
 

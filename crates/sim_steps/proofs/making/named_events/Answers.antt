@@ -1,8 +1,8 @@
 use Rattle.std.proofs.Common.{◌≡◌, ◌+◌, ◌∙◌, subst, arith}
 use Rattle.sim_machine.specs.Runs.{first_calendar}
 use Rattle.sim_happen_model.specs.Shows.{Shows}
-use Rattle.sim_steps.proofs.Rooms.{roomier_shows}
-use Rattle.sim_steps.proofs.Made.{named_shown, named_kept, events_named}
+use Rattle.sim_steps_law.proofs.Rooms.{roomier_shows}
+use Rattle.sim_steps_law.proofs.Made.{named_shown, named_kept, events_named}
 use Rattle.sim_steps.proofs.making.named_events.Goals as goal
 
 pub loop-made-preserved : goal.loop-made-preserved

@@ -2,7 +2,7 @@ use Rattle.std.proofs.Common.{◌≡◌, ◌+◌, [], length}
 use Rattle.sim_machine.specs.Runs.{first_calendar}
 use Rattle.sim_happen_model.specs.HappenOf.{held}
 use Rattle.sim_happen_model.specs.Shows.{Shows}
-use Rattle.sim_steps.specs.Becoming.{AreAllKept}
+use Rattle.sim_steps_model.specs.Becoming.{AreAllKept}
 use Rattle.sim_steps.proofs.making.named_events.Given as goal
 
 -- so many named events are made

@@ -1,6 +1,6 @@
 use Rattle.std.proofs.Common.{◌≡◌, ◌∙◌, sym, ap, subst}
-use Rattle.sim_steps.specs.Built.{AsksForBuilt}
-use Rattle.sim_steps.specs.Becoming.{Moves}
+use Rattle.sim_steps_model.specs.Built.{AsksForBuilt}
+use Rattle.sim_steps_model.specs.Becoming.{Moves}
 use Rattle.sim_kernel.proofs.Units.{unit_steps, unit_holds}
 use Rattle.sim_kernel.proofs.kernel.Kernel.unit.Goals as goal
 

@@ -1,5 +1,5 @@
 use Rattle.sim_procs.specs.Premises.{CanBeTold}
-use Rattle.sim_steps.proofs.Running.{running_alive, running_can_be_told}
+use Rattle.sim_steps_law.proofs.Running.{running_alive, running_can_be_told}
 use Rattle.sim_steps.proofs.parts.Parts.ask.Goals as goal
 
 pub body_mut-requires : goal.body_mut-requires

@@ -5,8 +5,8 @@ use Rattle.sim_types.specs.declared.event.Callback.{Callback}
 use Rattle.sim_types.specs.declared.event.Callback.TheVariants as callback
 use Rattle.sim_machine.specs.State.{Control, Calling}
 use Rattle.sim_machine.specs.Standing.{left_of}
-use Rattle.sim_steps.specs.Built.{is_built_callback}
-use Rattle.sim_steps.proofs.Calls.{calling_is, fewer_left, called_moves, becomes_fewer, becomes_called}
+use Rattle.sim_steps_model.specs.Built.{is_built_callback}
+use Rattle.sim_steps_law.proofs.Calls.{calling_is, fewer_left, called_moves, becomes_fewer, becomes_called}
 use Rattle.sim_steps.proofs.parts.Parts.call.Goals as goal
 
 pub returns-in-None : goal.returns-in-None

@@ -1,6 +1,6 @@
 use Rattle.std.proofs.Common.{rules, w64, FitsSigned, ◌∙◌}
 use Rattle.std.proofs.lemmas.Int.{to_z-of_z}
-use Rattle.sim_steps.proofs.Polls.{drawn_becomes}
+use Rattle.sim_steps_law.proofs.Polls.{drawn_becomes}
 use Rattle.sim_steps.proofs.parts.Parts.draw.Goals as goal
 
 pub returns-else-hi-lo : goal.returns-else-hi-lo

@@ -1,5 +1,5 @@
 use Rattle.std.proofs.Common.{refl, sym, ◌∙◌}
-use Rattle.sim_steps.proofs.Ending.{ended_becomes}
+use Rattle.sim_steps_law.proofs.Ending.{ended_becomes}
 use Rattle.sim_steps.proofs.parts.Parts.end.Goals as goal
 
 pub returns : goal.returns

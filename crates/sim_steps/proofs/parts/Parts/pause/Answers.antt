@@ -1,7 +1,7 @@
 use Rattle.std.proofs.Common.{rules, ◌∙◌, ap, refl, Err, w64, FitsSigned}
 use Rattle.std.proofs.lemmas.Int.{to_z-of_z}
-use Rattle.sim_steps.proofs.Signed.{is_below, not_below, no_error, not_late, late_is}
-use Rattle.sim_steps.proofs.Waiting.{timeout_made, paused_becomes, negative_becomes, late_becomes}
+use Rattle.sim_steps_law.proofs.Signed.{is_below, not_below, no_error, not_late, late_is}
+use Rattle.sim_steps_law.proofs.Waiting.{timeout_made, paused_becomes, negative_becomes, late_becomes}
 use Rattle.sim_steps.proofs.parts.Parts.pause.Goals as goal
 
 pub wait-requires-clause-unprocessed : goal.wait-requires-clause-unprocessed

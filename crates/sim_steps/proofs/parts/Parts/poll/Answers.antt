@@ -2,11 +2,11 @@ use Rattle.std.proofs.Common.{rules, w64, FitsSigned, ◌∙◌, ap, refl}
 use Rattle.std.proofs.lemmas.Int.{to_z-of_z}
 use Rattle.sim_types.specs.declared.event.Signal.TheVariants as signal
 use Rattle.sim_types.specs.declared.op.Op.TheVariants as op
-use Rattle.sim_steps.specs.declared.mode.Unit.TheVariants as unit
-use Rattle.sim_steps.specs.PartsOf.{PartsOf}
-use Rattle.sim_steps.proofs.Becoming.{becomes_told}
-use Rattle.sim_steps.proofs.Polls.{polled_moves, logged_moves}
-use Rattle.sim_steps.proofs.Ending.{polled_alive, ended_scopes, polled_open}
+use Rattle.sim_steps_model.specs.declared.mode.Unit.TheVariants as unit
+use Rattle.sim_steps_model.specs.PartsOf.{PartsOf}
+use Rattle.sim_steps_law.proofs.Becoming.{becomes_told}
+use Rattle.sim_steps_law.proofs.Polls.{polled_moves, logged_moves}
+use Rattle.sim_steps_law.proofs.Ending.{polled_alive, ended_scopes, polled_open}
 use Rattle.sim_steps.proofs.parts.Parts.poll.Goals as goal
 
 pub pause-requires-clause-alive : goal.pause-requires-clause-alive

@@ -1,6 +1,6 @@
 use Rattle.std.proofs.Common.{◌≡◌, refl, ◌∙◌}
-use Rattle.sim_steps.proofs.Starting.{start_can_begin, next_not_alive}
-use Rattle.sim_steps.proofs.Beginning.{begun_starts, begun_opening}
+use Rattle.sim_steps_law.proofs.Starting.{start_can_begin, next_not_alive}
+use Rattle.sim_steps_law.proofs.Beginning.{begun_starts, begun_opening}
 use Rattle.sim_steps.proofs.parts.Parts.start.Goals as goal
 
 pub fill-requires : goal.fill-requires

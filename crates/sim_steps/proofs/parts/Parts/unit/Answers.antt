@@ -1,6 +1,6 @@
 use Rattle.std.proofs.Common.{refl}
-use Rattle.sim_steps.proofs.Keeping.{made_is_kept}
-use Rattle.sim_steps.proofs.Calls.{calling_made}
+use Rattle.sim_steps_law.proofs.Keeping.{made_is_kept}
+use Rattle.sim_steps_law.proofs.Calls.{calling_made}
 use Rattle.sim_steps.proofs.parts.Parts.unit.Goals as goal
 
 pub call-requires-clause-kept : goal.call-requires-clause-kept

@@ -1,5 +1,5 @@
 use Rattle.std.proofs.Common.{◌∙◌, refl}
-use Rattle.sim_steps.proofs.Waiting.{waited_becomes}
+use Rattle.sim_steps_law.proofs.Waiting.{waited_becomes}
 use Rattle.sim_steps.proofs.parts.Parts.wait.Goals as goal
 
 pub returns : goal.returns

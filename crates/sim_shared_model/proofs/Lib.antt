@@ -1,0 +1,2 @@
+-- who waits
+pub mod AmongEvents

@@ -1,0 +1,9 @@
+-- what contracts see
+pub mod Resources
+pub mod SharedOf
+pub mod ShowsAll
+pub mod Making
+pub mod Waiting
+pub mod Using
+-- how it is kept
+pub mod Places

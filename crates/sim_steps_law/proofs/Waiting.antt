@@ -1,0 +1,108 @@
+-- A process that pauses waits for its timeout, as the machine has it.
+use Rattle.std.proofs.Common.{◌≡◌, ◌+◌, ℤ, pos, ◌+ℤ◌, ◌^◌, Some, true, false, ◌∷◌, refl, sym, ap, subst, ◌∙◌}
+use Rattle.std.specs.Prelude.{int_lt, length}
+use Rattle.sim_types.specs.declared.event.EventId.{EventId}
+use Rattle.sim_types.specs.declared.event.ProcId.{ProcId}
+use Rattle.sim_types.specs.declared.event.EventKind.TheVariants as kind
+use Rattle.sim_types.specs.declared.event.Callback.TheVariants as callback
+use Rattle.sim_types.specs.declared.event.Outcome.TheVariants as outcome
+use Rattle.sim_types.specs.declared.event.Signal.TheVariants as signal
+use Rattle.sim_machine.specs.State.{EventOf, Calendar, State}
+use Rattle.sim_machine.specs.Events.{is_processed, next_event, register}
+use Rattle.sim_machine.specs.Triggering.{normal, make, make_timeout}
+use Rattle.sim_machine.specs.Scopes.{on_events}
+use Rattle.sim_machine.specs.Processes.{change_process, tell, rest, told_more, not_active, wait}
+use Rattle.sim_machine.specs.Effect.{calendar, with_timeout}
+use Rattle.sim_machine_law.proofs.EventLaws.{change_event-keeps, make-new}
+use Rattle.sim_procs.specs.RecordOf.{change_record}
+use Rattle.sim_events.specs.TableOf.{IsKept, kept_at}
+use Rattle.sim_happen_model.specs.HappenOf.{HappenOf, unheld_event}
+use Rattle.sim_happen_model.specs.Shows.{Turns, Follows}
+use Rattle.sim_happen_model.specs.Seen.{seen}
+use Rattle.sim_happen_law.proofs.Following.{read_is, event_then}
+use Rattle.sim_happen_law.proofs.NewEvents.{kept_last, next_is}
+use Rattle.sim_happen_law.proofs.SeenShown.{shows_seen}
+use Rattle.sim_steps_model.specs.PartsOf.{PartsOf}
+use Rattle.sim_steps_model.specs.Becoming.{Stands, Becomes}
+use Rattle.sim_steps_law.proofs.Becoming.{becomes_then, becomes_as, becomes_followed, becomes_made, becomes_changed, becomes_rested, becomes_told}
+
+-- ---- to wait
+
+-- a process waits for an event that is not processed
+pub waited_becomes : {B Code : Type 0} (a n : PartsOf B Code) (x : HappenOf) (e : EventId) (p : ProcId) → IsKept a.happen.events e →
+    (kept_at a.happen.events e).event.processed ≡ false → Follows (register e (callback.Resume p)) a.happen x →
+    n ≡ record a { happen = x; live = change_record p (λ r. record r { target = e }) a.live; control = not_active a.control } →
+    Becomes (wait e p) a n
+waited_becomes {B} {Code} a n x e p kept unprocessed follows is =
+    let registered : State B → State B = on_events (register e (callback.Resume p)) in
+    let targeted : State B → State B = change_process p (λ y. record y { target = e }) in
+    let b : PartsOf B Code = record a { happen = x } in
+    let c : PartsOf B Code = record b { live = change_record p (λ r. record r { target = e }) b.live } in
+    let d : PartsOf B Code = record c { control = not_active c.control } in
+    let waits : Becomes (λ s. targeted (registered s)) a c =
+    becomes_then registered targeted a b c (becomes_followed (register e (callback.Resume p)) a x follows)
+    (becomes_changed p (λ r. record r { target = e }) (λ y. record y { target = e }) b (λ r. refl) (λ r. refl) (λ r. refl) (λ y. refl)) in
+    let all : Becomes (λ s. rest (targeted (registered s))) a d = becomes_then (λ s. targeted (registered s)) rest a c d waits (becomes_rested c) in
+    let processed : (s : State B) → Stands a s → is_processed (calendar s) e ≡ false = λ s h.
+    ap (λ (y : EventOf). y.processed) (sym (read_is a.happen (calendar s) e kept h.stands.calendar)) ∙ unprocessed in
+    subst (Becomes (wait e p) a) (sym is) (becomes_as (λ s. rest (targeted (registered s))) (wait e p) a d (λ s h. rw (processed s h) refl) all)
+
+-- ---- to make a timeout
+
+-- a timeout is not processed as soon as it is made
+timeout_unprocessed : (delay value : ℤ) (c : Calendar) → is_processed (make_timeout delay value c) (next_event c) ≡ false
+timeout_unprocessed delay value c =
+    let d : Calendar = record (make kind.Timeout c) {
+      scheduled = c.scheduled + 1;
+      agenda = record { key = record { time = c.time +ℤ delay; priority = normal; number = c.scheduled }; event = next_event c } ∷ c.agenda;
+    } in
+    change_event-keeps (λ x. x.processed) (next_event c) (next_event c) (λ y. record y { outcome = Some (outcome.Ok value) }) d (λ x. refl)
+    ∙ ap (λ (x : EventOf). x.processed) (make-new kind.Timeout c)
+
+-- it is kept, and not processed
+pub timeout_made : (a x : HappenOf) (e : EventId) (delay value : ℤ) → Turns (make_timeout delay value) unheld_event a x → e.0 ≡ length a.events →
+    (kept_at x.events e).event.processed ≡ false
+timeout_made a x e delay value t same =
+    let kept : IsKept x.events e = kept_last a x e t.held same in
+    let new : is_processed (make_timeout delay value (seen a)) e ≡ false =
+    subst (λ f. is_processed (make_timeout delay value (seen a)) f ≡ false) (next_is a (seen a) e same (shows_seen a)) (timeout_unprocessed delay value (seen a)) in
+    ap (λ (y : EventOf). y.processed) (event_then (make_timeout delay value) unheld_event a x e t kept) ∙ new
+
+-- ---- to pause
+
+-- whether the delay is negative, or leads beyond the last time
+in_time : {B : Type 0} (delay value : ℤ) (after : EventId → State B → State B) (s : State B) → int_lt delay (pos 0) ≡ false →
+    int_lt (pos (2 ^ 62)) ((calendar s).time +ℤ delay) ≡ false →
+    with_timeout delay value after s ≡ after (next_event (calendar s)) (on_events (make_timeout delay value) s)
+in_time delay value after s h k = rw (h, k) refl
+
+pub paused_becomes : {B Code : Type 0} (a m n : PartsOf B Code) (e : EventId) (p : ProcId) (delay value : ℤ) → int_lt delay (pos 0) ≡ false →
+    int_lt (pos (2 ^ 62)) (a.happen.time +ℤ delay) ≡ false → Turns (make_timeout delay value) unheld_event a.happen m.happen →
+    e.0 ≡ length a.happen.events → m ≡ record a { happen = m.happen } → Becomes (wait e p) m n →
+    Becomes (with_timeout delay value (λ f s. wait f p s)) a n
+paused_becomes {B} {Code} a m n e p delay value positive soon made same is waits =
+    let makes : State B → State B = on_events (make_timeout delay value) in
+    let makes_it : Becomes makes a m = subst (Becomes makes a) (sym is) (becomes_made (make_timeout delay value) a m.happen made) in
+    let after : EventId → State B → State B = λ f s. wait f p s in
+    becomes_as (λ s. wait e p (makes s)) (with_timeout delay value after) a n
+    (λ s h.
+    let soon_too : int_lt (pos (2 ^ 62)) ((calendar s).time +ℤ delay) ≡ false = subst (λ t. int_lt (pos (2 ^ 62)) (t +ℤ delay) ≡ false) h.stands.calendar.time soon in
+    ap (λ f. wait f p (makes s)) (sym (next_is a.happen (calendar s) e same h.stands.calendar)) ∙ sym (in_time delay value after s positive soon_too))
+    (becomes_then makes (wait e p) a m n makes_it waits)
+
+pub negative_becomes : {B Code : Type 0} (a n : PartsOf B Code) (p : ProcId) (delay value : ℤ) → int_lt delay (pos 0) ≡ true →
+    n ≡ record a { control = told_more (signal.Raised 1) a.control } → Becomes (with_timeout delay value (λ f s. wait f p s)) a n
+negative_becomes a n p delay value negative is =
+    subst (Becomes (with_timeout delay value (λ f s. wait f p s)) a) (sym is)
+    (becomes_as (tell (signal.Raised 1)) (with_timeout delay value (λ f s. wait f p s)) a _ (λ s h. rw negative refl) (becomes_told (signal.Raised 1) a))
+
+pub late_becomes : {B Code : Type 0} (a n : PartsOf B Code) (p : ProcId) (delay value : ℤ) → int_lt delay (pos 0) ≡ false →
+    int_lt (pos (2 ^ 62)) (a.happen.time +ℤ delay) ≡ true → n ≡ record a { control = told_more (signal.Raised 9) a.control } →
+    Becomes (with_timeout delay value (λ f s. wait f p s)) a n
+late_becomes a n p delay value positive late is =
+    subst (Becomes (with_timeout delay value (λ f s. wait f p s)) a) (sym is)
+    (becomes_as (tell (signal.Raised 9)) (with_timeout delay value (λ f s. wait f p s)) a _
+    (λ s h.
+    let late_too : int_lt (pos (2 ^ 62)) ((calendar s).time +ℤ delay) ≡ true = subst (λ t. int_lt (pos (2 ^ 62)) (t +ℤ delay) ≡ true) h.stands.calendar.time late in
+    rw (positive, late_too) refl)
+    (becomes_told (signal.Raised 9) a))
