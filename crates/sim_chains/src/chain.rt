@@ -3,6 +3,7 @@ ghost use Rattle.std.specs.Prelude.{◌≡◌, ◌≢◌, suc, ◌+◌, ◌-◌,
 ghost use Rattle.std.specs.List.{list_any};
 ghost use Rattle.slab.specs.Slab.{slab_len, HasRoomFor};
 ghost use Rattle.sim_machine.specs.Events.{without_first};
+ghost use Rattle.sim_machine.specs.Users.{first_of_list};
 ghost use Rattle.sim_machine.specs.Standing.{one_if};
 ghost use Rattle.sim_chains.specs.Callbacks.{is_same_callback};
 ghost use Rattle.sim_chains.specs.Chains.{callbacks_in, IsChain, IsEmpty};
@@ -87,6 +88,17 @@ impl Chain {
         nodes[self.last].next = key;
         self.last = key;
         self.count += 1;
+    }
+
+    /// The first callback, if there is one.
+    pub(crate) fn first(&self, nodes: &Slab<Node>) -> Option<Callback>
+        requires { IsChain nodes.now self.now }
+        ensures { result ≡ first_of_list (callbacks_in nodes.now self.now) }
+    {
+        if self.count == 0 {
+            return None;
+        }
+        Some(nodes[self.first].callback)
     }
 
     /// Takes out the first callback, if there is one.

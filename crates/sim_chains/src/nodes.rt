@@ -1,6 +1,7 @@
 ghost use Rattle.std.specs.Prelude.{◌≡◌, ◌+◌, ◌<◌, ◌≤◌, [], ◌∷◌, ◌++◌, length, is_some, IsOk, OnOk};
 ghost use Rattle.std.specs.List.{list_any};
 ghost use Rattle.sim_machine.specs.Events.{without_first};
+ghost use Rattle.sim_machine.specs.Users.{first_of_list};
 ghost use Rattle.sim_machine.specs.Standing.{one_if};
 ghost use Rattle.sim_chains.specs.Callbacks.{is_same_callback};
 ghost use Rattle.sim_chains.specs.Chains.{callbacks_in, spare_in, IsChain};
@@ -67,6 +68,14 @@ impl Nodes {
         ensures spare { spare_in self.new + 1 ≡ spare_in self.old }
     {
         chain.append(&mut self.slab, callback);
+    }
+
+    /// The first callback of a chain, if there is one. No other is looked at.
+    pub fn first(&self, chain: &Chain) -> Option<Callback>
+        requires { IsChain self.now chain.now }
+        ensures { result ≡ first_of_list (callbacks_in self.now chain.now) }
+    {
+        chain.first(&self.slab)
     }
 
     /// Takes out the first callback of a chain, if there is one.

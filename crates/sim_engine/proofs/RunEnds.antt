@@ -36,15 +36,15 @@ empty_as_well (Active e left p x) scenario kept agenda never same = refl
 empty_as_well (Over why e left) scenario kept agenda never same = refl
 
 rest_tells : (scenario : ScenarioOf) (n : ℕ) (parts : PartsOf Script ScenarioOf) → StandsForRun scenario n parts
-    → ended_at (rest_of parts.control parts.happen.agenda) ≡ end_of (plan_of_scenario scenario) (run_of_scenario scenario n)
+    → ended_at (rest_of parts.control parts.shared.happen.agenda) ≡ end_of (plan_of_scenario scenario) (run_of_scenario scenario n)
 rest_tells scenario n parts h =
     let m = run_of_scenario scenario n in
     rw (no_arrival_left scenario n h.journal)
-    (rw (← h.stands.control) (empty_as_well parts.control scenario parts.happen.agenda (calendar m.state).agenda h.until (length_permutation (calendar m.state).agenda parts.happen.agenda h.stands.calendar.agenda)))
+    (rw (← h.stands.control) (empty_as_well parts.control scenario parts.shared.happen.agenda (calendar m.state).agenda h.until (length_permutation (calendar m.state).agenda parts.shared.happen.agenda h.stands.facilities.calendar.agenda)))
 
 -- so it tells how the run is said to have ended
 pub end_is : (scenario : ScenarioOf) (n : ℕ) (parts : PartsOf Script ScenarioOf) → StandsForRun scenario n parts
-    → stopped_at (rest_of parts.control parts.happen.agenda) ≡ end_of_scenario scenario n
+    → stopped_at (rest_of parts.control parts.shared.happen.agenda) ≡ end_of_scenario scenario n
 end_is scenario n parts h = ap (λ o. unwrap_or o end.Limit) (rest_tells scenario n parts h)
 
 -- ---- a run that has ended
@@ -56,17 +56,17 @@ no_step_is_end rest.Empty h = (end.Empty, refl)
 no_step_is_end (rest.Over why) h = (why, refl)
 
 run_stays : (scenario : ScenarioOf) (n limit : ℕ) (parts : PartsOf Script ScenarioOf) → StandsForRun scenario n parts
-    → can_step (rest_of parts.control parts.happen.agenda) ≡ false → n ≤ limit
+    → can_step (rest_of parts.control parts.shared.happen.agenda) ≡ false → n ≤ limit
     → run_of_scenario scenario limit ≡ run_of_scenario scenario n
 run_stays scenario n limit parts h none within =
-    let why = no_step_is_end (rest_of parts.control parts.happen.agenda) none in
+    let why = no_step_is_end (rest_of parts.control parts.shared.happen.agenda) none in
     let stays = ended_stays_on (plan_of_scenario scenario) (script_turn scenario.code) (opening_course (plan_of_scenario scenario) scenario.journal) n why.0 (sym (rest_tells scenario n parts h) ∙ why.1) (limit - n) in
     let all : n + (limit - n) ≡ limit = omega (arith, within) in
     subst (λ k. run_of_scenario scenario k ≡ run_of_scenario scenario n) all stays
 
 -- the kernel that makes no more steps stands for the whole run
 pub stands_for_whole : (scenario : ScenarioOf) (n limit : ℕ) (parts : PartsOf Script ScenarioOf)
-    → StandsForRun scenario n parts → can_step (rest_of parts.control parts.happen.agenda) ≡ false → n ≤ limit
+    → StandsForRun scenario n parts → can_step (rest_of parts.control parts.shared.happen.agenda) ≡ false → n ≤ limit
     → StandsForRun scenario limit parts
 stands_for_whole scenario n limit parts h none within =
     let same = run_stays scenario n limit parts h none within in
@@ -83,6 +83,6 @@ stands_for_whole scenario n limit parts h none within =
 
 -- and has written all lines
 pub lines_whole : (scenario : ScenarioOf) (n limit : ℕ) (parts : PartsOf Script ScenarioOf) → StandsForRun scenario n parts
-    → can_step (rest_of parts.control parts.happen.agenda) ≡ false → n ≤ limit
+    → can_step (rest_of parts.control parts.shared.happen.agenda) ≡ false → n ≤ limit
     → (run_of_scenario scenario limit).state.lines ≡ (run_of_scenario scenario n).state.lines
 lines_whole scenario n limit parts h none within = ap (λ m. m.state.lines) (run_stays scenario n limit parts h none within)

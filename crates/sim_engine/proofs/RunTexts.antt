@@ -108,11 +108,11 @@ none_added scenario n answer h is = rw h (rw is refl)
 
 -- the line on the end, as the kernel tells it
 abbrev pub finish_of : PartsOf Script ScenarioOf → Line
-finish_of parts = line.Finish (stopped_at (rest_of parts.control parts.happen.agenda)) parts.happen.time parts.processed
+finish_of parts = line.Finish (stopped_at (rest_of parts.control parts.shared.happen.agenda)) parts.shared.happen.time parts.processed
 
 pub finish_is : (parts : PartsOf Script ScenarioOf) (rest : Rest) (end : End) (finish : Line)
-    → rest ≡ rest_of parts.control parts.happen.agenda → end ≡ stopped_at rest
-    → finish ≡ line.Finish end parts.happen.time parts.processed → finish ≡ finish_of parts
+    → rest ≡ rest_of parts.control parts.shared.happen.agenda → end ≡ stopped_at rest
+    → finish ≡ line.Finish end parts.shared.happen.time parts.processed → finish ≡ finish_of parts
 finish_is parts rest end finish stands ended is = is ∙ rw (ended, stands) refl
 
 -- the text of the whole trace
@@ -122,7 +122,7 @@ pub trace_is : (scenario : ScenarioOf) (limit : ℕ) (parts : PartsOf Script Sce
 trace_is scenario limit parts finish h is =
     let m = run_of_scenario scenario limit in
     let last : Line = line.Finish (end_of_scenario scenario limit) (calendar m.state).time m.state.processed in
-    let same : finish ≡ last = is ∙ rw (end_is scenario limit parts h, h.stands.calendar.time, h.stands.processed) refl in
+    let same : finish ≡ last = is ∙ rw (end_is scenario limit parts h, h.stands.facilities.calendar.time, h.stands.processed) refl in
     text_append (lines_after scenario limit) (last ∷ []) ∙ ap (λ t. trace_text [] (lines_after scenario limit) ++ t) (text_one last ∙ ap (line_text []) (sym same))
 
 -- the text of the line on the end

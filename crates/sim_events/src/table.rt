@@ -2,6 +2,7 @@ ghost use Rattle.std.specs.Prelude.{◌≡◌, ◌↔◌, ◌+◌, ◌<◌, ◌�
 ghost use Rattle.std.specs.List.{list_any};
 ghost use Rattle.sim_machine.specs.Events.{pending_event, without_first};
 ghost use Rattle.sim_machine.specs.Standing.{one_if};
+ghost use Rattle.sim_machine.specs.Users.{first_of_list};
 ghost use Rattle.sim_chains.specs.Callbacks.{is_same_callback};
 ghost use Rattle.sim_events.specs.TableOf.{new_kept, first_kept, kept_at, IsKept, AreNeeded, is_needed, kept_count, kept_and_spare};
 ghost use Rattle.sim_events.specs.Changes.{with_outcome, with_defused, with_processed, with_cancelled, with_callback, without_callback, with_holder, without_holder, change_kept, change_or_forget, callbacks_freed, conditions_freed, more_events, more_callbacks};
@@ -224,6 +225,23 @@ impl Table {
         ensures { result ≡ (kept_at self.now.events event).event.defused }
     {
         self.store.slots[key_of(&self.index, event)].defused
+    }
+
+    /// Whether an event was cancelled: it was taken out of its queue.
+    pub fn is_cancelled(&self, event: EventId) -> bool
+        requires kept { IsKept self.now.events event }
+        ensures { result ≡ (kept_at self.now.events event).event.cancelled }
+    {
+        self.store.slots[key_of(&self.index, event)].cancelled
+    }
+
+    /// The first of the callbacks of an event, if it has one. No other is looked at.
+    pub fn first_callback(&self, event: EventId) -> Option<Callback>
+        requires kept { IsKept self.now.events event }
+        ensures { result ≡ first_of_list (kept_at self.now.events event).callbacks }
+    {
+        let slot = &self.store.slots[key_of(&self.index, event)];
+        self.store.nodes.first(&slot.callbacks)
     }
 
     /// A pending event gets its outcome.

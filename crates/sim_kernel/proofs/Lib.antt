@@ -3,5 +3,5 @@ pub mod StartingAll
 pub mod Stopping
 pub mod OpeningHolds
 -- the units
-pub mod StepAdds
+pub mod BuiltCallbacks
 pub mod Units

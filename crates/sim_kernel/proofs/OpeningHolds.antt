@@ -40,7 +40,7 @@ opening_events {B} body parts fits =
     omega (arith, stop_events g.setup.until s.facilities.calendar, events_of_starts g g.setup.starts, fits.few_events, fits.few_starts)
 
 pub opening_holds : {B Code : Type 0} (body : BodyOf B Code) (new : PartsOf B Code) → KeepsLaw body new.code → FitsCode (body.facts new.code) new.setup →
-    StandsFor new (opening (plan_of body new)) → AreAllKept 1 (held new.happen) → Holds body 0 new
+    StandsFor new (opening (plan_of body new)) → AreAllKept 1 (held new.shared.happen) → Holds body 0 new
 opening_holds {B} body new law fits st kept =
     let g : Plan B = plan_of body new in
     let few = opening_events body new fits in
@@ -50,6 +50,6 @@ opening_holds {B} body new law fits st kept =
       lawful = opens_lawfully body new law fits;
       stands = st;
       built = opening_built g (opening_idle g);
-      bounded = record { events = omega (arith, few, st.calendar.made); processed = omega (arith, st.processed, processed_from g (blank_state g) g.setup.starts) };
+      bounded = record { events = omega (arith, few, st.facilities.calendar.made); processed = omega (arith, st.processed, processed_from g (blank_state g) g.setup.starts) };
       kept = kept;
     }

@@ -10,10 +10,11 @@ use Rattle.sim_types.specs.declared.event.Outcome.TheVariants as outcome
 use Rattle.sim_types.specs.declared.setup.Start.{Start}
 use Rattle.sim_types.specs.declared.setup.Until.{Until}
 use Rattle.sim_types.specs.declared.setup.Until.TheVariants as until
-use Rattle.sim_machine.specs.State.{EventOf, Calendar, Registration, State, Plan}
+use Rattle.sim_machine.specs.State.{EventOf, Calendar, Facilities, Registration, State, Plan}
 use Rattle.sim_machine.specs.Bodies.{BodyOf}
 use Rattle.sim_machine.specs.Events.{next_event, is_pending, is_processed}
 use Rattle.sim_machine.specs.Triggering.{make}
+use Rattle.sim_machine.specs.Trying.{on_calendar}
 use Rattle.sim_machine.specs.Scopes.{on_events}
 use Rattle.sim_machine.specs.Setups.{FitsCode, until_fits}
 use Rattle.sim_machine.specs.Tellings.{CodeFacts}
@@ -25,14 +26,16 @@ use Rattle.sim_machine_law.proofs.OpeningLaws.{Opens, starts_open}
 use Rattle.sim_happen_model.specs.HappenOf.{HappenOf, held}
 use Rattle.sim_happen_model.specs.Shows.{Shows}
 use Rattle.sim_happen_law.proofs.Following.{read_is}
+use Rattle.sim_shared_model.specs.SharedOf.{SharedOf}
+use Rattle.sim_shared_model.specs.ShowsAll.{ShowsAll}
 use Rattle.sim_steps_model.specs.Becoming.{AreAllKept}
 use Rattle.sim_steps_model.specs.Built.{is_built_callback}
 use Rattle.sim_kernel.specs.Holding.{HasBuiltCallbacks}
-use Rattle.sim_steps_model.specs.Opening.{CanStop, SetsStop}
-use Rattle.sim_steps_model.specs.PartsOf.{PartsOf, plan_of}
+use Rattle.sim_steps_model.specs.Opening.{CanStop, KeepsButProcesses, SetsStop}
+use Rattle.sim_steps_model.specs.PartsOf.{PartsOf, KeepsButHappen, plan_of}
 use Rattle.sim_steps_model.specs.StandsFor.{StandsFor}
 use Rattle.sim_steps_law.proofs.Keeping.{made_is_kept}
-use Rattle.sim_steps_law.proofs.Becoming.{stands_on_events}
+use Rattle.sim_steps_law.proofs.Becoming.{shown_with, stands_on_facilities}
 use Rattle.sim_kernel.proofs.StartingAll.{with_starts}
 
 -- ---- a run can be stopped as its setup says
@@ -66,25 +69,47 @@ can_stop g s h (until.Event e) fits o kept shown =
 
 -- once all that run from the start are started
 pub started_can_stop : {B Code : Type 0} (body : BodyOf B Code) (first old : PartsOf B Code) (f : CodeFacts) → FitsCode f first.setup →
-    StandsFor old (with_starts (plan_of body first) first.setup.starts) → AreAllKept 1 (held old.happen) → CanStop first.setup.until old.happen
+    StandsFor old (with_starts (plan_of body first) first.setup.starts) → AreAllKept 1 (held old.shared.happen) → CanStop first.setup.until old.shared.happen
 started_can_stop body first old f fits st kept =
     let until = subst (λ n. IsTrue (until_fits n first.setup.until)) (sym fits.events) fits.until in
-    can_stop (plan_of body first) (with_starts (plan_of body first) first.setup.starts) old.happen first.setup.until until (starts_open (plan_of body first)) kept st.calendar
+    can_stop (plan_of body first) (with_starts (plan_of body first) first.setup.starts) old.shared.happen first.setup.until until (starts_open (plan_of body first)) kept st.facilities.calendar
+
+-- ---- what is to stop a run makes one event at most
+
+stop_made : (time : ℤ) (c : Calendar) → length (set_stop (until.At time) c).events ≡ length c.events + 1
+stop_made time c = omega (arith, change_event-length (next_event c) (λ y. record y { outcome = Some (outcome.Ok (pos 0)) }) (make kind.Stop c), make-length kind.Stop c)
+
+pub stop_events : (x : Until) (c : Calendar) → length (set_stop x c).events ≤ length c.events + 1
+stop_events until.Never c = omega arith
+stop_events (until.At time) c = omega (arith, stop_made time c)
+stop_events (until.Event e) c = omega arith
+
+stop_makes : (x : Until) (c : Calendar) → length c.events ≤ length (set_stop x c).events
+stop_makes until.Never c = omega arith
+stop_makes (until.At time) c = omega (arith, stop_made time c)
+stop_makes (until.Event e) c = omega arith
 
 -- ---- what becomes of the state
 
 -- what is to stop the run is set, and all else stays
 pub record StopsBy {B Code : Type 0} (x : Until) (old new : PartsOf B Code) : Type 0 where
-  pub kept : new ≡ record old { happen = new.happen }
-  pub sets : SetsStop x old.happen new.happen
+  pub kept : KeepsButHappen old new
+  pub sets : SetsStop x old.shared.happen new.shared.happen
 
 pub stop_stands : {B Code : Type 0} (x : Until) (old new : PartsOf B Code) (s : State B) → StopsBy x old new → StandsFor old s →
     StandsFor new (on_events (set_stop x) s)
-stop_stands x old new s h st = subst (λ n. StandsFor n (on_events (set_stop x) s)) (sym h.kept) (stands_on_events (set_stop x) old new.happen s h.sets.each st)
+stop_stands {B} {Code} x old new s h st =
+    let f : Facilities = s.facilities in
+    let shown : Shows new.shared.happen (set_stop x f.calendar) = h.sets.each f.calendar st.facilities.calendar in
+    let k : SharedOf = record old.shared { happen = new.shared.happen } in
+    let all : ShowsAll k (on_calendar (set_stop x) f) =
+    shown_with old.shared new.shared.happen f (set_stop x f.calendar) (omega (arith, shown.made, st.facilities.calendar.made, stop_makes x f.calendar)) shown st.facilities in
+    let P : PartsOf B Code → Type 0 = λ n. StandsFor n (on_events (set_stop x) s) in
+    subst P (sym h.kept) (stands_on_facilities (on_calendar (set_stop x)) old k s (λ _. all) st)
 
 -- once all that run from the start are started, the kernel stands for the opening state
 pub opened_stands : {B Code : Type 0} (body : BodyOf B Code) (first old new : PartsOf B Code) (x : Until) → x ≡ first.setup.until →
-    old ≡ record first { happen = old.happen; live = old.live; spare = old.spare } → StopsBy x old new →
+    KeepsButProcesses first old → StopsBy x old new →
     StandsFor old (with_starts (plan_of body first) first.setup.starts) → StandsFor new (opening (plan_of body new))
 opened_stands {B} {Code} body first old new x is kept stops st =
     let g : Plan B = plan_of body first in
@@ -119,9 +144,3 @@ opening_built g none =
       registered = stop_built g.setup.until _ (starts_built g (blank_state g) g.setup.starts (All-nil IsBuilt));
       left = subst (AllPass is_built_callback) (sym none) (All-nil (λ x. is_built_callback x ≡ true));
     }
-
--- ---- what is to stop a run makes one event at most
-pub stop_events : (x : Until) (c : Calendar) → length (set_stop x c).events ≤ length c.events + 1
-stop_events until.Never c = omega arith
-stop_events (until.At time) c = omega (arith, change_event-length (next_event c) (λ y. record y { outcome = Some (outcome.Ok (pos 0)) }) (make kind.Stop c), make-length kind.Stop c)
-stop_events (until.Event e) c = omega arith

@@ -1,20 +1,23 @@
 -- A unit of a kernel is a step from a lawful state to a lawful state, and keeps what holds of every kernel.
-use Rattle.std.proofs.Common.{ℕ, ◌+◌, ◌*◌, ◌≤◌, arith}
+use Rattle.std.proofs.Common.{ℕ, ◌+◌, ◌*◌, ◌≤◌, ◌≡◌, refl, ap, subst, arith}
 use Rattle.sim_machine.specs.State.{State}
 use Rattle.sim_machine.specs.Bodies.{BodyOf}
 use Rattle.sim_machine.specs.Setups.{FitsCode}
 use Rattle.sim_machine_law.proofs.WholeSteps.{lawful_step}
-use Rattle.sim_events.specs.TableOf.{Spare}
+use Rattle.sim_machine_law.proofs.MadeEvents.{MakesFew, step_makes}
+use Rattle.sim_happen_model.specs.HappenOf.{held}
 use Rattle.sim_steps_model.specs.declared.mode.Unit.{Unit}
-use Rattle.sim_steps_model.specs.PartsOf.{PartsOf, IsOpenedAs, plan_of, with_room}
+use Rattle.sim_steps_model.specs.PartsOf.{PartsOf, IsOpenedAs, KeepsButRoom, plan_of}
 use Rattle.sim_steps_model.specs.StandsFor.{StandsFor, LawfulOf, StepOf}
-use Rattle.sim_steps_model.specs.Becoming.{Moves}
+use Rattle.sim_steps_model.specs.Becoming.{AreAllKept, Moves, most_held}
 use Rattle.sim_steps_model.specs.Built.{AsksForBuilt}
-use Rattle.sim_kernel.specs.Holding.{Holds, HasBuiltCallbacks, IsBounded, most_opened, most_made}
+use Rattle.sim_kernel.specs.Holding.{Holds, IsBounded, most_opened, most_made}
 use Rattle.sim_kernel.specs.Stepping.{MakesStep}
-use Rattle.sim_steps_law.proofs.Rooms.{roomier_stands}
+use Rattle.sim_steps_law.proofs.Keeping.{all_kept_weaker}
+use Rattle.sim_steps_law.proofs.Becoming.{opened_then}
+use Rattle.sim_steps_law.proofs.Rooms.{roomier_stands, roomier_lawful, roomier_held}
 use Rattle.sim_steps_law.proofs.Running.{KeepsLaw}
-use Rattle.sim_kernel.proofs.StepAdds.{AddsLittle, step_adds}
+use Rattle.sim_kernel.proofs.BuiltCallbacks.{step_built}
 
 -- ---- the state after a unit is lawful, since the machine keeps what is lawful
 
@@ -23,20 +26,32 @@ opened_lawful : {B Code : Type 0} (body : BodyOf B Code) (old new : PartsOf B Co
     LawfulOf body new s
 opened_lawful body old new s opened h = rw (opened.code, opened.setup, opened.seed) h
 
+-- so it is where room was made before
+opened_through : {B Code : Type 0} (old mid new : PartsOf B Code) → KeepsButRoom old mid → IsOpenedAs mid new → IsOpenedAs old new
+opened_through old mid new room opened =
+    opened_then old mid new (record { code = rw room.others refl; setup = rw room.others refl; seed = rw room.others refl }) opened
+
+roomier_step : {B Code : Type 0} (body : BodyOf B Code) (old mid : PartsOf B Code) (s t : State B) → KeepsButRoom old mid → StepOf body mid s t →
+    StepOf body old s t
+roomier_step {B} {Code} body old mid s t room h =
+    let P : PartsOf B Code → Type 0 = λ k. StepOf body k s t in
+    subst P room.others h
+
 module _ {B Code : Type 0} (body : BodyOf B Code) (old : PartsOf B Code) (fits : FitsCode (body.facts old.code) old.setup) (law : KeepsLaw body old.code) where
   stays_lawful : (s t : State B) → LawfulOf body old s → StepOf body old s t → LawfulOf body old t
   stays_lawful s t = lawful_step (plan_of body old) (body.tell old.code) (body.sound old.code) (body.turn old.code) (body.facts old.code) s t fits law
 
-  pub unit_steps : (room : Spare) (spare : ℕ) (answer : Unit) (new : PartsOf B Code) → Moves body (with_room room spare old) answer new →
+  pub unit_steps : (mid : PartsOf B Code) (answer : Unit) (new : PartsOf B Code) → KeepsButRoom old mid → Moves body mid answer new →
       MakesStep body old answer new
-  unit_steps room spare answer new moves =
+  unit_steps mid answer new room moves =
       record {
         each = λ s lawful stands.
-            let later = moves.each s lawful (roomier_stands room spare old s stands) in
+            let later = moves.each s (roomier_lawful body old mid s room lawful) (roomier_stands old mid s room stands) in
+            let stepped : StepOf body old s later.state = roomier_step body old mid s later.state room later.stepped in
             record {
               state = later.state;
-              stepped = later.stepped;
-              lawful = opened_lawful body (with_room room spare old) new later.state moves.opened (stays_lawful s later.state lawful later.stepped);
+              stepped = stepped;
+              lawful = opened_lawful body old new later.state (opened_through old mid new room moves.opened) (stays_lawful s later.state lawful stepped);
               stands = later.stands;
               lines = later.lines;
             };
@@ -44,41 +59,53 @@ module _ {B Code : Type 0} (body : BodyOf B Code) (old : PartsOf B Code) (fits :
 
 -- ---- what else holds of every kernel
 
--- what a step from a state that the kernel stood for adds
-added : {B Code : Type 0} (body : BodyOf B Code) (old : PartsOf B Code) (s t : State B) → AsksForBuilt body old.code → HasBuiltCallbacks s →
-    LawfulOf body old s → StepOf body old s t → AddsLittle s t
-added body old s t asks built lawful step =
-    step_adds body old.code asks (plan_of body old) s t lawful.bodies.bodies built.registered built.left step
-
--- one unit makes at most one event, and processes at most one
-unit_bounded : {B Code : Type 0} (units : ℕ) (old new : PartsOf B Code) (s t : State B) → StandsFor old s → StandsFor new t → AddsLittle s t →
+-- one unit makes few events, and processes at most one
+unit_bounded : {B Code : Type 0} (units : ℕ) (old new : PartsOf B Code) (s t : State B) → StandsFor old s → StandsFor new t → MakesFew s t →
     IsBounded units old → IsBounded (units + 1) new
 unit_bounded units old new s t before after a h =
     record {
-      events = one_more most_opened units _ _ (omega (arith, after.calendar.made, before.calendar.made, a.events)) h.events;
+      events = one_more most_opened units _ _ (omega (arith, after.facilities.calendar.made, before.facilities.calendar.made, a.events)) h.events;
       processed = one_unit units _ _ (omega (arith, after.processed, before.processed, a.processed)) h.processed;
     }
   where
-    one_more : (base units before after : ℕ) → after ≤ before + 1 → before ≤ base + most_made * units → after ≤ base + most_made * (units + 1)
+    one_more : (base units before after : ℕ) → after ≤ before + most_made → before ≤ base + most_made * units → after ≤ base + most_made * (units + 1)
     one_more base units before after x y = omega (arith)
 
     one_unit : (units before after : ℕ) → after ≤ before + 1 → before ≤ units → after ≤ units + 1
     one_unit units before after x y = omega (arith)
 
-pub unit_holds : {B Code : Type 0} (body : BodyOf B Code) (units : ℕ) (old : PartsOf B Code) (room : Spare) (spare : ℕ) (answer : Unit)
-    (new : PartsOf B Code) → KeepsLaw body old.code → AsksForBuilt body old.code → Holds body units old →
-    Moves body (with_room room spare old) answer new → Holds body (units + 1) new
-unit_holds body units old room spare answer new law asks h moves =
+pub unit_holds : {B Code : Type 0} (body : BodyOf B Code) (units : ℕ) (old mid : PartsOf B Code) (answer : Unit) (new : PartsOf B Code) →
+    KeepsLaw body old.code → AsksForBuilt body old.code → Holds body units old → KeepsButRoom old mid → Moves body mid answer new →
+    Holds body (units + 1) new
+unit_holds body units old mid answer new law asks h room moves =
     let s = h.state in
-    let later = moves.each s h.lawful (roomier_stands room spare old s h.stands) in
+    let later = moves.each s (roomier_lawful body old mid s room h.lawful) (roomier_stands old mid s room h.stands) in
     let t = later.state in
-    let a = added body old s t asks h.built h.lawful later.stepped in
+    let stepped : StepOf body old s t = roomier_step body old mid s t room later.stepped in
+    let opened = opened_through old mid new room moves.opened in
+    let kept : AreAllKept (most_held * units + 1) (held mid.shared.happen) = rw (roomier_held old mid room) h.kept in
     record {
-      fits = rw (moves.opened.code, moves.opened.setup) h.fits;
+      fits = rw (opened.code, opened.setup) h.fits;
       state = t;
-      lawful = opened_lawful body (with_room room spare old) new t moves.opened (stays_lawful body old h.fits law s t h.lawful later.stepped);
+      lawful = opened_lawful body old new t opened (stays_lawful body old h.fits law s t h.lawful stepped);
       stands = later.stands;
-      built = record { registered = a.registered; left = a.left };
-      bounded = unit_bounded units old new s t h.stands later.stands a h.bounded;
-      kept = moves.kept.kept (units + 1) h.kept;
+      built = step_built body old.code asks (plan_of body old) s t h.lawful.bodies.bodies h.built stepped;
+      bounded = unit_bounded units old new s t h.stands later.stands (step_makes (plan_of body old) (body.tell old.code) (body.sound old.code) (body.turn old.code) s t h.lawful stepped) h.bounded;
+      kept = all_kept_weaker (most_held * units + 1 + most_held) (most_held * (units + 1) + 1) (held new.shared.happen) (omega arith) (moves.kept.kept (most_held * units + 1) kept);
+    }
+
+-- room changes nothing of this
+pub roomier_holds : {B Code : Type 0} (body : BodyOf B Code) (units : ℕ) (old mid : PartsOf B Code) → KeepsButRoom old mid → Holds body units old →
+    Holds body units mid
+roomier_holds {B} {Code} body units old mid room h =
+    let events : mid.shared.happen.events ≡ old.shared.happen.events = rw room.shared.happen refl in
+    let processed : mid.processed ≡ old.processed = ap (λ (k : PartsOf B Code). k.processed) room.others in
+    record {
+      fits = rw room.others h.fits;
+      state = h.state;
+      lawful = roomier_lawful body old mid h.state room h.lawful;
+      stands = roomier_stands old mid h.state room h.stands;
+      built = h.built;
+      bounded = record { events = rw events h.bounded.events; processed = rw processed h.bounded.processed };
+      kept = rw (roomier_held old mid room) h.kept;
     }

@@ -8,7 +8,7 @@ use Rattle.sim_machine.specs.Standing.{left_of}
 use Rattle.sim_happen_model.specs.HappenOf.{held}
 use Rattle.sim_steps_model.specs.PartsOf.{PartsOf}
 use Rattle.sim_steps_model.specs.StandsFor.{StandsFor, LawfulOf}
-use Rattle.sim_steps_model.specs.Becoming.{AreAllKept}
+use Rattle.sim_steps_model.specs.Becoming.{AreAllKept, most_held}
 use Rattle.sim_steps_model.specs.Built.{is_built_callback}
 
 -- only callbacks that are built are registered or left to call
@@ -26,7 +26,7 @@ most_opened = 2 ^ 18
 
 -- the numbers of a kernel that has made so many units
 pub record IsBounded {B Code : Type 0} (units : ℕ) (parts : PartsOf B Code) : Type 0 where
-  pub events : length parts.happen.events ≤ most_opened + most_made * units
+  pub events : length parts.shared.happen.events ≤ most_opened + most_made * units
   pub processed : parts.processed ≤ units
 
 -- a kernel that has made so many units was opened with a setup for its code, stands for a lawful state whose callbacks are
@@ -39,4 +39,4 @@ pub record Holds {B Code : Type 0}
   pub stands : StandsFor parts state
   pub built : HasBuiltCallbacks state
   pub bounded : IsBounded units parts
-  pub kept : AreAllKept (units + 1) (held parts.happen)
+  pub kept : AreAllKept (most_held * units + 1) (held parts.shared.happen)

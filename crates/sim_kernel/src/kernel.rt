@@ -96,14 +96,14 @@ impl<B: Body> Kernel<B> {
 
     /// The time of the machine.
     pub fn now(&self) -> i64
-        ensures { result ≡ self.now.parts.happen.time }
+        ensures { result ≡ self.now.parts.shared.happen.time }
     {
         self.parts.now()
     }
 
     /// Spends the kernel and tells its time and how many events were processed.
     pub fn finish(self) -> (i64, u64)
-        ensures time { result.0 ≡ self.parts.happen.time }
+        ensures time { result.0 ≡ self.parts.shared.happen.time }
         ensures processed { result.1 ≡ self.parts.processed }
     {
         let Kernel { parts, units: _ } = self;

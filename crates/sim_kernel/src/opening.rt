@@ -25,10 +25,10 @@ fn start_all<B: Body>(
     requires setup { setup.now ≡ parts.old.setup }
     requires fits { FitsCode (B.body.facts code.now) setup.now }
     requires blank { StandsFor parts.old (blank_state (plan_of B.body parts.old)) }
-    requires kept { AreAllKept 1 (held parts.old.happen) }
+    requires kept { AreAllKept 1 (held parts.old.shared.happen) }
     ensures kept { KeepsButProcesses parts.old parts.new }
     ensures stands { OnOk result (HasMadeStarts B.body parts.old parts.new) }
-    ensures all_kept { OnOk result (AreAllKept 1 (held parts.new.happen)) }
+    ensures all_kept { OnOk result (AreAllKept 1 (held parts.new.shared.happen)) }
 {
     for start in setup.starts.as_slice() {
         parts.start(alloc, code, start)?;
@@ -47,7 +47,7 @@ pub(crate) fn open<B: Body>(
     requires setup { setup.now ≡ parts.old.setup }
     requires fits { FitsCode (B.body.facts code.now) setup.now }
     requires blank { StandsFor parts.old (blank_state (plan_of B.body parts.old)) }
-    requires kept { AreAllKept 1 (held parts.old.happen) }
+    requires kept { AreAllKept 1 (held parts.old.shared.happen) }
     ensures opened { IsOpenedAs parts.old parts.new }
     ensures stands { OnOk result (StandsForOpening B.body parts.new) }
     ensures holds { OnOk result (Holds B.body 0 parts.new) }

@@ -98,7 +98,7 @@ call_processed g e (callback.TryGet res) left s = refl
 call_processed g e callback.Stop left s = refl
 call_processed g e (callback.Trigger y) left s = refl
 
-call_or_settle_processed : {B : Type 0} (g : Plan B) (e : EventId) (left : List Callback) (s : State B) → (call_or_settle g e left s).processed ≡ s.processed
+pub call_or_settle_processed : {B : Type 0} (g : Plan B) (e : EventId) (left : List Callback) (s : State B) → (call_or_settle g e left s).processed ≡ s.processed
 call_or_settle_processed g e [] s = refl
 call_or_settle_processed g e (x ∷ left) s = call_processed g e x left s
 

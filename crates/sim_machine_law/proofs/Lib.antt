@@ -9,9 +9,11 @@ pub mod ScheduledOnce
 pub mod TimeLaws
 -- units, runs and what they write
 pub mod UnitLaws
+pub mod WrittenLines
 pub mod LineLaws
 pub mod TraceLaws
 pub mod JournalLaws
+pub mod MadeEvents
 pub mod MadeUnits
 pub mod OpeningLaws
 -- the ledger of the resources, and the queues

@@ -115,6 +115,13 @@ impl Desk {
         let _kept = &self.queue;
     }
 
+    /// Whether a request may take the slot of a user.
+    pub fn is_preemptive(&self) -> bool
+        ensures { result ≡ is_preemptive (resource_kind self.now.kind) }
+    {
+        is_preemptive(self.kind)
+    }
+
     /// How many requests are users (SimPy's Resource.count).
     pub fn count(&self) -> u32
         ensures users { result ≡ length self.now.users }

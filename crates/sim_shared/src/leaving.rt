@@ -1,16 +1,34 @@
 //! How events leave their queues, and requests their slots (SimPy's cancel, release, and the end of `with`).
-ghost use Rattle.std.specs.Prelude.{◌≡◌, ◌<◌, ◌≤◌, ◌^◌, length, slice_get, IsFalse, IsTrue};
+ghost use Rattle.std.specs.Prelude.{◌≡◌, ◌↔◌, ◌<◌, ◌≤◌, ◌^◌, ℕ, length, slice_get, Some, IsFalse, IsTrue};
 ghost use Rattle.sim_machine.specs.State.{Facilities};
 ghost use Rattle.sim_machine.specs.Requests as requests;
 ghost use Rattle.sim_machine.specs.MayAsk.{takes_requests};
 ghost use Rattle.sim_machine.specs.Users.{resource_at};
+ghost use Rattle.sim_events.specs.TableOf.{IsKept, kept_at};
 ghost use Rattle.sim_events.specs.Changes.{more_events, more_callbacks};
-ghost use Rattle.sim_happen_model.specs.HappenOf.{KeepsRoom, gone_if_unheld, unheld_event};
+ghost use Rattle.sim_happen_model.specs.HappenOf.{IsOpen, KeepsRoom, gone_if_unheld, unheld_event};
 ghost use Rattle.sim_shared_model.specs.ShowsAll.{ShowsAll, FollowsAll, TurnsAll};
 ghost use Rattle.sim_shared_model.specs.Waiting.{AreAllOpen, LeavesRoom, WaitsAtMostAt, gone_if_waits, waits_anywhere, waits_in};
+ghost use Rattle.sim_shared.specs.Naming.{tried_by, tried_by_first};
 
 use crate::shared::Shared;
 use sim_types::{Callback, EventId, EventKind};
+
+// The resource of which a callback has a queue tried.
+fn tried_by(callback: Callback) -> Option<u32>
+    ensures { result ≡ tried_by callback }
+{
+    match callback {
+        Callback::TryPut(resource) => Some(resource),
+        Callback::TryGet(resource) => Some(resource),
+        Callback::Resume(_) => None,
+        Callback::Check(_) => None,
+        Callback::Build(_) => None,
+        Callback::Strike(_) => None,
+        Callback::Stop => None,
+        Callback::Trigger(_) => None,
+    }
+}
 
 impl Shared {
     // Where the event waits at this place, it is cancelled. The answer is whether it did.
@@ -34,8 +52,9 @@ impl Shared {
         true
     }
 
-    /// Takes an event out of its queue, and nothing is tried (SimPy's cancel). The answer is whether it waited.
-    pub fn cancel(&mut self, event: EventId) -> bool
+    // The event is cancelled wherever it waits: each resource is searched until it is found. The answer is whether it
+    // waited.
+    fn cancel_anywhere(&mut self, event: EventId) -> bool
         requires open { AreAllOpen self.old }
         ensures waited { result ≡ waits_anywhere event self.old.resources }
         ensures shown { (f : Facilities) → ShowsAll self.old f →
@@ -53,6 +72,74 @@ impl Shared {
             }
         }
         false
+    }
+
+    // Whether the event is kept and pending and was not cancelled.
+    fn is_open(&self, event: EventId) -> bool
+        ensures { IsTrue result ↔ IsOpen self.now.happen event }
+    {
+        let table = self.happen.table();
+        table.is_kept(event) && table.outcome(event).is_none() && !table.is_cancelled(event)
+    }
+
+    // The resource that the first callback of an event names. What waits there has its other queue tried once it is
+    // processed, and is made with that callback.
+    fn named_resource(&self, event: EventId) -> Option<u32>
+        requires kept { IsKept self.now.happen.events event }
+        ensures { result ≡ tried_by_first (kept_at self.now.happen.events event).callbacks }
+    {
+        match self.happen.table().first_callback(event) {
+            Some(callback) => tried_by(callback),
+            None => None,
+        }
+    }
+
+    // Where the event waits at the resource that its first callback names, it is cancelled. The answer is whether it did.
+    fn cancel_named(&mut self, event: EventId) -> bool
+        requires open { AreAllOpen self.old }
+        requires kept { IsKept self.old.happen.events event }
+        ensures here { (res : ℕ) →
+            tried_by_first (kept_at self.old.happen.events event).callbacks ≡ Some res →
+            result ≡ waits_in event (slice_get self.old.resources res) }
+        ensures waited { IsTrue result → IsTrue (waits_anywhere event self.old.resources) }
+        ensures cancelled { IsTrue result →
+            TurnsAll (requests.cancel event) (gone_if_unheld event) self.old self.new }
+        ensures same { IsFalse result → self.new ≡ self.old }
+        ensures used { self.new.used ≡ self.old.used }
+        ensures room { KeepsRoom self.old.happen self.new.happen }
+        ensures never_less { self.old.happen.spare.events ≤ self.new.happen.spare.events }
+    {
+        let Some(res) = self.named_resource(event) else {
+            return false;
+        };
+        let at = res as usize;
+        if at >= self.resources.len() {
+            return false;
+        }
+        self.cancel_at(at, event)
+    }
+
+    /// Takes an event out of its queue, and nothing is tried (SimPy's cancel). The answer is whether it waited. What waits
+    /// is open, and its first callback names the resource, so no other is searched.
+    pub fn cancel(&mut self, event: EventId) -> bool
+        requires open { AreAllOpen self.old }
+        ensures waited { result ≡ waits_anywhere event self.old.resources }
+        ensures shown { (f : Facilities) → ShowsAll self.old f →
+            result ≡ requests.waits event f }
+        ensures cancelled { TurnsAll (requests.cancel event) (gone_if_waits result event)
+            self.old self.new }
+        ensures same { IsFalse result → self.new ≡ self.old }
+        ensures used { self.new.used ≡ self.old.used }
+        ensures room { KeepsRoom self.old.happen self.new.happen }
+        ensures never_less { self.old.happen.spare.events ≤ self.new.happen.spare.events }
+    {
+        if !self.is_open(event) {
+            return false;
+        }
+        if self.cancel_named(event) {
+            return true;
+        }
+        self.cancel_anywhere(event)
     }
 
     // The request is a user no longer, where it is one.

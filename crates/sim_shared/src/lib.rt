@@ -2,9 +2,16 @@
 //! in them, and how events leave them.
 #![tactic(auto)]
 
+mod fault;
+mod granting;
+mod joining;
 mod leaving;
 mod making;
 mod opening;
+mod queues;
+mod serving;
 mod shared;
+mod trying;
 
+pub use fault::{NotPositive, OwnVictim};
 pub use shared::Shared;

@@ -5,6 +5,7 @@ ghost use Rattle.sim_machine.specs.Triggering as triggering;
 ghost use Rattle.sim_machine.specs.Trying.{on_calendar};
 ghost use Rattle.sim_events.specs.Changes.{more_events, more_callbacks};
 ghost use Rattle.sim_happen_model.specs.HappenOf.{IsOpen, unheld_event};
+ghost use Rattle.sim_happen_model.specs.Shows.{Follows};
 ghost use Rattle.sim_shared_model.specs.ShowsAll.{FollowsAll, TurnsAll};
 
 use crate::shared::Shared;
@@ -34,6 +35,7 @@ impl Shared {
         requires open { IsOpen self.old.happen event }
         ensures follows { FollowsAll (on_calendar (triggering.succeed event value))
             self.old self.new }
+        ensures happen { Follows (triggering.succeed event value) self.old.happen self.new.happen }
         ensures spare { self.new.happen.spare ≡ self.old.happen.spare }
         ensures rest { self.new ≡ record self.old { happen = self.new.happen } }
     {

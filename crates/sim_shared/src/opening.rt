@@ -7,8 +7,8 @@ ghost use Rattle.sim_stores.specs.Shelves.{store_kind};
 ghost use Rattle.sim_types.specs.declared.setup.ResourceKind.TheVariants as kinds;
 ghost use Rattle.sim_shared.specs.Opening.{AreOpened, IsOpened};
 
-use sim_shared_model::SharedResource;
 use sim_resource::{Desk, DeskKind};
+use sim_shared_model::SharedResource;
 use sim_stores::{Shelf, ShelfKind, Tank};
 use sim_types::{Resource, ResourceKind};
 use std::alloc::{AllocError, Global};

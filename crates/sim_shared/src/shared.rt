@@ -12,9 +12,9 @@ ghost use Rattle.sim_shared_model.specs.ShowsAll.{ShowsAll};
 ghost use Rattle.sim_shared.specs.Opening.{first_facilities};
 
 use crate::opening::open_all;
-use sim_shared_model::SharedResource;
 use sim_happen::Happen;
 use sim_memo::Memo;
+use sim_shared_model::SharedResource;
 use sim_types::{List, Resource};
 use std::alloc::{AllocError, Global};
 use std::marker::Model;
@@ -34,7 +34,7 @@ pub struct Shared {
     pub(crate) happen: Happen,
     pub(crate) resources: Vec<SharedResource>,
     // The resource whose place was taken since room was made.
-    used: Option<u32>,
+    pub(crate) used: Option<u32>,
     // What the resources were opened with.
     setup: Memo<List<Resource>>,
 }

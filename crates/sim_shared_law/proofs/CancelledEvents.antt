@@ -3,7 +3,7 @@ use Rattle.std.proofs.Common.{◌≡◌, ◌≢◌, ℕ, zero, suc, ◌+◌, ◌
 use Rattle.std.specs.Prelude.{◌==◌, ◌≤◌, slice_get, slice_set}
 use Rattle.std.specs.List.{list_any, AllPass}
 use Rattle.std.proofs.lemmas.Bool.{false≢true, cases_Bool, cases_eq}
-use Rattle.std.proofs.lemmas.Option.{none-some, same_Some, slice_get-get_or}
+use Rattle.std.proofs.lemmas.Option.{none-some, same_Some, slice_get-get_or, slice_get_within}
 use Rattle.std.proofs.lemmas.List.Elements.{All-filter}
 use Rattle.std.proofs.lemmas.List.Folds.{list_any-append}
 use Rattle.std.proofs.lemmas.List.Kept.{AllPairs-filter}
@@ -20,7 +20,7 @@ use Rattle.sim_machine.specs.Trying.{on_calendar, unqueue}
 use Rattle.sim_machine.specs.Requests as requests
 use Rattle.sim_machine_law.proofs.EventLaws.{change_event-length}
 use Rattle.sim_machine_law.proofs.LeftScopes.{filter_swap}
-use Rattle.sim_happen_model.specs.HappenOf.{HappenOf, gone_if_unheld}
+use Rattle.sim_happen_model.specs.HappenOf.{HappenOf, IsOpen, gone_if_unheld}
 use Rattle.sim_happen_model.specs.Shows.{Turns}
 use Rattle.sim_resource.specs.DeskOf.{waiter_at}
 use Rattle.sim_resource.proofs.Removals.{none_any}
@@ -28,14 +28,14 @@ use Rattle.sim_resource.proofs.WaitersInOrder.{in_order_left}
 use Rattle.sim_stores.specs.Waiting.{besides, stands_among}
 use Rattle.sim_shared_model.specs.declared.resource.SharedResource.{SharedResource}
 use Rattle.sim_shared_model.specs.declared.resource.SharedResource.TheVariants.{Desk, Tank, Shelf}
-use Rattle.sim_shared_model.specs.Resources.{without_room, declared_as}
+use Rattle.sim_shared_model.specs.Resources.{without_room, declared_as, waiting_at}
 use Rattle.sim_shared_model.specs.SharedOf.{SharedOf}
 use Rattle.sim_shared_model.specs.ShowsAll.{ShowsAt, ShowsAll, AreTidy, TurnsAll, AmountFor, amount_for, amount_waiting, put_waiting, get_waiting}
-use Rattle.sim_shared_model.specs.Waiting.{waits_at, waits_in, waits_anywhere, besides_at, gone_if_waits, WaitsAtMostAt}
+use Rattle.sim_shared_model.specs.Waiting.{waits_at, waits_in, waits_anywhere, besides_at, gone_if_waits, WaitsAtMostAt, AreAllOpen}
 use Rattle.sim_shared_law.proofs.FollowingFacilities.{tidy_later, shown_later}
 use Rattle.sim_shared_law.proofs.ResourcePlaces.{at_each, declared_alike, same_length}
 use Rattle.sim_shared_model.proofs.AmongEvents.{any_of_events}
-use Rattle.sim_shared_law.proofs.WaitingEvents.{is_at, is_of, waits_shown, any_somewhere, any_nowhere, any_elsewhere}
+use Rattle.sim_shared_law.proofs.WaitingEvents.{all_among, is_at, is_of, waits_shown, any_somewhere, any_nowhere, any_elsewhere}
 
 -- ---- room is nothing to what is shown
 
@@ -68,14 +68,14 @@ mapped_without : {W V : Type 0} (to : W → V) (p : V → Bool) (ws : List W) �
 mapped_without to p [] = refl
 mapped_without to p (w ∷ ws) = mapped_at to p w ws (p (to w)) (mapped_without to p ws)
 
-put_queue_without : (rs : List Resource) (res : ℕ) (e : EventId) (ws : List Waiter)
+pub put_queue_without : (rs : List Resource) (res : ℕ) (e : EventId) (ws : List Waiter)
     → put_queue rs res (filter (keeps e) ws) ≡ filter (keeps e) (put_queue rs res ws)
 put_queue_without rs res e ws =
     let k = (resource_at rs res).kind in
     let puts : Waiter → Bool = λ w. (w.res == res) && wants_to_put w.want in
     ap (in_order k) (filter_swap puts (keeps e) ws) ∙ in_order_left k (keeps e) (filter puts ws)
 
-get_queue_without : (res : ℕ) (e : EventId) (ws : List Waiter) → get_queue res (filter (keeps e) ws) ≡ filter (keeps e) (get_queue res ws)
+pub get_queue_without : (res : ℕ) (e : EventId) (ws : List Waiter) → get_queue res (filter (keeps e) ws) ≡ filter (keeps e) (get_queue res ws)
 get_queue_without res e ws = filter_swap (λ w. (w.res == res) && not (wants_to_put w.want)) (keeps e) ws
 
 -- what waits is shown without it, and so is what stands at each place
@@ -270,3 +270,19 @@ cancelled_here a b e n false most is turns same =
     (λ (other : m ≢ n). most.elsewhere m x other there)
     (cases_eq m n) in
     rw (nowhere_seen e a.resources (λ m x below. none m x), same refl) (cancelled_nowhere a e none)
+
+-- what is not open waits nowhere
+pub unopen_nowhere : (a : SharedOf) (e : EventId) → AreAllOpen a → (IsOpen a.happen e → ⊥) → waits_anywhere e a.resources ≡ false
+unopen_nowhere a e h not_open = elim (cases_Bool (waits_anywhere e a.resources)) [
+  | inl is ↦
+      let t = anywhere_there e a.resources is in
+      absurd (not_open (all_among (IsOpen a.happen) e (waiting_at t.resource) t.waits (h.each t.place t.resource t.there)))
+  | inr none ↦ none
+]
+
+-- what waits at a place waits somewhere
+pub waits_somewhere : (e : EventId) (xs : List SharedResource) (n : ℕ) (waited : Bool) → waited ≡ waits_in e (slice_get xs n) → waited ≡ true
+    → waits_anywhere e xs ≡ true
+waits_somewhere e xs n waited is h =
+    let t = waits_some e (slice_get xs n) (sym is ∙ h) in
+    sym (found_anywhere e xs n (slice_get_within xs n t.0 t.1) (λ x there. sym h ∙ (is ∙ ap (waits_in e) there)))

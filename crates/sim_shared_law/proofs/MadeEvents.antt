@@ -23,6 +23,7 @@ use Rattle.sim_events.specs.Changes.{more_events, more_callbacks}
 use Rattle.sim_happen_model.specs.Shows.{Turns, Follows}
 use Rattle.sim_happen_law.proofs.Following.{turns_then, turns_as}
 use Rattle.sim_happen_law.proofs.NewEvents.{next_is, is_new, new_registered, IsNew}
+use Rattle.sim_shared_model.specs.Making.{MakesAll}
 use Rattle.sim_shared_model.specs.SharedOf.{SharedOf}
 use Rattle.sim_shared_model.specs.Waiting.{LeavesRoom}
 use Rattle.sim_shared_model.specs.ShowsAll.{TurnsAll, FollowsAll}
@@ -114,4 +115,34 @@ leaves_room a b d room less held spare = record {
   never_less = omega (arith, less, ap (λ (s : Spare). s.events) spare);
   callbacks = omega (arith, room.callbacks, ap (λ (s : Spare). s.callbacks) spare);
   conditions = omega (arith, room.conditions, ap (λ (s : Spare). s.conditions) spare);
+}
+
+-- ---- how many events a call makes
+
+-- none was
+pub makes_none : (most : ℕ) (change : Facilities → Facilities) (a b : SharedOf) → FollowsAll change a b → b.happen.spare ≡ a.happen.spare
+    → MakesAll most change a b
+makes_none most change a b t spare = record {
+  made = 0;
+  at_most = omega arith;
+  turns = record { each = t.each; held = t.held; left = t.left; setup = t.setup };
+  spare = no_more b.happen.spare ∙ spare;
+}
+  where
+    same_number : (n : ℕ) → n + 0 ≡ n
+    same_number n = omega arith
+
+    no_more : (s : Spare) → more_events 0 (more_callbacks 0 s) ≡ s
+    no_more s =
+        ap (λ (n : ℕ). record s { events = n; callbacks = s.callbacks + 0 }) (same_number s.events)
+        ∙ ap (λ (n : ℕ). record s { callbacks = n }) (same_number s.callbacks)
+
+-- one was, which took the room of one event and of one callback
+pub makes_one : (change : Facilities → Facilities) (a b : SharedOf) → TurnsAll change unheld_event a b
+    → more_events 1 (more_callbacks 1 b.happen.spare) ≡ a.happen.spare → MakesAll 1 change a b
+makes_one change a b t spare = record {
+  made = 1;
+  at_most = omega arith;
+  turns = record { each = t.each; held = t.held; left = t.left; setup = t.setup };
+  spare = spare;
 }

@@ -1,20 +1,18 @@
 -- A request that is a user no longer.
-use Rattle.std.proofs.Common.{◌≡◌, ◌≢◌, ℕ, Bool, true, false, ◌||◌, ◌&&◌, not, List, [], ◌∷◌, ◌++◌, length, refl, sym, subst, ap, ◌∙◌, inl, inr, Some, if◌then◌else◌}
+use Rattle.std.proofs.Common.{◌≡◌, ◌≢◌, ℕ, Bool, true, false, ◌||◌, ◌&&◌, not, List, [], ◌∷◌, ◌++◌, refl, sym, subst, ap, ◌∙◌, inl, inr, Some, if◌then◌else◌}
 use Rattle.std.specs.Prelude.{◌==◌, All, AllPairs, slice_get, slice_set}
-use Rattle.std.specs.List.{list_any, AllPass}
+use Rattle.std.specs.List.{list_any}
 use Rattle.std.proofs.lemmas.Bool.{false≢true, cases_Bool, and_parts, eqb-true, ne_eqb}
 use Rattle.std.proofs.lemmas.Option.{get_or_from_slice_get}
 use Rattle.std.proofs.lemmas.List.{append-nil, set-get_or}
-use Rattle.std.proofs.lemmas.List.Elements.{All-nil, All-cons, All-head, All-tail, All-weaker, All-append}
+use Rattle.std.proofs.lemmas.List.Elements.{All-head, All-tail, All-weaker}
 use Rattle.std.proofs.lemmas.List.Folds.{list_any-append}
-use Rattle.std.proofs.lemmas.List.Quantifiers.{all_pairs_push}
-use Rattle.std.proofs.Math.Seq.{map-set_same}
 use Rattle.sim_types.specs.declared.event.EventId.{EventId}
 use Rattle.sim_types.specs.declared.setup.Resource.{Resource}
 use Rattle.sim_types.proofs.Permutations.{AllPairs-head, AllPairs-tail}
-use Rattle.sim_machine.specs.State.{User, Waiter, Deed, Granted, Released, Preempted, Deposited, Taken, Filled, Drained, Facilities}
+use Rattle.sim_machine.specs.State.{User, Deed, Granted, Released, Preempted, Deposited, Taken, Filled, Drained, Facilities}
 use Rattle.sim_machine.specs.Events.{is_same}
-use Rattle.sim_machine.specs.LawfulLedger.{ServeApart, serves, served_by, was_made_if_any}
+use Rattle.sim_machine.specs.LawfulLedger.{ServeApart, serves}
 use Rattle.sim_machine.specs.MayAsk.{takes_requests}
 use Rattle.sim_machine.specs.Users.{resource_at, users, user_by, ends_use}
 use Rattle.sim_machine.specs.Trying.{write_deed}
@@ -29,10 +27,11 @@ use Rattle.sim_shared_model.specs.declared.resource.SharedResource.{SharedResour
 use Rattle.sim_shared_model.specs.declared.resource.SharedResource.TheVariants.{Desk, Tank, Shelf}
 use Rattle.sim_shared_model.specs.Resources.{declared_as, without_room}
 use Rattle.sim_shared_model.specs.SharedOf.{SharedOf}
-use Rattle.sim_shared_model.specs.ShowsAll.{ShowsAt, ShowsAll, AreTidy, FollowsAll}
+use Rattle.sim_shared_model.specs.ShowsAll.{ShowsAt, ShowsAll, FollowsAll}
 use Rattle.sim_shared_model.specs.Using.{uses_at, released_at}
 use Rattle.sim_shared_law.proofs.CancelledEvents.{shown_alike}
-use Rattle.sim_shared_law.proofs.ResourcePlaces.{at_each, declared_alike, declared_at}
+use Rattle.sim_shared_law.proofs.ServedWaiters.{StaysAt, writes_nothing, written_at}
+use Rattle.sim_shared_law.proofs.ResourcePlaces.{declared_alike, declared_at}
 
 -- ---- a request uses one resource at most
 
@@ -80,7 +79,7 @@ any_of_two : (e : EventId) (us vs : List User) → list_any (uses e) us ≡ fals
 any_of_two e us vs h k = list_any-append (uses e) us vs ∙ rw (h, k) refl
 
 -- no user is of a request that no deed served
-users_unserved : (e : EventId) (res : ℕ) (ledger : List Deed) → All (λ d. serves e d ≡ false) ledger → list_any (uses e) (users res ledger) ≡ false
+pub users_unserved : (e : EventId) (res : ℕ) (ledger : List Deed) → All (λ d. serves e d ≡ false) ledger → list_any (uses e) (users res ledger) ≡ false
 users_unserved e res [] h = refl
 users_unserved e res (d ∷ ledger) h =
     any_of_two e (user_by res d ledger) (users res ledger) (not_served e res d ledger (All-head (λ x. serves e x ≡ false) d ledger h))
@@ -142,30 +141,13 @@ released_here rs res at (Shelf s) r f h = record {
   items = h.items ∙ sym (items_released res at r f.ledger);
 }
 
--- and any other
-released_there : (rs : List Resource) (res at : ℕ) (x : SharedResource) (r : EventId) (f : Facilities) → res ≢ at → AllPairs ServeApart f.ledger
-    → list_any (uses r) (users at f.ledger) ≡ true → ShowsAt rs res x f → ShowsAt rs res x (write_deed (Released at r) f)
-released_there rs res at (Desk d) r f differ once h s = record {
-  queue = s.queue;
-  gets = s.gets;
-  users = s.users ∙ sym (users_released res at r f.ledger ∙ none_any (uses r) (users res f.ledger) (users_elsewhere r at res f.ledger (λ same. differ (sym same)) once h));
-}
-released_there rs res at (Tank t) r f differ once h s = released_here rs res at (Tank t) r f s
-released_there rs res at (Shelf x) r f differ once h s = released_here rs res at (Shelf x) r f s
-
-tidy_released : (n res : ℕ) (r : EventId) (f : Facilities) → AreTidy n f → AreTidy n (write_deed (Released res r) f)
-tidy_released n res r f h = record {
-  waiting = h.waiting;
-  placed = h.placed;
-  made = h.made;
-  ledger = record {
-    once = all_pairs_push ServeApart f.ledger (Released res r) h.ledger.once (λ k d below. λ e old new. false≢true new);
-    apart = All-weaker (λ (w : Waiter). AllPass (λ d. not (serves w.event d)) f.ledger) (λ w. AllPass (λ d. not (serves w.event d)) (f.ledger ++ Released res r ∷ []))
-        (λ w all. All-append (λ d. not (serves w.event d) ≡ true) f.ledger (Released res r ∷ []) all
-        (All-cons (λ d. not (serves w.event d) ≡ true) (Released res r) [] refl (All-nil (λ d. not (serves w.event d) ≡ true)))) f.waiters h.ledger.apart;
-    made = All-append (λ d. was_made_if_any f.calendar (served_by d) ≡ true) f.ledger (Released res r ∷ []) h.ledger.made
-        (All-cons (λ d. was_made_if_any f.calendar (served_by d) ≡ true) (Released res r) [] refl (All-nil (λ d. was_made_if_any f.calendar (served_by d) ≡ true)));
-  };
+-- it is nothing to any other
+released_stays : (res n : ℕ) (r : EventId) (ledger : List Deed) → n ≢ res → AllPairs ServeApart ledger → list_any (uses r) (users res ledger) ≡ true
+    → StaysAt n (Released res r) ledger
+released_stays res n r ledger other once uses_it = record {
+  users_stay = users_released n res r ledger ∙ none_any (uses r) (users n ledger) (users_elsewhere r res n ledger (λ same. other (sym same)) once uses_it);
+  items_stay = items_released n res r ledger;
+  level_stays = refl;
 }
 
 declared_released : (r : EventId) (x : SharedResource) → declared_as (released_at r x) ≡ declared_as x
@@ -173,7 +155,7 @@ declared_released r (Desk d) = refl
 declared_released r (Tank t) = refl
 declared_released r (Shelf s) = refl
 
-no_store : (k : ShelfKind) → takes_requests (store_kind k) ≡ true → ⊥
+pub no_store : (k : ShelfKind) → takes_requests (store_kind k) ≡ true → ⊥
 no_store shelf.Fifo k = absurd (false≢true k)
 no_store shelf.Priority k = absurd (false≢true k)
 no_store shelf.Filter k = absurd (false≢true k)
@@ -201,14 +183,9 @@ released_follows a n x y r there kind uses same = record {
       let is : is_user n r f ≡ true = sym (uses_shown a f n x r h there kind) ∙ uses in
       let after : Facilities = write_deed (Released n r) f in
       subst (ShowsAll (record a { resources = slice_set a.resources n y })) (ap (λ b. if b then after else f) (sym is))
-      (record {
-        calendar = h.calendar;
-        opened = map-set_same declared_as a.resources n y x (kind_kept r x y same ∙ ap declared_as (sym (get_or_from_slice_get a.resources n x x there))) ∙ h.opened;
-        resources = at_each (λ m w. ShowsAt a.setup m w after) a.resources n x y there
-            (shown_alike a.setup n (released_at r x) y after same (released_here a.setup n n x r f (h.resources n x there)))
-            (λ m w other found. released_there a.setup m n w r f other h.tidy.ledger.once is (h.resources m w found));
-        tidy = tidy_released (length a.setup) n r f h.tidy;
-      });
+      (written_at a f n x y (Released n r) h there (kind_kept r x y same) (writes_nothing (Released n r) f refl)
+      (λ m other. released_stays n m r f.ledger other h.tidy.ledger.once is)
+      (shown_alike a.setup n (released_at r x) y after same (released_here a.setup n n x r f (h.resources n x there))));
   held = refl;
   left = refl;
   setup = refl;

@@ -98,10 +98,27 @@ sound_ready used xs rs n x y is there same place h =
     sound_with used None xs rs n x y there same
     (places_set used None xs n x y there tt (λ m differ unused was. differ (same_Some m n (sym was ∙ is))) (λ unused. place) h.places) h
 
+-- where none is used, each has its place
+pub has_place : (used : Option ℕ) (xs : List SharedResource) (rs : List Resource) (n : ℕ) (x : SharedResource) → used ≡ None →
+    slice_get xs n ≡ Some x → IsSoundShared used xs rs → HasPlace x
+has_place used xs rs n x none there h = h.places.others n x there (λ is. none-some n (sym none ∙ is))
+
+-- one is used, whose place is taken
+pub sound_used : (used : Option ℕ) (xs : List SharedResource) (rs : List Resource) (n : ℕ) (x y : SharedResource) → used ≡ None →
+    slice_get xs n ≡ Some x → declared_as y ≡ declared_as x → IsSoundShared used xs rs → IsSoundShared (Some n) (slice_set xs n y) rs
+sound_used used xs rs n x y none there same h =
+    sound_with used (Some n) xs rs n x y there same
+    (places_set used (Some n) xs n x y there (slice_get_within xs n x there) (λ m differ unused was. none-some m (sym none ∙ was)) (λ unused. absurd (unused refl)) h.places) h
+
 -- ---- what an index gives
 
 pub got_is : {X : Type 0} (xs : List X) (n : ℕ) (x : X) → n < length xs → x ≡ slice_index_or xs n x → slice_get xs n ≡ Some x
 got_is xs n x within is = slice_get-get_or xs n x within ∙ ap Some (sym is)
+
+-- at a place of the setup
+pub got_asked : (xs : List SharedResource) (rs : List Resource) (n : ℕ) (x : SharedResource) → map declared_as xs ≡ map without_opening rs → n < length rs
+    → x ≡ slice_index_or xs n x → slice_get xs n ≡ Some x
+got_asked xs rs n x opened asked is = got_is xs n x (subst (λ k. n < k) (sym (same_length xs rs opened)) asked) is
 
 -- one is as before but for its room
 pub same_but_room : (xs : List SharedResource) (n : ℕ) (x y : SharedResource) → x ≡ slice_index_or xs n x → without_room y ≡ without_room x →

@@ -61,7 +61,7 @@ any_sorted p [] = refl
 any_sorted p (w ∷ ws) = any_inserted p w (sorted_waiters ws) ∙ ap (λ b. p w || b) (any_sorted p ws)
 
 -- a test is passed in any order
-any_in_order : (p : Waiter → Bool) (k : ResourceKind) (ws : List Waiter) → list_any p (in_order k ws) ≡ list_any p ws
+pub any_in_order : (p : Waiter → Bool) (k : ResourceKind) (ws : List Waiter) → list_any p (in_order k ws) ≡ list_any p ws
 any_in_order p resource.Priority ws = any_sorted p ws
 any_in_order p resource.Preemptive ws = any_sorted p ws
 any_in_order p _ ws = refl

@@ -5,5 +5,8 @@ pub mod ShowsAll
 pub mod Making
 pub mod Waiting
 pub mod Using
+pub mod Joining
+pub mod Granting
 -- how it is kept
 pub mod Places
+pub mod Serving

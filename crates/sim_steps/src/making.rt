@@ -1,5 +1,5 @@
 //! What is made where a kernel is opened.
-ghost use Rattle.std.specs.Prelude.{◌≡◌, ◌<◌, ◌≤◌, ◌^◌, ◌+◌, pos, ◌≤ℤ◌, [], length, IfOk};
+ghost use Rattle.std.specs.Prelude.{◌≡◌, ◌<◌, ◌≤◌, ◌^◌, ◌+◌, pos, ◌≤ℤ◌, length, OnOk};
 ghost use Rattle.sim_machine.specs.Runs.{first_calendar};
 ghost use Rattle.sim_happen_model.specs.HappenOf.{held};
 ghost use Rattle.sim_happen_model.specs.Shows.{Shows};
@@ -8,24 +8,25 @@ ghost use Rattle.sim_steps_model.specs.Opening.{next_process, next_init, MakesPr
 
 use sim_happen::Happen;
 use sim_types::{Callback, EventId, EventKind, Outcome, ProcId, Until};
-use std::alloc::{AllocError, Global};
+use std::alloc::AllocError;
 
 /// The priority of what comes first at a time (SimPy's URGENT).
 const URGENT: u8 = 0;
 
-/// Time 0 with event 0 and so many named events, in which nothing is scheduled or registered.
-pub(crate) fn named_events(alloc: Global, named: u64) -> Result<Happen, AllocError>
-    requires { named ≤ 1024 }
-    ensures shows { IfOk result (λ h. Shows h (first_calendar named)) }
-    ensures left { IfOk result (λ h. h.left ≡ []) }
-    ensures kept { IfOk result (λ h. AreAllKept 1 (held h)) }
+/// Makes so many named events. So far event 0 alone is there.
+pub(crate) fn make_named(happen: &mut Happen, named: u64) -> Result<(), AllocError>
+    requires few { named ≤ 1024 }
+    requires first { Shows happen.old (first_calendar 0) }
+    requires held { AreAllKept 1 (held happen.old) }
+    ensures shows { OnOk result (Shows happen.new (first_calendar named)) }
+    ensures left { happen.new.left ≡ happen.old.left }
+    ensures kept { AreAllKept 1 (held happen.new) }
 {
-    let mut happen = Happen::new(alloc)?;
     for made in 0..named {
         happen.reserve(1, 0)?;
         happen.make(EventKind::Plain);
     }
-    Ok(happen)
+    Ok(())
 }
 
 /// Makes the event of a process and its init event, which is urgent, is due now, and resumes the process. The answer is

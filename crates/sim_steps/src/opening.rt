@@ -1,20 +1,23 @@
 ghost use Rattle.std.specs.Prelude.{◌≡◌, ◌+◌, ◌<◌, ◌≤◌, ◌^◌, pos, length, IfOk, OnOk, OnErr, IsTrue, None};
+ghost use Rattle.std.specs.List.{AllPass};
+ghost use Rattle.sim_types.specs.Setups.{resource_fits};
 ghost use Rattle.sim_machine.specs.Runs.{blank_state};
 ghost use Rattle.sim_machine.specs.Setups.{FitsCode, start_fits};
 ghost use Rattle.sim_procs.specs.RecordOf.{record_of};
 ghost use Rattle.sim_happen_model.specs.HappenOf.{held};
 ghost use Rattle.sim_steps_model.specs.Becoming.{AreAllKept};
-ghost use Rattle.sim_steps_model.specs.PartsOf.{plan_of};
+ghost use Rattle.sim_steps_model.specs.PartsOf.{KeepsButHappen, KeepsButRoom, plan_of};
 ghost use Rattle.sim_steps_model.specs.StandsFor.{StandsFor};
-ghost use Rattle.sim_steps_model.specs.Opening.{Begins, CanStop, IsOpening, Starts, SetsStop, next_process, KeepsButHappen, KeepsButProcesses, KeepsButRoom};
+ghost use Rattle.sim_steps_model.specs.Opening.{Begins, CanStop, IsOpening, Starts, SetsStop, next_process, KeepsButProcesses};
 
-use crate::making::{make_process, named_events, set_stop};
+use crate::making::{make_named, make_process, set_stop};
 use sim_steps_model::Mode;
 use crate::parts::Parts;
 use rand_core::SeedableRng;
 use rand_pcg::Pcg64;
 use sim_memo::Memo;
 use sim_procs::{Body, Procs};
+use sim_shared::Shared;
 use sim_types::{Setup, Start};
 use std::alloc::{AllocError, Global};
 
@@ -27,17 +30,19 @@ impl<B: Body> Parts<B> {
         seed: u64,
     ) -> Result<Parts<B>, AllocError>
         requires few { setup.now.events ≤ 1024 }
+        requires fit { AllPass resource_fits setup.now.resources }
         ensures code { IfOk result (λ p. p.code ≡ code.now) }
         ensures setup { IfOk result (λ p. p.setup ≡ setup.now) }
         ensures seed { IfOk result (λ p. p.seed ≡ seed) }
         ensures stands { IfOk result (λ p. StandsFor p (blank_state (plan_of B.body p))) }
-        ensures kept { IfOk result (λ p. AreAllKept 1 (held p.happen)) }
+        ensures kept { IfOk result (λ p. AreAllKept 1 (held p.shared.happen)) }
     {
-        let happen = named_events(alloc, setup.events)?;
+        let mut shared = Shared::new(alloc, &setup.resources)?;
+        make_named(shared.happen_mut(), setup.events)?;
         let generator = Pcg64::seed_from_u64(seed);
         let processes = Procs::new(alloc)?;
         Ok(Parts {
-            happen,
+            shared,
             processed: 0,
             generator,
             processes,
@@ -50,15 +55,15 @@ impl<B: Body> Parts<B> {
 
     // Makes a process of a body that was filled. It is told its number, which is that of its event.
     fn begin(&mut self, body: B)
-        requires events { 2 ≤ self.old.happen.spare.events }
-        requires callbacks { 1 ≤ self.old.happen.spare.callbacks }
+        requires events { 2 ≤ self.old.shared.happen.spare.events }
+        requires callbacks { 1 ≤ self.old.shared.happen.spare.callbacks }
         requires record_room { 1 ≤ self.old.spare }
-        requires number { length self.old.happen.events + 2 ≤ 2 ^ 62 }
-        requires at_start { self.old.happen.time ≡ pos 0 }
-        requires not_alive { record_of (next_process self.old.happen) self.old.live ≡ None }
-        ensures { Begins (B.body.numbered body (next_process self.old.happen)) self.old self.new }
+        requires number { length self.old.shared.happen.events + 2 ≤ 2 ^ 62 }
+        requires at_start { self.old.shared.happen.time ≡ pos 0 }
+        requires not_alive { record_of (next_process self.old.shared.happen) self.old.live ≡ None }
+        ensures { Begins (B.body.numbered body (next_process self.old.shared.happen)) self.old self.new }
     {
-        let (process, init) = make_process(&mut self.happen);
+        let (process, init) = make_process(self.shared.happen_mut());
         let mut body = body;
         body.own(process);
         self.processes.add(process, body, init);
@@ -70,13 +75,13 @@ impl<B: Body> Parts<B> {
         requires setup { FitsCode (B.body.facts code.now) self.old.setup }
         requires fits { IsTrue (start_fits (B.body.facts code.now) start.now) }
         requires opening { IsOpening self.old }
-        requires number { length self.old.happen.events + 2 ≤ 2 ^ 62 }
+        requires number { length self.old.shared.happen.events + 2 ≤ 2 ^ 62 }
         ensures kept { KeepsButProcesses self.old self.new }
         ensures err { OnErr result (KeepsButRoom self.old self.new) }
         ensures starts { OnOk result (Starts B.body start.now self.old self.new) }
         ensures opening { OnOk result (IsOpening self.new) }
     {
-        self.happen.reserve(2, 1)?;
+        self.shared.happen_mut().reserve(2, 1)?;
         self.processes.reserve()?;
         let mut body = B::blank(alloc, code)?;
         body.fill(code, start.kind, start.args.copied());
@@ -86,22 +91,22 @@ impl<B: Body> Parts<B> {
 
     /// Sets what is to stop the run. So far it is time 0.
     pub fn set_stop(&mut self, setup: &Setup) -> Result<(), AllocError>
-        requires at_start { self.old.happen.time ≡ pos 0 }
-        requires number { length self.old.happen.events < 2 ^ 62 }
-        requires possible { CanStop setup.now.until self.old.happen }
+        requires at_start { self.old.shared.happen.time ≡ pos 0 }
+        requires number { length self.old.shared.happen.events < 2 ^ 62 }
+        requires possible { CanStop setup.now.until self.old.shared.happen }
         ensures kept { KeepsButHappen self.old self.new }
         ensures sets { OnOk result
-            (SetsStop setup.now.until self.old.happen self.new.happen) }
+            (SetsStop setup.now.until self.old.shared.happen self.new.shared.happen) }
     {
-        self.happen.reserve(1, 1)?;
-        set_stop(&mut self.happen, setup.until);
+        self.shared.happen_mut().reserve(1, 1)?;
+        set_stop(self.shared.happen_mut(), setup.until);
         Ok(())
     }
 
     /// Spends the parts.
     pub fn abandon(self) {
         let Parts {
-            happen: _,
+            shared: _,
             processed: _,
             generator: _,
             processes,

@@ -8,7 +8,7 @@ ghost use Rattle.sim_events.specs.TableOf.{IsKept, kept_at};
 ghost use Rattle.sim_happen_model.specs.HappenOf.{IsOpen};
 ghost use Rattle.sim_happen_model.specs.Shows.{Follows};
 ghost use Rattle.sim_steps_model.specs.Becoming.{Becomes};
-ghost use Rattle.sim_steps_model.specs.PartsOf.{HasUnitRoom, IsRunningIn, plan_of};
+ghost use Rattle.sim_steps_model.specs.PartsOf.{HasUnitRoom, IsRunningIn, KeepsButHappen, plan_of};
 
 use crate::draw::number_between;
 use crate::parts::Parts;
@@ -24,12 +24,12 @@ impl<B: Body> Parts<B> {
     fn wait(&mut self, event: EventId, process: ProcId, on: EventId)
         requires running { IsRunningIn event process self.old.control }
         requires alive { IsSome (record_of process self.old.live) }
-        requires kept { IsKept self.old.happen.events on }
-        requires unprocessed { IsFalse (kept_at self.old.happen.events on).event.processed }
-        requires room { 0 < self.old.happen.spare.callbacks }
+        requires kept { IsKept self.old.shared.happen.events on }
+        requires unprocessed { IsFalse (kept_at self.old.shared.happen.events on).event.processed }
+        requires room { 0 < self.old.shared.happen.spare.callbacks }
         ensures becomes { Becomes (processes.wait on process) self.old self.new }
     {
-        self.happen.register(on, Callback::Resume(process));
+        self.shared.happen_mut().register(on, Callback::Resume(process));
         self.processes.set_target(process, on);
         self.rest(event);
     }
@@ -39,12 +39,12 @@ impl<B: Body> Parts<B> {
         requires running { IsRunningIn event process self.old.control }
         requires alive { IsSome (record_of process self.old.live) }
         requires room { HasUnitRoom self.old }
-        requires number { length self.old.happen.events < 2 ^ 62 }
+        requires number { length self.old.shared.happen.events < 2 ^ 62 }
         ensures becomes { Becomes
             (effect.with_timeout delay value (λ e s. processes.wait e process s))
             self.old self.new }
     {
-        match self.happen.timeout(delay, value) {
+        match self.shared.happen_mut().timeout(delay, value) {
             Ok(timeout) => self.wait(event, process, timeout),
             Err(TimeoutFault::NegativeDelay) => {
                 self.tell(event, process, Signal::Raised(NEGATIVE_DELAY))
@@ -71,18 +71,18 @@ impl<B: Body> Parts<B> {
 
     // An event gets its outcome now, after all that is urgent, unless it has one.
     fn trigger(&mut self, event: EventId, outcome: Outcome) -> Result<(), AlreadyTriggered>
-        requires kept { IsKept self.old.happen.events event }
-        requires not_cancelled { IsFalse (kept_at self.old.happen.events event).event.cancelled }
+        requires kept { IsKept self.old.shared.happen.events event }
+        requires not_cancelled { IsFalse (kept_at self.old.shared.happen.events event).event.cancelled }
         ensures refused { IsErr result
-            ↔ IsSome (kept_at self.old.happen.events event).event.outcome }
+            ↔ IsSome (kept_at self.old.shared.happen.events event).event.outcome }
         ensures ok { OnOk result (Follows (triggering.trigger event outcome)
-            self.old.happen self.new.happen) }
+            self.old.shared.happen self.new.shared.happen) }
         ensures err { OnErr result (self.new ≡ self.old) }
-        ensures rest { self.new ≡ record self.old { happen = self.new.happen } }
+        ensures rest { KeepsButHappen self.old self.new }
     {
         match outcome {
-            Outcome::Ok(value) => self.happen.succeed(event, value),
-            Outcome::Fail(what) => self.happen.fail(event, what),
+            Outcome::Ok(value) => self.shared.happen_mut().succeed(event, value),
+            Outcome::Fail(what) => self.shared.happen_mut().fail(event, what),
         }
     }
 
@@ -90,7 +90,7 @@ impl<B: Body> Parts<B> {
     pub(crate) fn end(&mut self, event: EventId, process: ProcId, outcome: Outcome)
         requires running { IsRunningIn event process self.old.control }
         requires alive { IsSomeAnd (record_of process self.old.live) (λ r. r.scopes ≡ []) }
-        requires is_open { IsOpen self.old.happen (processes.event_of process) }
+        requires is_open { IsOpen self.old.shared.happen (processes.event_of process) }
         ensures becomes { Becomes (λ s. processes.rest (processes.end_process process outcome s))
             self.old self.new }
     {

@@ -6,27 +6,21 @@ ghost use Rattle.sim_happen_model.specs.HappenOf.{held};
 ghost use Rattle.sim_steps_model.specs.Becoming.{AreAllKept, Moves};
 ghost use Rattle.sim_steps_model.specs.Built.{AsksForBuilt, is_built_callback};
 ghost use Rattle.sim_steps_model.specs.Resting.{CanStep, rest_in};
-ghost use Rattle.sim_steps_model.specs.PartsOf.{HasUnitRoom, IsRunningIn, IsRunningAt, with_room};
+ghost use Rattle.sim_steps_model.specs.PartsOf.{HasUnitRoom, IsRunningIn, IsRunningAt, KeepsButRoom};
 ghost use Rattle.sim_steps_model.specs.StandsFor.{StandsForSome};
 
 use sim_steps_model::{Mode, Rest, Unit};
 use rand_pcg::Pcg64;
-use sim_happen::Happen;
 use sim_memo::Memo;
 use sim_procs::{Body, Procs};
+use sim_shared::Shared;
 use sim_types::{EventId, ProcId, Setup, Signal};
 use std::alloc::AllocError;
 use std::marker::Model;
 
-/// One unit makes so many events at most, and registers so many callbacks.
-const MOST_MADE: u32 = 1;
-
-/// Where room is made, it is made for so many events and callbacks at once.
-const ROOM: u32 = 64;
-
-/// Time and what happens in it, the live processes and the numbers of a kernel, and what it was opened with.
+/// Time, what happens in it and the resources, the live processes and the numbers of a kernel, and what it was opened with.
 pub struct Parts<B: Body> {
-    pub(crate) happen: Happen,
+    pub(crate) shared: Shared,
     pub(crate) processed: u64,
     pub(crate) generator: Pcg64,
     pub(crate) processes: Procs<B>,
@@ -37,36 +31,32 @@ pub struct Parts<B: Body> {
 }
 
 impl<B: Body> Model for Parts<B> {
-    ghost use Rattle.sim_steps_model.specs.PartsOf.{PartsOf, control_of, NoneLeftIdle};
+    ghost use Rattle.sim_steps_model.specs.PartsOf.{PartsOf, control_of, AreSoundParts};
 
     ghost Value = { PartsOf B B.Code };
 
     ghost view = { λ a. record {
-      happen = a.happen;
+      shared = a.shared;
       processed = a.processed;
       generator = a.generator;
       live = a.processes.live;
-      control = control_of a.mode a.happen.left;
+      control = control_of a.mode a.shared.happen.left;
       code = a.code.value;
       setup = a.setup.value;
       seed = a.seed.value;
       spare = a.processes.spare;
     } };
 
-    ghost invariant = { λ a. NoneLeftIdle a.mode a.happen.left };
+    ghost invariant = { λ a. AreSoundParts a.mode a.shared a.setup.value };
 }
 
 impl<B: Body> Parts<B> {
     /// Makes room for all that one unit takes.
     pub fn reserve(&mut self) -> Result<(), AllocError>
-        ensures kept { self.new ≡ with_room self.new.happen.spare self.new.spare self.old }
+        ensures kept { KeepsButRoom self.old self.new }
         ensures room { OnOk result (HasUnitRoom self.new) }
     {
-        if self.happen.has_room(MOST_MADE, MOST_MADE) {
-            Ok(())
-        } else {
-            self.happen.reserve(ROOM, ROOM)
-        }
+        self.shared.reserve()
     }
 
     /// The running process goes on, and is told this.
@@ -90,7 +80,7 @@ impl<B: Body> Parts<B> {
         ensures { result ≡ rest_in self.now }
     {
         match self.mode {
-            Mode::Idle if self.happen.is_empty() => Rest::Empty,
+            Mode::Idle if self.shared.happen().is_empty() => Rest::Empty,
             Mode::Idle => Rest::Idle,
             Mode::Calling(_) | Mode::Active(_, _, _) => Rest::Busy,
             Mode::Over(why, _) => Rest::Over(why),
@@ -99,9 +89,9 @@ impl<B: Body> Parts<B> {
 
     /// The time of the machine.
     pub fn now(&self) -> i64
-        ensures { result ≡ self.now.happen.time }
+        ensures { result ≡ self.now.shared.happen.time }
     {
-        self.happen.now()
+        self.shared.happen().now()
     }
 
     /// How many events were processed.
@@ -119,8 +109,8 @@ impl<B: Body> Parts<B> {
         requires asks { AsksForBuilt B.body code.now }
         requires built { AllPass is_built_callback (left_of self.old.control) }
         requires room { HasUnitRoom self.old }
-        requires kept { AreAllKept (2 ^ 32) (held self.old.happen) }
-        requires events { length self.old.happen.events < 2 ^ 62 }
+        requires kept { AreAllKept (2 ^ 40) (held self.old.shared.happen) }
+        requires events { length self.old.shared.happen.events < 2 ^ 62 }
         requires processed { self.old.processed < 2 ^ 62 }
         ensures moves { Moves B.body self.old result self.new }
     {

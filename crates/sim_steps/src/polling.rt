@@ -19,11 +19,11 @@ impl<B: Body> Parts<B> {
         requires stands { StandsForSome B.body self.old }
         requires running { IsRunning event process told self.old.control }
         requires built { AsksForBuilt B.body code.now }
-        requires events { length self.old.happen.events < 2 ^ 62 }
+        requires events { length self.old.shared.happen.events < 2 ^ 62 }
         ensures asked { Asks B.body process told self.old result self.new }
         ensures built { IsTrue (is_built result) }
     {
-        let time = self.happen.now();
+        let time = self.shared.happen().now();
         self.processes.body_mut(process).poll(code, time, told)
     }
 
@@ -40,8 +40,8 @@ impl<B: Body> Parts<B> {
         requires running { IsRunning event process told self.old.control }
         requires built { AsksForBuilt B.body code.now }
         requires room { HasUnitRoom self.old }
-        requires kept { AreAllKept (2 ^ 32) (held self.old.happen) }
-        requires events { length self.old.happen.events < 2 ^ 62 }
+        requires kept { AreAllKept (2 ^ 40) (held self.old.shared.happen) }
+        requires events { length self.old.shared.happen.events < 2 ^ 62 }
         ensures moves { Moves B.body self.old result self.new }
     {
         match self.ask(code, event, process, told) {
@@ -52,7 +52,7 @@ impl<B: Body> Parts<B> {
             Op::Die(what) => self.end(event, process, Outcome::Fail(what)),
             Op::Log(value) => {
                 self.tell(event, process, Signal::Done);
-                let time = self.happen.now();
+                let time = self.shared.happen().now();
                 return Unit::Line(Line::Log {
                     time,
                     process,

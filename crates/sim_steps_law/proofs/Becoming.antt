@@ -1,22 +1,29 @@
 -- What the parts of a kernel become is lifted to the states that it stands for, one lemma for each part.
-use Rattle.std.proofs.Common.{◌≡◌, ◌+◌, List, refl, sym, ap, subst, ◌∙◌, map, add-one, arith, if◌then◌else◌}
+use Rattle.std.proofs.Common.{◌≡◌, ℕ, ◌+◌, ◌≤◌, List, Option, length, refl, sym, ap, subst, ◌∙◌, map, add-one, arith, if◌then◌else◌}
+use Rattle.std.proofs.lemmas.List.{length-map}
 use Rattle.std.specs.List.Sorted.{IsPermutation}
 use Rattle.std.proofs.lemmas.List.Sorted.{IsPermutation-map}
 use Rattle.rand_pcg.specs.Pcg.{pcg64}
 use Rattle.sim_types.specs.declared.event.ProcId.{ProcId}
 use Rattle.sim_types.specs.declared.event.Signal.{Signal}
 use Rattle.sim_types.specs.declared.line.Line.{Line}
-use Rattle.sim_machine.specs.State.{Calendar, ProcessOf, Control, State}
+use Rattle.sim_machine.specs.State.{Calendar, Facilities, ProcessOf, Control, State}
 use Rattle.sim_machine.specs.Events.{is_process}
-use Rattle.sim_machine.specs.Scopes.{on_events}
+use Rattle.sim_machine.specs.Trying.{on_calendar}
+use Rattle.sim_machine.specs.Scopes.{on_facilities, on_events}
 use Rattle.sim_machine.specs.Processes.{change_process, told_more, not_active, tell, rest, write_line}
 use Rattle.sim_procs.specs.RecordOf.{RecordOf, change_record}
-use Rattle.sim_happen_model.specs.HappenOf.{HappenOf, held, unheld_event}
+use Rattle.sim_happen_model.specs.HappenOf.{HappenOf, held, as_before, unheld_event}
 use Rattle.sim_happen_model.specs.Shows.{Shows, Turns, Follows}
-use Rattle.sim_steps_model.specs.PartsOf.{PartsOf, IsOpenedAs}
+use Rattle.sim_happen_law.proofs.Held.{holders_at}
+use Rattle.sim_shared_model.specs.SharedOf.{SharedOf}
+use Rattle.sim_shared_model.specs.ShowsAll.{ShowsAll, TurnsAll, FollowsAll}
+use Rattle.sim_shared_model.specs.Making.{MakesAll, unheld_events}
+use Rattle.sim_shared_law.proofs.FollowingFacilities.{shown_later, tidy_later}
+use Rattle.sim_steps_model.specs.PartsOf.{PartsOf, IsOpenedAs, with_happen}
 use Rattle.sim_steps_model.specs.StandsFor.{StandsFor, process_of, scopes_of}
-use Rattle.sim_steps_model.specs.Becoming.{AreAllKept, Stands, Becomes}
-use Rattle.sim_steps_law.proofs.Keeping.{keeps_same, keeps_then, all_kept_made, all_kept_weaker}
+use Rattle.sim_steps_model.specs.Becoming.{Stands, Becomes, BecomesWith}
+use Rattle.sim_steps_law.proofs.Keeping.{AddsHolders, adds_none, adds_unheld, keeps_by, keeps_more, keeps_same, keeps_then}
 use Rattle.sim_steps_law.proofs.Records.{changed_mapped, changed_scopes, changed_distinct}
 
 pub opened_then : {B Code : Type 0} (a b c : PartsOf B Code) → IsOpenedAs a b → IsOpenedAs b c → IsOpenedAs a c
@@ -24,53 +31,94 @@ opened_then a b c h k = record { code = k.code ∙ h.code; setup = k.setup ∙ h
 
 -- ---- one change after another
 
-pub becomes_then : {B Code : Type 0} (f g : State B → State B) (a b c : PartsOf B Code) → Becomes f a b → Becomes g b c → Becomes (λ s. g (f s)) a c
-becomes_then f g a b c p q =
+pub becomes_then : {B Code : Type 0} {m n : ℕ} (f g : State B → State B) (a b c : PartsOf B Code) → BecomesWith m f a b → BecomesWith n g b c →
+    BecomesWith (m + n) (λ s. g (f s)) a c
+becomes_then {B} {Code} {m} {n} f g a b c p q =
     record {
       each = λ s h. q.each (f s) (p.each s h);
       opened = opened_then a b c p.opened q.opened;
-      kept = keeps_then 0 0 a b c p.kept q.kept;
+      kept = keeps_then m n a b c p.kept q.kept;
     }
 
+-- so many holders more, or fewer than so many
+pub becomes_within : {B Code : Type 0} (m n : ℕ) (f : State B → State B) (a b : PartsOf B Code) → m ≤ n → BecomesWith m f a b → BecomesWith n f a b
+becomes_within m n f a b few p = record { each = p.each; opened = p.opened; kept = keeps_more m n a b few p.kept }
+
 -- changes that come to the same at each state that the kernel stands for
-pub becomes_as : {B Code : Type 0} (f g : State B → State B) (a b : PartsOf B Code) → ((s : State B) → Stands a s → f s ≡ g s) → Becomes f a b →
-    Becomes g a b
+pub becomes_as : {B Code : Type 0} {m : ℕ} (f g : State B → State B) (a b : PartsOf B Code) → ((s : State B) → Stands a s → f s ≡ g s) →
+    BecomesWith m f a b → BecomesWith m g a b
 becomes_as f g a b same p = record { each = λ s h. subst (Stands b) (same s h) (p.each s h); opened = p.opened; kept = p.kept }
 
--- ---- what happens
+-- ---- the resources
 
-pub stands_on_events : {B Code : Type 0} (change : Calendar → Calendar) (a : PartsOf B Code) (x : HappenOf) (s : State B) →
-    ((c : Calendar) → Shows a.happen c → Shows x (change c)) → StandsFor a s → StandsFor (record a { happen = x }) (on_events change s)
-stands_on_events change a x s shows h =
+pub stands_on_facilities : {B Code : Type 0} (change : Facilities → Facilities) (a : PartsOf B Code) (x : SharedOf) (s : State B) →
+    (ShowsAll a.shared s.facilities → ShowsAll x (change s.facilities)) → StandsFor a s → StandsFor (record a { shared = x }) (on_facilities change s)
+stands_on_facilities change a x s shows h =
     record {
-      calendar = shows s.facilities.calendar h.calendar;
+      facilities = shows h.facilities;
       processed = h.processed;
       generator = h.generator;
       processes = h.processes;
       scopes = h.scopes;
       control = h.control;
-      waiters = h.waiters;
-      ledger = h.ledger;
     }
 
-pub becomes_followed : {B Code : Type 0} (change : Calendar → Calendar) (a : PartsOf B Code) (x : HappenOf) → Follows change a.happen x →
-    Becomes (on_events change) a (record a { happen = x })
-becomes_followed change a x t =
+-- each event has so many holders more at most
+pub becomes_turned_all : {B Code : Type 0} (more : ℕ) (change : Facilities → Facilities) (holds : List (Option ℕ) → List (Option ℕ)) (a : PartsOf B Code)
+    (x : SharedOf) → AddsHolders more holds → TurnsAll change holds a.shared x → BecomesWith more (on_facilities change) a (record a { shared = x })
+becomes_turned_all more change holds a x adds t =
     record {
-      each = λ s h. record { stands = stands_on_events change a x s t.each h.stands; distinct = h.distinct };
+      each = λ s h. record { stands = stands_on_facilities change a x s (t.each s.facilities) h.stands; distinct = h.distinct };
       opened = record { code = refl; setup = refl; seed = refl };
-      kept = keeps_same a (record a { happen = x }) t.held;
+      kept = keeps_by more holds a (record a { shared = x }) adds t.held;
     }
+
+pub becomes_on_facilities : {B Code : Type 0} (change : Facilities → Facilities) (a : PartsOf B Code) (x : SharedOf) → FollowsAll change a.shared x →
+    Becomes (on_facilities change) a (record a { shared = x })
+becomes_on_facilities change a x t = becomes_turned_all 0 change as_before a x adds_none t
+
+-- so many events more at most
+pub becomes_made_all : {B Code : Type 0} (most : ℕ) (change : Facilities → Facilities) (a : PartsOf B Code) (x : SharedOf) →
+    MakesAll most change a.shared x → Becomes (on_facilities change) a (record a { shared = x })
+becomes_made_all most change a x m = becomes_turned_all 0 change (unheld_events m.made) a x (adds_unheld m.made) m.turns
+
+-- ---- what happens, which changes no resource
+
+-- another calendar with no fewer events
+pub shown_with : (a : SharedOf) (x : HappenOf) (f : Facilities) (d : Calendar) → length a.happen.events ≤ length x.events → Shows x d →
+    ShowsAll a f → ShowsAll (record a { happen = x }) (record f { calendar = d })
+shown_with a x f d more s h =
+    record {
+      calendar = s;
+      opened = h.opened;
+      resources = λ res y there. shown_later a.setup res y f d (h.resources res y there);
+      tidy = tidy_later (length a.setup) f d (omega (arith, h.calendar.made, s.made, more)) h.tidy;
+    }
+
+pub no_fewer : (more : ℕ) (holds : List (Option ℕ) → List (Option ℕ)) (a x : HappenOf) → AddsHolders more holds → held x ≡ holds (held a) →
+    length a.events ≤ length x.events
+no_fewer more holds a x adds is =
+    omega (arith, adds.longer (held a), ap (λ (hs : List (Option ℕ)). length hs) is, length-map a.events holders_at, length-map x.events holders_at)
+
+pub becomes_turned : {B Code : Type 0} (more : ℕ) (change : Calendar → Calendar) (holds : List (Option ℕ) → List (Option ℕ)) (a : PartsOf B Code)
+    (x : HappenOf) → AddsHolders more holds → Turns change holds a.shared.happen x → BecomesWith more (on_events change) a (with_happen x a)
+becomes_turned more change holds a x adds t =
+    becomes_turned_all more (on_calendar change) holds a (record a.shared { happen = x }) adds
+    (record {
+      each = λ f h. shown_with a.shared x f (change f.calendar) (no_fewer more holds a.shared.happen x adds t.held) (t.each f.calendar h.calendar) h;
+      held = t.held;
+      left = t.left;
+      setup = refl;
+    })
+
+pub becomes_followed : {B Code : Type 0} (change : Calendar → Calendar) (a : PartsOf B Code) (x : HappenOf) → Follows change a.shared.happen x →
+    Becomes (on_events change) a (with_happen x a)
+becomes_followed change a x t = becomes_turned 0 change as_before a x adds_none t
 
 -- an event more
-pub becomes_made : {B Code : Type 0} (change : Calendar → Calendar) (a : PartsOf B Code) (x : HappenOf) → Turns change unheld_event a.happen x →
-    Becomes (on_events change) a (record a { happen = x })
-becomes_made change a x t =
-    record {
-      each = λ s h. record { stands = stands_on_events change a x s t.each h.stands; distinct = h.distinct };
-      opened = record { code = refl; setup = refl; seed = refl };
-      kept = record { kept = λ most h. subst (AreAllKept (most + 0)) (sym t.held) (all_kept_made (most + 0) (held a.happen) (all_kept_weaker most (most + 0) (held a.happen) (omega arith) h)) };
-    }
+pub becomes_made : {B Code : Type 0} (change : Calendar → Calendar) (a : PartsOf B Code) (x : HappenOf) →
+    Turns change unheld_event a.shared.happen x → Becomes (on_events change) a (with_happen x a)
+becomes_made change a x t = becomes_turned 0 change unheld_event a x (adds_unheld 1) t
 
 -- ---- what is being done
 
@@ -78,14 +126,12 @@ stands_controlled : {B Code : Type 0} (a : PartsOf B Code) (s : State B) (c d : 
     StandsFor (record a { control = c }) (record s { control = d })
 stands_controlled a s c d same h =
     record {
-      calendar = h.calendar;
+      facilities = h.facilities;
       processed = h.processed;
       generator = h.generator;
       processes = h.processes;
       scopes = h.scopes;
       control = same;
-      waiters = h.waiters;
-      ledger = h.ledger;
     }
 
 -- what the control becomes, by what it was
@@ -111,14 +157,12 @@ becomes_written line a =
     record {
       each = λ s h. record {
         stands = record {
-          calendar = h.stands.calendar;
+          facilities = h.stands.facilities;
           processed = h.stands.processed;
           generator = h.stands.generator;
           processes = h.stands.processes;
           scopes = h.stands.scopes;
           control = h.stands.control;
-          waiters = h.stands.waiters;
-          ledger = h.stands.ledger;
         };
         distinct = h.distinct;
       };
@@ -134,14 +178,12 @@ becomes_drawn a =
     record {
       each = λ s h. record {
         stands = record {
-          calendar = h.stands.calendar;
+          facilities = h.stands.facilities;
           processed = h.stands.processed;
           generator = rw (add-one, h.stands.generator) refl;
           processes = h.stands.processes;
           scopes = h.stands.scopes;
           control = h.stands.control;
-          waiters = h.stands.waiters;
-          ledger = h.stands.ledger;
         };
         distinct = h.distinct;
       };
@@ -161,14 +203,12 @@ becomes_changed {B} p change changes a same ids scopes keeps =
           let P : List (ProcessOf B) → Type 0 = λ xs. IsPermutation (change_process p changes s).processes xs in
           record {
             stands = record {
-              calendar = h.stands.calendar;
+              facilities = h.stands.facilities;
               processed = h.stands.processed;
               generator = h.stands.generator;
               processes = subst P (changed_mapped p change changes same a.live) (IsPermutation-map (λ x. if is_process x.id p then changes x else x) s.processes (map process_of a.live) h.stands.processes);
               scopes = changed_scopes p change (λ q. scopes_of q s) ids scopes a.live h.stands.scopes;
               control = h.stands.control;
-              waiters = h.stands.waiters;
-              ledger = h.stands.ledger;
             };
             distinct = changed_distinct p changes s keeps h.distinct;
           };

@@ -31,14 +31,15 @@ use Rattle.sim_machine_law.proofs.KeptTimes.{found_pending}
 use Rattle.sim_machine_law.proofs.KeptWaitingPolls.{own_scopes}
 use Rattle.sim_machine_law.proofs.KeptProcessesParts.{is_process-self, is_process-yes}
 use Rattle.sim_procs.specs.RecordOf.{RecordOf, record_of, change_record}
-use Rattle.sim_happen_model.specs.HappenOf.{HappenOf, IsOpen, held}
+use Rattle.sim_happen_model.specs.HappenOf.{HappenOf, IsOpen, as_before, held}
 use Rattle.sim_happen_model.specs.Shows.{Follows}
 use Rattle.sim_happen_law.proofs.Following.{read_is}
-use Rattle.sim_steps_model.specs.PartsOf.{PartsOf, IsRunning, plan_of}
+use Rattle.sim_steps_model.specs.PartsOf.{PartsOf, IsRunning, plan_of, with_happen}
 use Rattle.sim_steps_model.specs.StandsFor.{StandsForSome, process_of, scopes_of}
 use Rattle.sim_steps_model.specs.Becoming.{AreAllKept, Becomes}
 use Rattle.sim_steps_model.specs.Polling.{Asks}
-use Rattle.sim_steps_law.proofs.Keeping.{made_is_kept, keeps_same}
+use Rattle.sim_steps_law.proofs.Keeping.{adds_none, made_is_kept, keeps_same}
+use Rattle.sim_steps_law.proofs.Becoming.{no_fewer, shown_with}
 use Rattle.sim_steps_law.proofs.Polls.{running_is, found_record}
 use Rattle.sim_steps_law.proofs.Running.{KeepsLaw, process_found, running_can_be_told}
 
@@ -55,8 +56,8 @@ found_id : {B : Type 0} (p : ProcId) (live : List (RecordOf B)) (r : RecordOf B)
 found_id p live r h = eqb-true r.id.0 p.0 (find_passes (λ x. x.id.0 == p.0) live r h)
 
 pub ended_becomes : {B Code : Type 0} (a n : PartsOf B Code) (x : HappenOf) (p : ProcId) (o : Outcome) (r : RecordOf B) (live : List (RecordOf B))
-    (spare : ℕ) → record_of p a.live ≡ Some r → IsPermutation a.live (r ∷ live) → Follows (trigger (event_of p) o) a.happen x →
-    n ≡ record a { happen = x; live = live; control = not_active a.control; spare = spare } → Becomes (λ s. rest (end_process p o s)) a n
+    (spare : ℕ) → record_of p a.live ≡ Some r → IsPermutation a.live (r ∷ live) → Follows (trigger (event_of p) o) a.shared.happen x →
+    n ≡ record (with_happen x a) { live = live; control = not_active a.control; spare = spare } → Becomes (λ s. rest (end_process p o s)) a n
 ended_becomes {B} a n x p o r live spare found others follows is =
     rw is (record {
       each = λ s h.
@@ -67,19 +68,17 @@ ended_becomes {B} a n x p o r live spare found others follows is =
           let fewer : P p.0 = subst P id (IsPermutation-without (λ y. y.id.0) (process_of r) s.processes (map process_of live) (differ s h.distinct) all) in
           record {
             stands = record {
-              calendar = follows.each s.facilities.calendar h.stands.calendar;
+              facilities = shown_with a.shared x s.facilities (trigger (event_of p) o s.facilities.calendar) (no_fewer 0 as_before a.shared.happen x adds_none follows.held) (follows.each s.facilities.calendar h.stands.facilities.calendar) h.stands.facilities;
               processed = h.stands.processed;
               generator = h.stands.generator;
               processes = fewer;
               scopes = All-tail (λ y. y.scopes ≡ scopes_of y.id s) r live (All-permutation (λ y. y.scopes ≡ scopes_of y.id s) a.live (r ∷ live) others h.stands.scopes);
               control = ap not_active h.stands.control;
-              waiters = h.stands.waiters;
-              ledger = h.stands.ledger;
             };
             distinct = AllPairs-filter (λ y z. y.id ≢ z.id) (λ y. not (is_process y.id p)) s.processes h.distinct;
           };
       opened = record { code = refl; setup = refl; seed = refl };
-      kept = keeps_same a (record a { happen = x; live = live; control = not_active a.control; spare = spare }) follows.held;
+      kept = keeps_same a (record (with_happen x a) { live = live; control = not_active a.control; spare = spare }) follows.held;
     })
 
 -- ---- what the ending of a process needs
@@ -140,7 +139,7 @@ module _ {B Code : Type 0} (body : BodyOf B Code) (old mid : PartsOf B Code) (p 
 
   -- where its operation comes only with no open scope, it has none
   pub ended_scopes : (event : EventId) → AsksWithNoScope (body.facts old.code) asked → KeepsLaw body old.code → StandsForSome body old →
-      length old.happen.events < 2 ^ 62 → IsRunning event p told old.control → Asks body p told old asked mid →
+      length old.shared.happen.events < 2 ^ 62 → IsRunning event p told old.control → Asks body p told old asked mid →
       IsSomeAnd (record_of p mid.live) (λ r. r.scopes ≡ [])
   ended_scopes event ends law h few running a =
       let s = h.state in
@@ -149,7 +148,7 @@ module _ {B Code : Type 0} (body : BodyOf B Code) (old mid : PartsOf B Code) (p 
       let is = running_is old.control event p told running in
       let found : process_at p s ≡ Some (process_of r.0) = process_found old s p h.lawful.processes.distinct h.stands ∙ ap (λ o. option_map process_of o) r.1 in
       let can = running_can_be_told body old event p told a.before h running a.found few in
-      let poll : IsLawfulPoll (body.facts old.code) tell a.before told asked a.later = law.polls a.before old.happen.time told asked a.later can.sound can.told a.turned in
+      let poll : IsLawfulPoll (body.facts old.code) tell a.before told asked a.later = law.polls a.before old.shared.happen.time told asked a.later can.sound can.told a.turned in
       let none : scopes_told (tell.scopes a.before) (tell.last a.before) told ≡ [] = length_zero _ (ends (tell.own a.later) (tell.places a.later) _ poll.asks) in
       let waiting = (basis_of (plan_of body old) tell (body.sound old.code) s h.lawful).waiting in
       let own = (own_scopes (plan_of body old) tell s event is.0 p told (process_of r.0) (sym h.stands.control ∙ is.1) found waiting p (is_process-self p)).0 in
@@ -160,7 +159,7 @@ module _ {B Code : Type 0} (body : BodyOf B Code) (old mid : PartsOf B Code) (p 
       rw r.3 (told_scopes ∙ (ap (λ q. scopes_of q s) same ∙ scopes))
 
   -- its event is kept, pending and not cancelled
-  pub polled_open : StandsForSome body old → AreAllKept (2 ^ 32) (held old.happen) → Asks body p told old asked mid → IsOpen mid.happen (event_of p)
+  pub polled_open : StandsForSome body old → AreAllKept (2 ^ 40) (held old.shared.happen) → Asks body p told old asked mid → IsOpen mid.shared.happen (event_of p)
   polled_open h all a =
       let s = h.state in
       let c : Calendar = s.facilities.calendar in
@@ -169,8 +168,8 @@ module _ {B Code : Type 0} (body : BodyOf B Code) (old mid : PartsOf B Code) (p 
       let r = record_polled a in
       let found : process_at p s ≡ Some (process_of r.0) = process_found old s p h.lawful.processes.distinct h.stands ∙ ap (λ o. option_map process_of o) r.1 in
       let own = found_pending (plan_of body old) tell (body.sound old.code) s p (process_of r.0) found (basis_of (plan_of body old) tell (body.sound old.code) s h.lawful) in
-      let kept = made_is_kept (2 ^ 32) old.happen e all (subst (λ n. e.0 < n) (sym h.stands.calendar.made) own.0) in
-      let same = read_is old.happen c e kept h.stands.calendar in
+      let kept = made_is_kept (2 ^ 40) old.shared.happen e all (subst (λ n. e.0 < n) (sym h.stands.facilities.calendar.made) own.0) in
+      let same = read_is old.shared.happen c e kept h.stands.facilities.calendar in
       let well : is_cancelled_well (event_at c e) ≡ true = h.lawful.waiting.cancelled e.0 _ own.0 in
       rw a.others (record {
         kept = kept;

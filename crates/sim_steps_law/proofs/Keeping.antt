@@ -2,15 +2,16 @@
 use Rattle.std.proofs.Common.{◌≡◌, ℕ, ◌+◌, ◌<◌, ◌≤◌, ◌^◌, zero, suc, map, List, [], ◌∷◌, length, refl, sym, subst, arith, Option, Some, None}
 use Rattle.std.specs.Prelude.{slice_index_or, slice_set, All, IsSomeAnd, IsSome}
 use Rattle.std.specs.Option.{option_map}
-use Rattle.std.proofs.lemmas.List.{length-map}
+use Rattle.std.proofs.lemmas.List.{length-map, length-append, length-set}
 use Rattle.std.proofs.lemmas.List.Elements.{All-cons, All-head, All-tail, All-nil, All-append, All-weaker}
 use Rattle.std.proofs.Math.ListN.{get_or-map}
 use Rattle.sim_types.specs.declared.event.EventId.{EventId}
 use Rattle.sim_events.specs.TableOf.{Kept, IsKept, kept_at}
-use Rattle.sim_happen_model.specs.HappenOf.{HappenOf, AreHeldByFew, held, unheld_event, one_more}
+use Rattle.sim_happen_model.specs.HappenOf.{HappenOf, AreHeldByFew, held, as_before, unheld_event, one_more}
 use Rattle.sim_happen_law.proofs.Held.{holders_at}
+use Rattle.sim_shared_model.specs.Making.{unheld_events}
 use Rattle.sim_steps_model.specs.PartsOf.{PartsOf}
-use Rattle.sim_steps_model.specs.Becoming.{AreAllKept, KeepsAll}
+use Rattle.sim_steps_model.specs.Becoming.{AreAllKept, KeepsAll, most_held}
 
 -- so many holders at most
 abbrev AtMost : ℕ → Option ℕ → Type 0
@@ -73,17 +74,58 @@ unmapped most (o ∷ es) h =
     All-cons (λ o. AtMost most (holders_at o)) o es (All-head (AtMost most) (holders_at o) (map holders_at es) h)
     (unmapped most es (All-tail (AtMost most) (holders_at o) (map holders_at es) h))
 
-pub are_few : (h : HappenOf) → AreAllKept (2 ^ 32) (held h) → AreHeldByFew h.events
-are_few h all e = omega (arith, few_of (2 ^ 32) h.events e.0 (unmapped (2 ^ 32) h.events all.each))
+pub are_few : (h : HappenOf) → AreAllKept (2 ^ 40) (held h) → AreHeldByFew h.events
+are_few h all e = omega (arith, few_of (2 ^ 40) h.events e.0 (unmapped (2 ^ 40) h.events all.each))
+
+-- ---- what becomes of the holders
+
+-- how the holders change: no event is lost, and each has so many holders more at most
+pub record AddsHolders (more : ℕ) (holds : List (Option ℕ) → List (Option ℕ)) : Type 0 where
+  pub longer : (hs : List (Option ℕ)) → length hs ≤ length (holds hs)
+  pub kept : (most : ℕ) (hs : List (Option ℕ)) → AreAllKept most hs → AreAllKept (most + more) (holds hs)
+
+pub adds_none : AddsHolders 0 as_before
+adds_none = record { longer = λ hs. omega arith; kept = λ most hs h. all_kept_weaker most (most + 0) hs (omega arith) h }
+
+pub adds_unheld : (n : ℕ) → AddsHolders 0 (unheld_events n)
+adds_unheld zero = adds_none
+adds_unheld (suc n) =
+    record {
+      longer = λ hs. omega (arith, (adds_unheld n).longer hs, length-append (unheld_events n hs) (Some 0 ∷ []));
+      kept = λ most hs h. all_kept_made (most + 0) (unheld_events n hs) ((adds_unheld n).kept most hs h);
+    }
+
+pub adds_one_more : (e : EventId) → AddsHolders 1 (one_more e)
+adds_one_more e =
+    record {
+      longer = λ hs. omega (arith, length-set hs e.0 (option_map (λ n. n + 1) (slice_index_or hs e.0 None)));
+      kept = λ most hs h. all_kept_held most e hs h;
+    }
+
+pub adds_then : (m n : ℕ) (p q : List (Option ℕ) → List (Option ℕ)) → AddsHolders m p → AddsHolders n q → AddsHolders (m + n) (λ hs. q (p hs))
+adds_then m n p q h k =
+    record {
+      longer = λ hs. omega (arith, h.longer hs, k.longer (p hs));
+      kept = λ most hs all. all_kept_weaker (most + m + n) (most + (m + n)) (q (p hs)) (omega arith) (k.kept (most + m) (p hs) (h.kept most hs all));
+    }
 
 -- ---- from kernel to kernel
 
-pub keeps_same : {B Code : Type 0} (a b : PartsOf B Code) → held b.happen ≡ held a.happen → KeepsAll 0 a b
-keeps_same a b same = record { kept = λ most h. subst (AreAllKept (most + 0)) (sym same) (all_kept_weaker most (most + 0) (held a.happen) (omega arith) h) }
+pub keeps_by : {B Code : Type 0} (more : ℕ) (holds : List (Option ℕ) → List (Option ℕ)) (a b : PartsOf B Code) → AddsHolders more holds →
+    held b.shared.happen ≡ holds (held a.shared.happen) → KeepsAll more a b
+keeps_by more holds a b adds is =
+    record { kept = λ most h. subst (AreAllKept (most + more)) (sym is) (adds.kept most (held a.shared.happen) h) }
+
+pub keeps_same : {B Code : Type 0} (a b : PartsOf B Code) → held b.shared.happen ≡ held a.shared.happen → KeepsAll 0 a b
+keeps_same a b same = keeps_by 0 as_before a b adds_none same
 
 pub keeps_then : {B Code : Type 0} (m n : ℕ) (a b c : PartsOf B Code) → KeepsAll m a b → KeepsAll n b c → KeepsAll (m + n) a c
 keeps_then m n a b c p q =
-    record { kept = λ most h. all_kept_weaker (most + m + n) (most + (m + n)) (held c.happen) (omega arith) (q.kept (most + m) (p.kept most h)) }
+    record { kept = λ most h. all_kept_weaker (most + m + n) (most + (m + n)) (held c.shared.happen) (omega arith) (q.kept (most + m) (p.kept most h)) }
 
-pub keeps_more : {B Code : Type 0} (a b : PartsOf B Code) → KeepsAll 0 a b → KeepsAll 1 a b
-keeps_more a b p = record { kept = λ most h. all_kept_weaker (most + 0) (most + 1) (held b.happen) (omega arith) (p.kept most h) }
+pub keeps_more : {B Code : Type 0} (m n : ℕ) (a b : PartsOf B Code) → m ≤ n → KeepsAll m a b → KeepsAll n a b
+keeps_more m n a b few p = record { kept = λ most h. all_kept_weaker (most + m) (most + n) (held b.shared.happen) (omega (arith, few)) (p.kept most h) }
+
+-- what gives no event a holder more gives none too many
+pub none_is_few : 0 ≤ most_held
+none_is_few = omega arith

@@ -11,7 +11,7 @@ use Rattle.sim_types.specs.declared.event.Callback.{Callback}
 use Rattle.sim_types.specs.declared.event.Callback.TheVariants as callback
 use Rattle.sim_types.specs.declared.event.Outcome.TheVariants as outcome
 use Rattle.sim_types.specs.declared.setup.Until.TheVariants as until
-use Rattle.sim_machine.specs.State.{EventOf, Calendar}
+use Rattle.sim_machine.specs.State.{EventOf, Calendar, Facilities}
 use Rattle.sim_machine.specs.Events.{next_event, pending_event, register}
 use Rattle.sim_machine.specs.Triggering.{urgent, make, schedule}
 use Rattle.sim_machine.specs.Processes.{make_events_of_process}
@@ -20,9 +20,12 @@ use Rattle.sim_happen_model.specs.HappenOf.{HappenOf, IsOpen, held, as_before, u
 use Rattle.sim_happen_model.specs.Shows.{Shows, Turns, Follows}
 use Rattle.sim_happen_law.proofs.Following.{turns_then, turns_as, time_then}
 use Rattle.sim_happen_law.proofs.NewEvents.{IsNew, is_new, new_registered, next_is}
+use Rattle.sim_shared_model.specs.SharedOf.{SharedOf}
+use Rattle.sim_shared_model.specs.ShowsAll.{ShowsAll}
 use Rattle.sim_steps_model.specs.Becoming.{AreAllKept}
 use Rattle.sim_steps_model.specs.Opening.{two_unheld, SetsStop}
 use Rattle.sim_steps_law.proofs.Keeping.{all_kept_made}
+use Rattle.sim_steps_law.proofs.Becoming.{shown_with}
 
 -- an event that was just made may get its outcome
 pub new_is_open : (x : Callback) (a m b : HappenOf) (k : EventKind) (e : EventId) → Turns (make k) unheld_event a m → e.0 ≡ length a.events →
@@ -115,3 +118,10 @@ first_kept a is =
     let P : Option ℕ → Type 0 = λ x. IsSomeAnd x (λ n. n ≤ 1) in
     let one : P (Some 1) = omega arith in
     subst (AreAllKept 1) (sym is) (record { each = All-cons P (Some 1) [] one (All-nil P) })
+
+-- the resources as they open stay so while named events are made
+pub named_all : (n : ℕ) (a b : SharedOf) → b ≡ record a { happen = b.happen } → ShowsAll a (record { calendar = first_calendar 0; waiters = []; ledger = [] }) →
+    Shows b.happen (first_calendar n) → ShowsAll b (record { calendar = first_calendar n; waiters = []; ledger = [] })
+named_all n a b is h s =
+    let f : Facilities = record { calendar = first_calendar 0; waiters = []; ledger = [] } in
+    rw is (shown_with a b.happen f (first_calendar n) (omega (arith, h.calendar.made, s.made, events_named n, events_named 0)) s h)

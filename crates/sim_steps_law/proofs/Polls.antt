@@ -1,5 +1,5 @@
 -- What a polled process asks for is done as the machine does it.
-use Rattle.std.proofs.Common.{◌≡◌, ◌+◌, ℕ, ℤ, false, List, [], ◌∷◌, ◌++◌, refl, sym, ap, subst, ◌∙◌, Option, Some, None}
+use Rattle.std.proofs.Common.{◌≡◌, ◌+◌, ◌≤◌, arith, ℕ, ℤ, false, List, [], ◌∷◌, ◌++◌, refl, sym, ap, subst, ◌∙◌, Option, Some, None}
 use Rattle.std.specs.Prelude.{IsTrue, int_lt}
 use Rattle.std.specs.Option.{option_map}
 use Rattle.std.proofs.lemmas.Bool.{false≢true}
@@ -24,14 +24,13 @@ use Rattle.sim_machine.specs.Processes.{with_body, wait, told_more, tell, write_
 use Rattle.sim_machine.specs.Effect.{calendar, draw, drawn_number, effect}
 use Rattle.sim_machine.specs.Bodies.{BodyOf}
 use Rattle.sim_machine.specs.Steps.{polled}
-use Rattle.sim_machine_law.proofs.KeptTimesCases.{timeout_cases, wait_cases, draw_cases}
+use Rattle.sim_machine_law.proofs.WrittenLines.{lines_by, effect_writes}
 use Rattle.sim_procs.specs.RecordOf.{RecordOf, record_of}
 use Rattle.sim_steps_model.specs.declared.mode.Unit.{Unit}
 use Rattle.sim_steps_model.specs.declared.mode.Unit.TheVariants as unit
 use Rattle.sim_steps_model.specs.PartsOf.{PartsOf, IsRunning, plan_of}
 use Rattle.sim_steps_model.specs.StandsFor.{StandsFor, LawfulOf, StepOf, process_of, lines_of}
-use Rattle.sim_steps_model.specs.Becoming.{Becomes, Moves}
-use Rattle.sim_steps_model.specs.Built.{is_built}
+use Rattle.sim_steps_model.specs.Becoming.{Becomes, BecomesWith, Moves, most_held}
 use Rattle.sim_steps_model.specs.Polling.{Asks}
 use Rattle.sim_steps_law.proofs.Keeping.{keeps_more}
 use Rattle.sim_steps_law.proofs.Calls.{at_control}
@@ -65,66 +64,48 @@ polled_step body old mid event p told asked s running a h st =
       found = process_found old s p h.processes.distinct st ∙ ap (λ o. option_map process_of o) r.1;
       asked = asked;
       body = a.later;
-      turned = rw (r.2) (rw (← st.calendar.time) a.turned);
+      turned = rw (r.2) (rw (← st.facilities.calendar.time) a.turned);
       then_is = refl;
     })
 
--- ---- what is written
-
--- the lines that an operation writes at this time
-abbrev pub lines_by : ProcId → Op → ℤ → List Line
-lines_by p (op.Log value) time = line.Log time p value ∷ []
-lines_by p _ time = []
-
-effect_writes : {B : Type 0} (g : Plan B) (p : ProcId) (x : Op) (s : State B) → IsTrue (is_built x) →
-    (effect g p x s).lines ≡ s.lines ++ lines_by p x (calendar s).time
-effect_writes g p op.Nop s built = rw append-nil
-effect_writes g p (op.Pause delay value) s built =
-    timeout_cases (λ t. t.lines ≡ s.lines ++ []) delay value (λ e t. wait e p t) s (rw append-nil) (rw append-nil)
-    (λ low high. wait_cases (λ t. t.lines ≡ s.lines ++ []) (next_event (calendar s)) p (on_events (make_timeout delay value) s) (λ h. rw append-nil) (λ h. rw append-nil))
-effect_writes g p (op.Log value) s built = refl
-effect_writes g p (op.Draw lo hi) s built = draw_cases (λ t. t.lines ≡ s.lines ++ []) g lo hi s (rw append-nil) (λ h. rw append-nil)
-effect_writes g p (op.Finish value) s built = rw append-nil
-effect_writes g p (op.Die what) s built = rw append-nil
-effect_writes g p _ s built = absurd (false≢true built)
-
 -- ---- what is asked for is done
 
-pub polled_moves : {B Code : Type 0} (body : BodyOf B Code) (old mid new : PartsOf B Code) (event : EventId) (p : ProcId) (told : Signal) (asked : Op)
-    (answer : Unit) → IsRunning event p told old.control → Asks body p told old asked mid → IsTrue (is_built asked) →
-    lines_by p asked old.happen.time ≡ lines_of answer → Becomes (effect (plan_of body mid) p asked) mid new → Moves body old answer new
-polled_moves {B} {Code} body old mid new event p told asked answer running a built lines done =
+pub polled_moves : {B Code : Type 0} (body : BodyOf B Code) (more : ℕ) (old mid new : PartsOf B Code) (event : EventId) (p : ProcId) (told : Signal) (asked : Op)
+    (answer : Unit) → IsRunning event p told old.control → Asks body p told old asked mid →
+    lines_by p asked old.shared.happen.time ≡ lines_of answer → more ≤ most_held → BecomesWith more (effect (plan_of body mid) p asked) mid new →
+    Moves body old answer new
+polled_moves {B} {Code} body more old mid new event p told asked answer running a lines few done =
     let g : Plan B = plan_of body old in
     let turned : Becomes (with_body p a.later) old mid =
     subst (Becomes (with_body p a.later) old) (sym a.others)
     (becomes_changed p (λ r. record r { body = a.later }) (λ x. record x { body = a.later }) old (λ r. refl) (λ r. refl) (λ r. refl) (λ x. refl)) in
     let same : plan_of body mid ≡ g = rw a.others refl in
-    let does : Becomes (effect g p asked) mid new = subst (λ h. Becomes (effect h p asked) mid new) same done in
-    let all : Becomes (λ s. effect g p asked (with_body p a.later s)) old new = becomes_then (with_body p a.later) (effect g p asked) old mid new turned does in
+    let does : BecomesWith more (effect g p asked) mid new = subst (λ h. BecomesWith more (effect h p asked) mid new) same done in
+    let all : BecomesWith (0 + more) (λ s. effect g p asked (with_body p a.later s)) old new = becomes_then (with_body p a.later) (effect g p asked) old mid new turned does in
     record {
       each = λ s h st. record {
         state = polled g p asked a.later s;
         stepped = polled_step body old mid event p told asked s running a h st;
         stands = (all.each s (record { stands = st; distinct = h.processes.distinct })).stands;
         lines =
-            effect_writes g p asked (with_body p a.later s) built
-            ∙ ap (λ xs. s.lines ++ xs) (ap (lines_by p asked) (sym st.calendar.time) ∙ lines);
+            effect_writes g p asked (with_body p a.later s)
+            ∙ ap (λ xs. s.lines ++ xs) (ap (lines_by p asked) (sym st.facilities.calendar.time) ∙ lines);
       };
       opened = all.opened;
-      kept = keeps_more old new all.kept;
+      kept = keeps_more (0 + more) most_held old new (omega (arith, few)) all.kept;
     }
 
 -- a line is written, and the process goes on
 pub logged_moves : {B Code : Type 0} (body : BodyOf B Code) (old mid new : PartsOf B Code) (event : EventId) (p : ProcId) (told : Signal)
-    (value time written : ℤ) → IsRunning event p told old.control → Asks body p told old (op.Log value) mid → time ≡ new.happen.time → written ≡ value →
+    (value time written : ℤ) → IsRunning event p told old.control → Asks body p told old (op.Log value) mid → time ≡ new.shared.happen.time → written ≡ value →
     new ≡ record mid { control = told_more signal.Done mid.control } → Moves body old (unit.Line (line.Log time p written)) new
 logged_moves {B} {Code} body old mid new event p told value time written running a is_time is_written is =
-    let time_of : PartsOf B Code → ℤ = λ k. k.happen.time in
-    let now : time ≡ old.happen.time = is_time ∙ (ap time_of is ∙ ap time_of a.others) in
+    let time_of : PartsOf B Code → ℤ = λ k. k.shared.happen.time in
+    let now : time ≡ old.shared.happen.time = is_time ∙ (ap time_of is ∙ ap time_of a.others) in
     let writing : State B → State B = λ s. write_line (line.Log (calendar s).time p value) s in
     let goes_on : Becomes (λ s. tell signal.Done (writing s)) mid (record mid { control = told_more signal.Done mid.control }) =
     becomes_then writing (tell signal.Done) mid mid _ (becomes_written (λ s. line.Log (calendar s).time p value) mid) (becomes_told signal.Done mid) in
-    polled_moves body old mid new event p told (op.Log value) (unit.Line (line.Log time p written)) running a refl (rw (now, is_written) refl)
+    polled_moves body 0 old mid new event p told (op.Log value) (unit.Line (line.Log time p written)) running a (rw (now, is_written) refl) (omega arith)
     (subst (Becomes (λ s. tell signal.Done (writing s)) mid) (sym is) goes_on)
 
 -- ---- a number is drawn

@@ -59,7 +59,7 @@ some_mapped : {X Y : Type 0} (f : X → Y) (o : Option X) → IsSome (option_map
 some_mapped f None h = h
 some_mapped f (Some x) h = refl
 
-mapped_is : {X Y : Type 0} (f : X → Y) (o : Option X) (y : Y) → option_map f o ≡ Some y → (x : X) × (o ≡ Some x) × (f x ≡ y)
+pub mapped_is : {X Y : Type 0} (f : X → Y) (o : Option X) (y : Y) → option_map f o ≡ Some y → (x : X) × (o ≡ Some x) × (f x ≡ y)
 mapped_is f None y h = absurd (none-some y h)
 mapped_is f (Some x) y h = (x, refl, same_Some (f x) y h)
 
@@ -132,12 +132,12 @@ module _ {B Code : Type 0} (body : BodyOf B Code) (parts : PartsOf B Code) where
 
   -- its body is sound, may be told what it is told, and an event that it is told was made
   pub running_can_be_told : (event : EventId) (p : ProcId) (told : Signal) (b : B) → StandsForSome body parts → IsRunning event p told parts.control →
-      IsBodyOf parts p b → length parts.happen.events < 2 ^ 62 → CanBeTold body parts.code b told
+      IsBodyOf parts p b → length parts.shared.happen.events < 2 ^ 62 → CanBeTold body parts.code b told
   running_can_be_told event p told b h running found few =
       let tell = body.tell parts.code in
       let fits = told_running event p told b h running found in
       record {
         sound = body_has parts h.state p b (λ q d. body.sound parts.code d) h.lawful.processes.distinct h.stands found h.lawful.bodies.bodies;
         told = fits_told tell h.state.facilities.calendar b told fits;
-        bound = fits_bound tell h.state.facilities.calendar b told (subst (λ n. n < 2 ^ 62) h.stands.calendar.made few) fits;
+        bound = fits_bound tell h.state.facilities.calendar b told (subst (λ n. n < 2 ^ 62) h.stands.facilities.calendar.made few) fits;
       }

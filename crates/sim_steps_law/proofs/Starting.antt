@@ -27,7 +27,7 @@ use Rattle.sim_machine_law.proofs.KeptRegistrations.{named_within}
 use Rattle.sim_machine_law.proofs.OpeningLaws.{start_fits_starts}
 use Rattle.sim_procs.specs.Premises.{CanBegin}
 use Rattle.sim_procs.specs.RecordOf.{RecordOf, record_of}
-use Rattle.sim_happen_model.specs.Shows.{Shows}
+use Rattle.sim_shared_model.specs.ShowsAll.{ShowsAll}
 use Rattle.sim_machine.specs.Bodies.{BodyOf}
 use Rattle.sim_steps_model.specs.PartsOf.{PartsOf, plan_of}
 use Rattle.sim_steps_model.specs.StandsFor.{StandsFor, process_of, scopes_of}
@@ -66,25 +66,23 @@ none_of {B} p (r ∷ live) h =
     let other : (r.id.0 == p.0) ≡ false = grind (arith, nat_tests) in
     rw other (none_of p live (All-tail P (process_of r) (map process_of live) h))
 
-pub next_not_alive : {B Code : Type 0} (parts : PartsOf B Code) → IsOpening parts → record_of (next_process parts.happen) parts.live ≡ None
-next_not_alive parts h = none_of (next_process parts.happen) parts.live h.older
+pub next_not_alive : {B Code : Type 0} (parts : PartsOf B Code) → IsOpening parts → record_of (next_process parts.shared.happen) parts.live ≡ None
+next_not_alive parts h = none_of (next_process parts.shared.happen) parts.live h.older
 
 -- ---- before any process is made
 
 -- what a kernel has before any process is made stands for the blank state
-pub blank_stands : {B Code : Type 0} (body : BodyOf B Code) (parts : PartsOf B Code) → Shows parts.happen (first_calendar parts.setup.events) →
+pub blank_stands : {B Code : Type 0} (body : BodyOf B Code) (parts : PartsOf B Code) → ShowsAll parts.shared (blank_state (plan_of body parts)).facilities →
     parts.processed ≡ 0 → parts.generator ≡ generator_of parts.seed → parts.live ≡ [] → parts.control ≡ Idle →
     StandsFor parts (blank_state (plan_of body parts))
 blank_stands body parts shown processed generator none idle =
     record {
-      calendar = shown;
+      facilities = shown;
       processed = processed;
       generator = generator;
       processes = rw none (IsPermutation-refl []);
       scopes = rw none (All-nil (λ r. r.scopes ≡ scopes_of r.id (blank_state (plan_of body parts))));
       control = idle;
-      waiters = refl;
-      ledger = refl;
     }
 
 -- ---- how many events are made

@@ -22,21 +22,21 @@ use Rattle.sim_happen_model.specs.Seen.{seen}
 use Rattle.sim_happen_law.proofs.Following.{read_is, event_then}
 use Rattle.sim_happen_law.proofs.NewEvents.{kept_last, next_is}
 use Rattle.sim_happen_law.proofs.SeenShown.{shows_seen}
-use Rattle.sim_steps_model.specs.PartsOf.{PartsOf}
+use Rattle.sim_steps_model.specs.PartsOf.{PartsOf, with_happen}
 use Rattle.sim_steps_model.specs.Becoming.{Stands, Becomes}
 use Rattle.sim_steps_law.proofs.Becoming.{becomes_then, becomes_as, becomes_followed, becomes_made, becomes_changed, becomes_rested, becomes_told}
 
 -- ---- to wait
 
 -- a process waits for an event that is not processed
-pub waited_becomes : {B Code : Type 0} (a n : PartsOf B Code) (x : HappenOf) (e : EventId) (p : ProcId) → IsKept a.happen.events e →
-    (kept_at a.happen.events e).event.processed ≡ false → Follows (register e (callback.Resume p)) a.happen x →
-    n ≡ record a { happen = x; live = change_record p (λ r. record r { target = e }) a.live; control = not_active a.control } →
+pub waited_becomes : {B Code : Type 0} (a n : PartsOf B Code) (x : HappenOf) (e : EventId) (p : ProcId) → IsKept a.shared.happen.events e →
+    (kept_at a.shared.happen.events e).event.processed ≡ false → Follows (register e (callback.Resume p)) a.shared.happen x →
+    n ≡ record (with_happen x a) { live = change_record p (λ r. record r { target = e }) a.live; control = not_active a.control } →
     Becomes (wait e p) a n
 waited_becomes {B} {Code} a n x e p kept unprocessed follows is =
     let registered : State B → State B = on_events (register e (callback.Resume p)) in
     let targeted : State B → State B = change_process p (λ y. record y { target = e }) in
-    let b : PartsOf B Code = record a { happen = x } in
+    let b : PartsOf B Code = with_happen x a in
     let c : PartsOf B Code = record b { live = change_record p (λ r. record r { target = e }) b.live } in
     let d : PartsOf B Code = record c { control = not_active c.control } in
     let waits : Becomes (λ s. targeted (registered s)) a c =
@@ -44,7 +44,7 @@ waited_becomes {B} {Code} a n x e p kept unprocessed follows is =
     (becomes_changed p (λ r. record r { target = e }) (λ y. record y { target = e }) b (λ r. refl) (λ r. refl) (λ r. refl) (λ y. refl)) in
     let all : Becomes (λ s. rest (targeted (registered s))) a d = becomes_then (λ s. targeted (registered s)) rest a c d waits (becomes_rested c) in
     let processed : (s : State B) → Stands a s → is_processed (calendar s) e ≡ false = λ s h.
-    ap (λ (y : EventOf). y.processed) (sym (read_is a.happen (calendar s) e kept h.stands.calendar)) ∙ unprocessed in
+    ap (λ (y : EventOf). y.processed) (sym (read_is a.shared.happen (calendar s) e kept h.stands.facilities.calendar)) ∙ unprocessed in
     subst (Becomes (wait e p) a) (sym is) (becomes_as (λ s. rest (targeted (registered s))) (wait e p) a d (λ s h. rw (processed s h) refl) all)
 
 -- ---- to make a timeout
@@ -77,17 +77,17 @@ in_time : {B : Type 0} (delay value : ℤ) (after : EventId → State B → Stat
 in_time delay value after s h k = rw (h, k) refl
 
 pub paused_becomes : {B Code : Type 0} (a m n : PartsOf B Code) (e : EventId) (p : ProcId) (delay value : ℤ) → int_lt delay (pos 0) ≡ false →
-    int_lt (pos (2 ^ 62)) (a.happen.time +ℤ delay) ≡ false → Turns (make_timeout delay value) unheld_event a.happen m.happen →
-    e.0 ≡ length a.happen.events → m ≡ record a { happen = m.happen } → Becomes (wait e p) m n →
+    int_lt (pos (2 ^ 62)) (a.shared.happen.time +ℤ delay) ≡ false → Turns (make_timeout delay value) unheld_event a.shared.happen m.shared.happen →
+    e.0 ≡ length a.shared.happen.events → m ≡ with_happen m.shared.happen a → Becomes (wait e p) m n →
     Becomes (with_timeout delay value (λ f s. wait f p s)) a n
 paused_becomes {B} {Code} a m n e p delay value positive soon made same is waits =
     let makes : State B → State B = on_events (make_timeout delay value) in
-    let makes_it : Becomes makes a m = subst (Becomes makes a) (sym is) (becomes_made (make_timeout delay value) a m.happen made) in
+    let makes_it : Becomes makes a m = subst (Becomes makes a) (sym is) (becomes_made (make_timeout delay value) a m.shared.happen made) in
     let after : EventId → State B → State B = λ f s. wait f p s in
     becomes_as (λ s. wait e p (makes s)) (with_timeout delay value after) a n
     (λ s h.
-    let soon_too : int_lt (pos (2 ^ 62)) ((calendar s).time +ℤ delay) ≡ false = subst (λ t. int_lt (pos (2 ^ 62)) (t +ℤ delay) ≡ false) h.stands.calendar.time soon in
-    ap (λ f. wait f p (makes s)) (sym (next_is a.happen (calendar s) e same h.stands.calendar)) ∙ sym (in_time delay value after s positive soon_too))
+    let soon_too : int_lt (pos (2 ^ 62)) ((calendar s).time +ℤ delay) ≡ false = subst (λ t. int_lt (pos (2 ^ 62)) (t +ℤ delay) ≡ false) h.stands.facilities.calendar.time soon in
+    ap (λ f. wait f p (makes s)) (sym (next_is a.shared.happen (calendar s) e same h.stands.facilities.calendar)) ∙ sym (in_time delay value after s positive soon_too))
     (becomes_then makes (wait e p) a m n makes_it waits)
 
 pub negative_becomes : {B Code : Type 0} (a n : PartsOf B Code) (p : ProcId) (delay value : ℤ) → int_lt delay (pos 0) ≡ true →
@@ -97,12 +97,12 @@ negative_becomes a n p delay value negative is =
     (becomes_as (tell (signal.Raised 1)) (with_timeout delay value (λ f s. wait f p s)) a _ (λ s h. rw negative refl) (becomes_told (signal.Raised 1) a))
 
 pub late_becomes : {B Code : Type 0} (a n : PartsOf B Code) (p : ProcId) (delay value : ℤ) → int_lt delay (pos 0) ≡ false →
-    int_lt (pos (2 ^ 62)) (a.happen.time +ℤ delay) ≡ true → n ≡ record a { control = told_more (signal.Raised 9) a.control } →
+    int_lt (pos (2 ^ 62)) (a.shared.happen.time +ℤ delay) ≡ true → n ≡ record a { control = told_more (signal.Raised 9) a.control } →
     Becomes (with_timeout delay value (λ f s. wait f p s)) a n
 late_becomes a n p delay value positive late is =
     subst (Becomes (with_timeout delay value (λ f s. wait f p s)) a) (sym is)
     (becomes_as (tell (signal.Raised 9)) (with_timeout delay value (λ f s. wait f p s)) a _
     (λ s h.
-    let late_too : int_lt (pos (2 ^ 62)) ((calendar s).time +ℤ delay) ≡ true = subst (λ t. int_lt (pos (2 ^ 62)) (t +ℤ delay) ≡ true) h.stands.calendar.time late in
+    let late_too : int_lt (pos (2 ^ 62)) ((calendar s).time +ℤ delay) ≡ true = subst (λ t. int_lt (pos (2 ^ 62)) (t +ℤ delay) ≡ true) h.stands.facilities.calendar.time late in
     rw (positive, late_too) refl)
     (becomes_told (signal.Raised 9) a))

@@ -14,7 +14,7 @@ use Rattle.sim_machine.specs.Runs.{start_process, set_stop}
 use Rattle.sim_procs.specs.RecordOf.{begun_record}
 use Rattle.sim_happen_model.specs.HappenOf.{HappenOf, held, unheld_event}
 use Rattle.sim_happen_model.specs.Shows.{Shows, Turns}
-use Rattle.sim_steps_model.specs.PartsOf.{PartsOf, plan_of, with_room}
+use Rattle.sim_steps_model.specs.PartsOf.{PartsOf, plan_of, with_happen}
 use Rattle.sim_steps_model.specs.StandsFor.{StandsFor, process_of}
 use Rattle.sim_steps_model.specs.Becoming.{AreAllKept}
 
@@ -45,31 +45,24 @@ pub record SetsStop (x : Until) (old new : HappenOf) : Type 0 where
   pub left : new.left ≡ old.left
   pub kept : (most : ℕ) → AreAllKept most (held old) → AreAllKept most (held new)
 
--- a process of this body is made, with its event and its init event
-pub record Begins {B Code : Type 0} (body : B) (old new : PartsOf B Code) : Type 0 where
-  pub happen : MakesProcess old.happen new.happen
-  pub live : IsPermutation
-      (begun_record (next_process old.happen) body (next_init old.happen) ∷ old.live) new.live
-  pub others : new ≡ record old { happen = new.happen; live = new.live; spare = new.spare }
-
--- all stays but what happens
-abbrev pub KeepsButHappen : {B Code : Type 0} → PartsOf B Code → PartsOf B Code → Type 0
-KeepsButHappen old new = new ≡ record old { happen = new.happen }
-
 -- all stays but what happens and the processes
 abbrev pub KeepsButProcesses : {B Code : Type 0} → PartsOf B Code → PartsOf B Code → Type 0
 KeepsButProcesses old new =
-    new ≡ record old { happen = new.happen; live = new.live; spare = new.spare }
+    new ≡ record (with_happen new.shared.happen old) { live = new.live; spare = new.spare }
 
--- all stays but the room
-abbrev pub KeepsButRoom : {B Code : Type 0} → PartsOf B Code → PartsOf B Code → Type 0
-KeepsButRoom old new = new ≡ with_room new.happen.spare new.spare old
+-- a process of this body is made, with its event and its init event
+pub record Begins {B Code : Type 0} (body : B) (old new : PartsOf B Code) : Type 0 where
+  pub happen : MakesProcess old.shared.happen new.shared.happen
+  pub live : IsPermutation
+      (begun_record (next_process old.shared.happen) body (next_init old.shared.happen) ∷ old.live)
+      new.live
+  pub others : KeepsButProcesses old new
 
 -- a kernel in which only processes that run from the start were made, so that each has an event of its own already
 pub record IsOpening {B Code : Type 0} (parts : PartsOf B Code) : Type 0 where
-  pub time : parts.happen.time ≡ pos 0
-  pub older : All (λ x. x.id.0 < length parts.happen.events) (map process_of parts.live)
-  pub kept : AreAllKept 1 (held parts.happen)
+  pub time : parts.shared.happen.time ≡ pos 0
+  pub older : All (λ x. x.id.0 < length parts.shared.happen.events) (map process_of parts.live)
+  pub kept : AreAllKept 1 (held parts.shared.happen)
 
 -- whatever state with no open scopes the kernel stood for, it stands for the one in which a process more is made
 pub record Starts {B Code : Type 0}

@@ -1,5 +1,5 @@
 -- What contracts see of a kernel.
-use Rattle.std.specs.Prelude.{◌≡◌, ◌≤◌, ℕ, List, []}
+use Rattle.std.specs.Prelude.{◌≡◌, ◌≤◌, ℕ, List, [], None}
 use Rattle.rand_pcg.specs.Lcg.{Lcg}
 use Rattle.sim_types.specs.declared.event.EventId.{EventId}
 use Rattle.sim_types.specs.declared.event.ProcId.{ProcId}
@@ -10,8 +10,8 @@ use Rattle.sim_machine.specs.State.{Control, Idle, Calling, Active, Over, Plan}
 use Rattle.sim_machine.specs.RandomWords.{word_of}
 use Rattle.sim_machine.specs.Bodies.{BodyOf, start_of}
 use Rattle.sim_procs.specs.RecordOf.{RecordOf}
-use Rattle.sim_events.specs.TableOf.{Spare}
 use Rattle.sim_happen_model.specs.HappenOf.{HappenOf}
+use Rattle.sim_shared_model.specs.SharedOf.{SharedOf, IsSameButRoom}
 use Rattle.sim_steps_model.specs.declared.mode.Mode.{Mode}
 use Rattle.sim_steps_model.specs.declared.mode.Mode.TheVariants as mode
 
@@ -29,10 +29,16 @@ NoneLeftIdle (mode.Calling event) left = Unit {0}
 NoneLeftIdle (mode.Active event process told) left = Unit {0}
 NoneLeftIdle (mode.Over why event) left = Unit {0}
 
--- a kernel: time and what happens in it, its lists and numbers, what it was opened with, and for how many more live
--- processes there is room
+-- what holds of the parts of every kernel: where nothing is being done no callbacks are left to call, and the resources
+-- are those of its setup
+pub record AreSoundParts (mode : Mode) (shared : SharedOf) (setup : Setup) : Type 0 where
+  pub none_left : NoneLeftIdle mode shared.happen.left
+  pub resources : shared.setup ≡ setup.resources
+
+-- a kernel: time, what happens in it and the resources, its lists and numbers, what it was opened with, and for how many
+-- more live processes there is room
 pub record PartsOf (B Code : Type 0) : Type 0 where
-  pub happen : HappenOf
+  pub shared : SharedOf
   pub processed : ℕ
   -- the generator of the random words, as far as they were drawn
   pub generator : Lcg
@@ -69,15 +75,26 @@ pub record IsOpenedAs {B Code : Type 0} (old new : PartsOf B Code) : Type 0 wher
   pub setup : new.setup ≡ old.setup
   pub seed : new.seed ≡ old.seed
 
--- there is this room for more events, and room for so many more live processes
-abbrev pub with_room : {B Code : Type 0} → Spare → ℕ → PartsOf B Code → PartsOf B Code
-with_room room spare parts =
-    record parts { happen = record parts.happen { spare = room }; spare = spare }
+-- this is what happens, and all else stays
+abbrev pub with_happen : {B Code : Type 0} → HappenOf → PartsOf B Code → PartsOf B Code
+with_happen happen parts = record parts { shared = record parts.shared { happen = happen } }
 
--- room for all that one unit takes
+-- all stays but what happens
+abbrev pub KeepsButHappen : {B Code : Type 0} → PartsOf B Code → PartsOf B Code → Type 0
+KeepsButHappen old new = new ≡ with_happen new.shared.happen old
+
+-- all stays but the room
+pub record KeepsButRoom {B Code : Type 0} (old new : PartsOf B Code) : Type 0 where
+  pub shared : IsSameButRoom old.shared new.shared
+  pub others : new ≡ record old { shared = new.shared; spare = new.spare }
+
+-- room for all that one unit takes: for so many events, each of which may be a condition, for so many callbacks, and for
+-- one more to wait at each resource
 pub record HasUnitRoom {B Code : Type 0} (parts : PartsOf B Code) : Type 0 where
-  pub events : 1 ≤ parts.happen.spare.events
-  pub callbacks : 1 ≤ parts.happen.spare.callbacks
+  pub events : 40 ≤ parts.shared.happen.spare.events
+  pub callbacks : 64 ≤ parts.shared.happen.spare.callbacks
+  pub conditions : 40 ≤ parts.shared.happen.spare.conditions
+  pub places : parts.shared.used ≡ None
 
 -- the plan of the machine that a kernel was opened with
 abbrev pub plan_of : {B Code : Type 0} → BodyOf B Code → PartsOf B Code → Plan B

@@ -15,5 +15,5 @@ pub record Asks {B Code : Type 0}
   pub before : B
   pub later : B
   pub found : option_map (λ r. r.body) (record_of p old.live) ≡ Some before
-  pub turned : body.turn old.code before old.happen.time told asked later
+  pub turned : body.turn old.code before old.shared.happen.time told asked later
   pub others : new ≡ record old { live = change_record p (λ r. record r { body = later }) old.live }

@@ -22,7 +22,7 @@ can_step _ = false
 
 -- where a kernel stands
 abbrev pub rest_in : {B Code : Type 0} → PartsOf B Code → Rest
-rest_in parts = rest_of parts.control parts.happen.agenda
+rest_in parts = rest_of parts.control parts.shared.happen.agenda
 
 -- a kernel in which a unit can be made
 abbrev pub CanStep : {B Code : Type 0} → PartsOf B Code → Type 0

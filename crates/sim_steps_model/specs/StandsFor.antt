@@ -12,7 +12,7 @@ use Rattle.sim_machine.specs.Steps.{IsStep}
 use Rattle.sim_machine.specs.Runs.{opening}
 use Rattle.sim_machine.specs.Lawful.{Lawful}
 use Rattle.sim_procs.specs.RecordOf.{RecordOf}
-use Rattle.sim_happen_model.specs.Shows.{Shows}
+use Rattle.sim_shared_model.specs.ShowsAll.{ShowsAll}
 use Rattle.sim_steps_model.specs.PartsOf.{PartsOf, plan_of}
 use Rattle.sim_steps_model.specs.declared.mode.Unit.{Unit}
 use Rattle.sim_steps_model.specs.declared.mode.Unit.TheVariants as unit
@@ -27,19 +27,17 @@ scopes_of p s =
     map (λ x. record { request = x.request; res = x.res })
     (filter (λ x. is_process x.process p) s.scopes)
 
--- the kernel stands for the state: the calendar is one that is shown, so that time and number of events are those of the
--- state and the entries are in any order, and each event that is kept is there with its callbacks; the processes are, in
--- any order, the scopes are those of the records, the generator is that of the seed after the words drawn, and nothing
--- waits at a resource or was done there; the lines, which no kernel keeps, are not compared
+-- the kernel stands for the state: time, what happens in it and the resources show its facilities, so that each event that
+-- is kept is there with its callbacks, and the queues, users, levels and items are those of the state; the processes are,
+-- in any order, the scopes are those of the records, and the generator is that of the seed after the words drawn; the
+-- lines, which no kernel keeps, are not compared
 pub record StandsFor {B Code : Type 0} (parts : PartsOf B Code) (s : State B) : Type 0 where
-  pub calendar : Shows parts.happen s.facilities.calendar
+  pub facilities : ShowsAll parts.shared s.facilities
   pub processed : parts.processed ≡ s.processed
   pub generator : parts.generator ≡ generator_after s.drawn (generator_of parts.seed)
   pub processes : IsPermutation s.processes (map process_of parts.live)
   pub scopes : All (λ r. r.scopes ≡ scopes_of r.id s) parts.live
   pub control : parts.control ≡ s.control
-  pub waiters : s.facilities.waiters ≡ []
-  pub ledger : s.facilities.ledger ≡ []
 
 -- a lawful state of the machine that the kernel was opened with, for bodies of this kind
 abbrev pub LawfulOf : {B Code : Type 0} → BodyOf B Code → PartsOf B Code → State B → Type 0

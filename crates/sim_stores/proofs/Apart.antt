@@ -11,7 +11,7 @@ use Rattle.sim_types.proofs.Permutations.{AllPairs-tail, AllPairs-IsPermutation}
 use Rattle.sim_machine.specs.Events.{is_same}
 use Rattle.sim_stores.specs.Waiting.{stands_among, AllDiffer}
 
-abbrev Apart : EventId → EventId → Type 0
+abbrev pub Apart : EventId → EventId → Type 0
 Apart e f = e.0 ≢ f.0
 
 turned : (e f : EventId) → Apart e f → Apart f e

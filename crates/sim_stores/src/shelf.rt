@@ -176,6 +176,13 @@ impl Shelf {
         put | get
     }
 
+    /// Which item it gives.
+    pub fn kind(&self) -> ShelfKind
+        ensures { result ≡ self.now.kind }
+    {
+        self.stock.kind()
+    }
+
     /// How many items it has: at most as many as the capacity.
     pub fn len(&self) -> u64
         ensures len { result ≡ length self.now.items }

@@ -50,6 +50,16 @@ impl Stock {
         }
     }
 
+    pub(crate) fn kind(&self) -> ShelfKind
+        ensures { result ≡ kind_of_stock self.now }
+    {
+        match self {
+            Stock::Fifo(_) => ShelfKind::Fifo,
+            Stock::Priority(_) => ShelfKind::Priority,
+            Stock::Filter(_) => ShelfKind::Filter,
+        }
+    }
+
     /// Whether a get that finds no item is passed over, so that later ones are looked at.
     pub(crate) fn is_filter(&self) -> bool
         ensures { result ≡ is_filter (kind_of_stock self.now) }

@@ -20,13 +20,13 @@ loop-unit-init g c =
 pub returns-then-not-can_step-clause-stands : goal.returns-then-not-can_step-clause-stands
 returns-then-not-can_step-clause-stands g c =
     let parts = c.loop-unit.kernel.parts in
-    let none : can_step (rest_of parts.control parts.happen.agenda) ≡ false = ap can_step (sym c.rest.ensures) ∙ (sym c.can_step.ensures ∙ c.if-not-can_step.true) in
+    let none : can_step (rest_of parts.control parts.shared.happen.agenda) ≡ false = ap can_step (sym c.rest.ensures) ∙ (sym c.can_step.ensures ∙ c.if-not-can_step.true) in
     stands_for_whole c.args.scenario.now c.loop-unit._unit c.args.limit parts c.loop-unit.invariant.stands none (omega (arith, c.loop-unit-test.true))
 
 pub returns-then-not-can_step-clause-writes : goal.returns-then-not-can_step-clause-writes
 returns-then-not-can_step-clause-writes g c =
     let parts = c.loop-unit.kernel.parts in
-    let none : can_step (rest_of parts.control parts.happen.agenda) ≡ false = ap can_step (sym c.rest.ensures) ∙ (sym c.can_step.ensures ∙ c.if-not-can_step.true) in
+    let none : can_step (rest_of parts.control parts.shared.happen.agenda) ≡ false = ap can_step (sym c.rest.ensures) ∙ (sym c.can_step.ensures ∙ c.if-not-can_step.true) in
     let same = lines_whole c.args.scenario.now c.loop-unit._unit c.args.limit parts c.loop-unit.invariant.stands none (omega (arith, c.loop-unit-test.true)) in
     as_well is_write is_write _ _ _ _ _ _ c.loop-unit.invariant.written (ap (trace_text []) (sym same))
 

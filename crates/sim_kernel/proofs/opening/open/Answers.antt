@@ -11,7 +11,7 @@ use Rattle.sim_kernel.proofs.OpeningHolds.{opening_holds}
 use Rattle.sim_kernel.proofs.opening.open.Goals as goal
 
 pub set_stop-requires-clause-at_start : goal.set_stop-requires-clause-at_start
-set_stop-requires-clause-at_start g c = c.in_ok-start_all.ensures.stands.calendar.time ∙ (starts_open (plan_of g.B.LawfulBody.body c.args.parts.now)).time
+set_stop-requires-clause-at_start g c = c.in_ok-start_all.ensures.stands.facilities.calendar.time ∙ (starts_open (plan_of g.B.LawfulBody.body c.args.parts.now)).time
 
 pub set_stop-requires-clause-number : goal.set_stop-requires-clause-number
 set_stop-requires-clause-number g c =
@@ -19,7 +19,7 @@ set_stop-requires-clause-number g c =
 
 pub set_stop-requires-clause-possible : goal.set_stop-requires-clause-possible
 set_stop-requires-clause-possible g c =
-    subst (λ (x : Setup). CanStop x.until c.start_all.new.parts.happen) (sym c.requires.setup)
+    subst (λ (x : Setup). CanStop x.until c.start_all.new.parts.shared.happen) (sym c.requires.setup)
     (started_can_stop g.B.LawfulBody.body c.args.parts.now c.start_all.new.parts _ (rw c.requires.setup at c.requires.fits) c.in_ok-start_all.ensures.stands c.in_ok-start_all.ensures.all_kept)
 
 pub returns-clause-stands : goal.returns-clause-stands

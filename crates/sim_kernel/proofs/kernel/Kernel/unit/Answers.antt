@@ -1,20 +1,26 @@
 use Rattle.std.proofs.Common.{◌≡◌, ◌∙◌, sym, ap, subst}
 use Rattle.sim_steps_model.specs.Built.{AsksForBuilt}
-use Rattle.sim_steps_model.specs.Becoming.{Moves}
-use Rattle.sim_kernel.proofs.Units.{unit_steps, unit_holds}
+use Rattle.sim_steps_law.proofs.Rooms.{roomier_stands_for_some}
+use Rattle.sim_kernel.proofs.Units.{unit_steps, unit_holds, roomier_holds}
 use Rattle.sim_kernel.proofs.kernel.Kernel.unit.Goals as goal
+
+pub invariant_of-self : goal.invariant_of-self
+invariant_of-self g c = roomier_holds g.B.LawfulBody.body c.self.inside.units c.self.inside.parts c.reserve.new.self c.reserve.ensures.kept c.self.invariant
+
+pub unit-unit-requires-clause-stands : goal.unit-unit-requires-clause-stands
+unit-unit-requires-clause-stands g c =
+    let h = c.self.invariant in
+    roomier_stands_for_some g.B.LawfulBody.body c.self.inside.parts c.reserve.new.self c.reserve.ensures.kept (record { state = h.state; lawful = h.lawful; stands = h.stands })
 
 pub invariant_of-self-2 : goal.invariant_of-self-2
 invariant_of-self-2 g c =
     let old = c.self.inside.parts in
     let code : c.args.code.now ≡ old.code = c.requires.code ∙ sym (ap (λ k. k.parts.code) c.self.view_is) in
-    unit_holds g.B.LawfulBody.body c.self.inside.units old c.reserve.new.self.happen.spare c.reserve.new.self.spare c.unit-unit.result c.unit-unit.new.self (g.B.LawfulBody.lawful old.code)
-    (subst (λ x. AsksForBuilt g.B.LawfulBody.body x) code c.requires.asks) c.self.invariant
-    (subst (λ parts. Moves g.B.LawfulBody.body parts c.unit-unit.result c.unit-unit.new.self) c.reserve.ensures.kept c.unit-unit.ensures.moves)
+    unit_holds g.B.LawfulBody.body c.self.inside.units old c.reserve.new.self c.unit-unit.result c.unit-unit.new.self (g.B.LawfulBody.lawful old.code)
+    (subst (λ x. AsksForBuilt g.B.LawfulBody.body x) code c.requires.asks) c.self.invariant c.reserve.ensures.kept c.unit-unit.ensures.moves
 
 pub returns-clause-steps : goal.returns-clause-steps
 returns-clause-steps g c =
     let old = c.self.inside.parts in
     rw (← c.self.view_is)
-    (unit_steps g.B.LawfulBody.body old c.self.invariant.fits (g.B.LawfulBody.lawful old.code) c.reserve.new.self.happen.spare c.reserve.new.self.spare c.unit-unit.result c.unit-unit.new.self
-    (subst (λ parts. Moves g.B.LawfulBody.body parts c.unit-unit.result c.unit-unit.new.self) c.reserve.ensures.kept c.unit-unit.ensures.moves))
+    (unit_steps g.B.LawfulBody.body old c.self.invariant.fits (g.B.LawfulBody.lawful old.code) c.reserve.new.self c.unit-unit.result c.unit-unit.new.self c.reserve.ensures.kept c.unit-unit.ensures.moves)

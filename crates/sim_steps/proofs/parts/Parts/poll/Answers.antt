@@ -5,6 +5,7 @@ use Rattle.sim_types.specs.declared.op.Op.TheVariants as op
 use Rattle.sim_steps_model.specs.declared.mode.Unit.TheVariants as unit
 use Rattle.sim_steps_model.specs.PartsOf.{PartsOf}
 use Rattle.sim_steps_law.proofs.Becoming.{becomes_told}
+use Rattle.sim_steps_law.proofs.Keeping.{none_is_few}
 use Rattle.sim_steps_law.proofs.Polls.{polled_moves, logged_moves}
 use Rattle.sim_steps_law.proofs.Ending.{polled_alive, ended_scopes, polled_open}
 use Rattle.sim_steps.proofs.parts.Parts.poll.Goals as goal
@@ -31,14 +32,14 @@ end-requires-in-Die-clause-is_open g c =
 pub returns-in-Nop : goal.returns-in-Nop
 returns-in-Nop g c =
     record {
-      moves = polled_moves g.B.LawfulBody.body c.args.self.now c.ask.new.self _ c.args.event c.args.process c.args.told op.Nop unit.Quiet c.requires.running c.in-Nop.ensures.asked refl refl (rw c.tell.ensures (becomes_told signal.Done c.ask.new.self));
+      moves = polled_moves g.B.LawfulBody.body 0 c.args.self.now c.ask.new.self _ c.args.event c.args.process c.args.told op.Nop unit.Quiet c.requires.running c.in-Nop.ensures.asked refl none_is_few (rw c.tell.ensures (becomes_told signal.Done c.ask.new.self));
     }
 
 pub returns-in-Log : goal.returns-in-Log
 returns-in-Log g c =
     let value : FitsSigned w64 c.in-Log.value = search rules in
     let time : FitsSigned w64 c.now-time.result = search rules in
-    let now = to_z-of_z w64 c.now-time.result time ∙ (c.now-time.ensures ∙ ap (λ (v : PartsOf g.row.B.Denot g.row.B-Code.Denot). v.happen.time) c.self.view_is) in
+    let now = to_z-of_z w64 c.now-time.result time ∙ (c.now-time.ensures ∙ ap (λ h. h.time) c.happen.ensures ∙ ap (λ (v : PartsOf g.row.B.Denot g.row.B-Code.Denot). v.shared.happen.time) c.self.view_is) in
     record {
       moves = logged_moves g.B.LawfulBody.body c.args.self.now c.ask.new.self c.tell-in-Log.new.self c.args.event c.args.process c.args.told c.in-Log.value _ _ c.requires.running c.in-Log.ensures.asked now (to_z-of_z w64 c.in-Log.value value) c.tell-in-Log.ensures;
     }
@@ -48,7 +49,7 @@ returns-in-Draw g c =
     let lo : FitsSigned w64 c.in-Draw.lo = search rules in
     let hi : FitsSigned w64 c.in-Draw.hi = search rules in
     record {
-      moves = polled_moves g.B.LawfulBody.body c.args.self.now c.ask.new.self _ c.args.event c.args.process c.args.told (op.Draw c.in-Draw.lo c.in-Draw.hi) unit.Quiet c.requires.running c.in-Draw.ensures.asked refl refl (rw (to_z-of_z w64 c.in-Draw.lo lo, to_z-of_z w64 c.in-Draw.hi hi) at c.draw.ensures.becomes);
+      moves = polled_moves g.B.LawfulBody.body 0 c.args.self.now c.ask.new.self _ c.args.event c.args.process c.args.told (op.Draw c.in-Draw.lo c.in-Draw.hi) unit.Quiet c.requires.running c.in-Draw.ensures.asked refl none_is_few (rw (to_z-of_z w64 c.in-Draw.lo lo, to_z-of_z w64 c.in-Draw.hi hi) at c.draw.ensures.becomes);
     }
 
 pub returns-in-Pause : goal.returns-in-Pause
@@ -56,18 +57,18 @@ returns-in-Pause g c =
     let delay : FitsSigned w64 c.in-Pause.delay = search rules in
     let value : FitsSigned w64 c.in-Pause.value = search rules in
     record {
-      moves = polled_moves g.B.LawfulBody.body c.args.self.now c.ask.new.self _ c.args.event c.args.process c.args.told (op.Pause c.in-Pause.delay c.in-Pause.value) unit.Quiet c.requires.running c.in-Pause.ensures.asked refl refl (rw (to_z-of_z w64 c.in-Pause.delay delay, to_z-of_z w64 c.in-Pause.value value) at c.pause.ensures.becomes);
+      moves = polled_moves g.B.LawfulBody.body 0 c.args.self.now c.ask.new.self _ c.args.event c.args.process c.args.told (op.Pause c.in-Pause.delay c.in-Pause.value) unit.Quiet c.requires.running c.in-Pause.ensures.asked refl none_is_few (rw (to_z-of_z w64 c.in-Pause.delay delay, to_z-of_z w64 c.in-Pause.value value) at c.pause.ensures.becomes);
     }
 
 pub returns-in-Finish : goal.returns-in-Finish
 returns-in-Finish g c =
     let value : FitsSigned w64 c.in-Finish.value = search rules in
     record {
-      moves = polled_moves g.B.LawfulBody.body c.args.self.now c.ask.new.self _ c.args.event c.args.process c.args.told (op.Finish c.in-Finish.value) unit.Quiet c.requires.running c.in-Finish.ensures.asked refl refl (rw (to_z-of_z w64 c.in-Finish.value value) at c.end.ensures.becomes);
+      moves = polled_moves g.B.LawfulBody.body 0 c.args.self.now c.ask.new.self _ c.args.event c.args.process c.args.told (op.Finish c.in-Finish.value) unit.Quiet c.requires.running c.in-Finish.ensures.asked refl none_is_few (rw (to_z-of_z w64 c.in-Finish.value value) at c.end.ensures.becomes);
     }
 
 pub returns-in-Die : goal.returns-in-Die
 returns-in-Die g c =
     record {
-      moves = polled_moves g.B.LawfulBody.body c.args.self.now c.ask.new.self _ c.args.event c.args.process c.args.told (op.Die c.in-Die.what) unit.Quiet c.requires.running c.in-Die.ensures.asked refl refl c.end-in-Die.ensures.becomes;
+      moves = polled_moves g.B.LawfulBody.body 0 c.args.self.now c.ask.new.self _ c.args.event c.args.process c.args.told (op.Die c.in-Die.what) unit.Quiet c.requires.running c.in-Die.ensures.asked refl none_is_few c.end-in-Die.ensures.becomes;
     }

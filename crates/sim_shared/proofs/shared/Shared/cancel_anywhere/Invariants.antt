@@ -2,7 +2,7 @@ use Rattle.std.proofs.Common.{◌≡◌, ◌<◌, ℕ, false, length}
 use Rattle.std.specs.Prelude.{slice_get, Some}
 use Rattle.sim_shared_model.specs.declared.resource.SharedResource.{SharedResource}
 use Rattle.sim_shared_model.specs.Waiting.{waits_at}
-use Rattle.sim_shared.proofs.shared.Shared.cancel.Given as goal
+use Rattle.sim_shared.proofs.shared.Shared.cancel_anywhere.Given as goal
 
 -- the event waits at none of the places so far, and all is as it was
 abbrev pub invariant-loop-at : goal.invariant-loop-at

@@ -3,7 +3,7 @@ use Rattle.sim_machine.specs.Runs.{first_calendar}
 use Rattle.sim_happen_model.specs.Shows.{Shows}
 use Rattle.sim_steps_law.proofs.Rooms.{roomier_shows}
 use Rattle.sim_steps_law.proofs.Made.{named_shown, named_kept, events_named}
-use Rattle.sim_steps.proofs.making.named_events.Goals as goal
+use Rattle.sim_steps.proofs.making.make_named.Goals as goal
 
 pub loop-made-preserved : goal.loop-made-preserved
 loop-made-preserved c =

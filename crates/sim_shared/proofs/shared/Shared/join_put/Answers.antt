@@ -1,0 +1,26 @@
+use Rattle.std.proofs.Common.{w64}
+use Rattle.std.proofs.lemmas.Int.{to_z-of_z}
+use Rattle.sim_types.specs.declared.event.EventKind.TheVariants as kind
+use Rattle.sim_types.specs.declared.event.Callback.TheVariants as callback
+use Rattle.sim_machine.specs.State.{Waiter, Give}
+use Rattle.sim_shared_law.proofs.JoinedWaiters.{turns_joined}
+use Rattle.sim_shared_law.proofs.JoinedEvents.{absent_next, all_open_joined}
+use Rattle.sim_shared.proofs.shared.Shared.join_put.Goals as goal
+
+pub queue_put-requires-clause-absent : goal.queue_put-requires-clause-absent
+queue_put-requires-clause-absent c =
+    let m = c.make-event in
+    absent_next kind.Put (callback.TryGet c.args.res) c.args.self.now m.new.self m.result m.ensures.made m.ensures.id m.ensures.rest c.requires.shown
+
+pub returns-clause-joined : goal.returns-clause-joined
+returns-clause-joined c =
+    let m = c.make-event in
+    let waits = rw (to_z-of_z w64 c.args.amount c.ranges.amount, to_z-of_z w64 c.args.priority c.ranges.priority) at c.queue_put.ensures in
+    turns_joined kind.Put (callback.TryGet c.args.res) c.args.res (Give c.args.amount c.args.priority) c.args.self.now m.new.self c.queue_put.new.self m.result m.ensures.id c.requires.res m.ensures.made waits
+
+pub returns-clause-open : goal.returns-clause-open
+returns-clause-open c =
+    let m = c.make-event in
+    let waits = rw (to_z-of_z w64 c.args.amount c.ranges.amount, to_z-of_z w64 c.args.priority c.ranges.priority) at c.queue_put.ensures in
+    let w : Waiter = record { event = m.result; res = c.args.res; want = Give c.args.amount c.args.priority } in
+    all_open_joined kind.Put (callback.TryGet c.args.res) c.args.self.now m.new.self c.queue_put.new.self w m.ensures.made m.ensures.id c.requires.res waits m.ensures.open c.requires.shown c.requires.open
