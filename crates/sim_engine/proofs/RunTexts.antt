@@ -26,6 +26,7 @@ use Rattle.sim_script_model.specs.Polls.{script_turn}
 use Rattle.sim_engine.specs.declared.fault.EngineFault.{EngineFault}
 use Rattle.sim_engine.specs.EngineFaults.{is_write}
 use Rattle.sim_engine.specs.RunOfScenario.{plan_of_scenario, run_of_scenario, trace_of_scenario, end_of_scenario}
+use Rattle.sim_types.specs.declared.setup.Until.{Until}
 use Rattle.sim_engine.specs.StandsForRun.{StandsForRun, lines_after, lines_added, text_after, added_text, stopped_at}
 use Rattle.sim_engine.proofs.RunEnds.{end_is}
 
@@ -107,17 +108,17 @@ none_added scenario n answer h is = rw h (rw is refl)
 -- ---- the line on the end
 
 -- the line on the end, as the kernel tells it
-abbrev pub finish_of : PartsOf Script ScenarioOf → Line
-finish_of parts = line.Finish (stopped_at (rest_of parts.control parts.shared.happen.agenda)) parts.shared.happen.time parts.processed
+abbrev pub finish_of : Until → PartsOf Script ScenarioOf → Line
+finish_of until parts = line.Finish (stopped_at until (rest_of parts.control parts.shared.happen.agenda)) parts.shared.happen.time parts.processed
 
-pub finish_is : (parts : PartsOf Script ScenarioOf) (rest : Rest) (end : End) (finish : Line)
-    → rest ≡ rest_of parts.control parts.shared.happen.agenda → end ≡ stopped_at rest
-    → finish ≡ line.Finish end parts.shared.happen.time parts.processed → finish ≡ finish_of parts
-finish_is parts rest end finish stands ended is = is ∙ rw (ended, stands) refl
+pub finish_is : (until : Until) (parts : PartsOf Script ScenarioOf) (rest : Rest) (end : End) (finish : Line)
+    → rest ≡ rest_of parts.control parts.shared.happen.agenda → end ≡ stopped_at until rest
+    → finish ≡ line.Finish end parts.shared.happen.time parts.processed → finish ≡ finish_of until parts
+finish_is until parts rest end finish stands ended is = is ∙ rw (ended, stands) refl
 
 -- the text of the whole trace
 pub trace_is : (scenario : ScenarioOf) (limit : ℕ) (parts : PartsOf Script ScenarioOf) (finish : Line)
-    → StandsForRun scenario limit parts → finish ≡ finish_of parts
+    → StandsForRun scenario limit parts → finish ≡ finish_of scenario.setup.until parts
     → trace_text [] (trace_of_scenario scenario limit) ≡ text_after scenario limit ++ line_text [] finish
 trace_is scenario limit parts finish h is =
     let m = run_of_scenario scenario limit in

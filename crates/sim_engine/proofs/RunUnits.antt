@@ -12,7 +12,6 @@ use Rattle.sim_machine.specs.Units.{Course, unit_of}
 use Rattle.sim_machine.specs.Runs.{after_units, opening, opening_course}
 use Rattle.sim_machine_law.proofs.UnitLaws.{only_step}
 use Rattle.sim_machine_law.specs.Courses.{OfFunction}
-use Rattle.sim_types.specs.declared.setup.Until.TheVariants as until
 use Rattle.sim_steps_model.specs.PartsOf.{PartsOf, IsOpenedAs, plan_of}
 use Rattle.sim_steps_model.specs.StandsFor.{StandsFor, LawfulOf, StandsForOpening, IsLawfulOpening, lines_of}
 use Rattle.sim_kernel.specs.Stepping.{MakesStep, StepsFrom}
@@ -83,9 +82,9 @@ plan_is scenario parts code setup seed = rw (code, setup, seed) refl
 -- a kernel that was opened with the scenario stands for the opening state
 pub stands_for_opening : (scenario : ScenarioOf) (parts : PartsOf Script ScenarioOf) → parts.code ≡ scenario
     → parts.setup ≡ scenario.setup → parts.seed ≡ scenario.seed → IsTrue (is_built_scenario scenario) → scenario.journal ≡ []
-    → scenario.setup.until ≡ until.Never → StandsForOpening script_body parts → IsLawfulOpening script_body parts
+    → StandsForOpening script_body parts → IsLawfulOpening script_body parts
     → StandsForRun scenario 0 parts
-stands_for_opening scenario parts code setup seed built journal until stands lawful =
+stands_for_opening scenario parts code setup seed built journal stands lawful =
     let same = plan_is scenario parts code setup seed in
     record {
       code = code;
@@ -93,7 +92,6 @@ stands_for_opening scenario parts code setup seed built journal until stands law
       seed = seed;
       built = built;
       journal = journal;
-      until = until;
       stands = subst (λ g. StandsFor parts (opening g)) same stands;
       lawful = subst (λ g. LawfulOf script_body parts (opening g)) same lawful;
     }
@@ -116,7 +114,6 @@ unit_leads scenario n old answer later before opened t is lawful stands lines =
             seed = opened.seed ∙ before.seed;
             built = before.built;
             journal = before.journal;
-            until = before.until;
             stands = subst (StandsFor later) is stands;
             lawful = subst (LawfulOf script_body later) is lawful;
           };

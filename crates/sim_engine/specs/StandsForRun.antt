@@ -4,7 +4,8 @@ use Rattle.sim_types.specs.Scenarios.{ScenarioOf}
 use Rattle.sim_types.specs.declared.line.End.{End}
 use Rattle.sim_types.specs.declared.line.End.TheVariants as end
 use Rattle.sim_types.specs.declared.line.Line.{Line}
-use Rattle.sim_types.specs.declared.setup.Until.TheVariants as until
+use Rattle.sim_types.specs.declared.setup.Until.{Until}
+use Rattle.sim_machine.specs.Runs.{empty_end}
 use Rattle.sim_language.specs.Built.{is_built_scenario}
 use Rattle.sim_steps_model.specs.PartsOf.{PartsOf}
 use Rattle.sim_steps_model.specs.StandsFor.{StandsFor, LawfulOf}
@@ -20,10 +21,9 @@ pub record StandsForRun (s : ScenarioOf) (units : ℕ) (parts : PartsOf Script S
   pub code : parts.code ≡ s
   pub setup : parts.setup ≡ s.setup
   pub seed : parts.seed ≡ s.seed
-  -- its statements are built, nothing arrives, and nothing but want of events ends the run
+  -- nothing arrives
   pub built : IsTrue (is_built_scenario s)
   pub journal : s.journal ≡ []
-  pub until : s.setup.until ≡ until.Never
   pub stands : StandsFor parts (run_of_scenario s units).state
   pub lawful : LawfulOf script_body parts (run_of_scenario s units).state
 
@@ -43,13 +43,13 @@ text_after s units = trace_text [] (lines_after s units)
 abbrev pub added_text : ScenarioOf → ℕ → List ℕ
 added_text s units = trace_text [] (lines_added s units)
 
--- how the run has ended, if it has, by where its kernel stands
-abbrev pub ended_at : Rest → Option End
-ended_at rest.Busy = None
-ended_at rest.Idle = None
-ended_at rest.Empty = Some end.Empty
-ended_at (rest.Over why) = Some why
+-- how the run has ended, if it has, by where its kernel stands; for want of events it ends by what was to end it
+abbrev pub ended_at : Until → Rest → Option End
+ended_at until rest.Busy = None
+ended_at until rest.Idle = None
+ended_at until rest.Empty = Some (empty_end until)
+ended_at until (rest.Over why) = Some why
 
 -- how a run ends whose kernel makes no more units: one that has not ended was stopped by its limit
-abbrev pub stopped_at : Rest → End
-stopped_at rest = unwrap_or (ended_at rest) end.Limit
+abbrev pub stopped_at : Until → Rest → End
+stopped_at until rest = unwrap_or (ended_at until rest) end.Limit

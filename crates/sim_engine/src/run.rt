@@ -1,5 +1,6 @@
 //! Runs a scenario and writes its trace.
 ghost use Rattle.std.specs.Prelude.{◌≡◌, ◌+◌, ◌<◌, ◌^◌, [], true, IfOk, OnOk, OnErr};
+ghost use Rattle.sim_machine.specs.Runs.{empty_end};
 ghost use Rattle.sim_outside.specs.Writes.{IsUnflushed, IsFlushedOnce, Writes};
 ghost use Rattle.sim_steps_model.specs.Resting.{CanStep, can_step};
 ghost use Rattle.sim_trace.specs.Texts.{line_text, trace_text};
@@ -13,7 +14,7 @@ use sim_outside::{Failed, Sink, write_all};
 use sim_scenario::Scenario;
 use sim_script::Script;
 use sim_trace::{LineBuf, render};
-use sim_types::{End, Line};
+use sim_types::{End, Line, Until};
 use std::alloc::Global;
 
 /// Runs the scenario, at most so many units, and writes the trace; then the sink is flushed. The answer is how the run
@@ -53,7 +54,7 @@ fn write_trace<K: Sink>(
 {
     let mut buffer = LineBuf::new();
     write_units(scenario, kernel, limit, &mut buffer, out)?;
-    let end = stopped_at(kernel.rest());
+    let end = stopped_at(scenario.setup().until, kernel.rest());
     let finish = finish_line(end, kernel);
     write_line(&finish, &mut buffer, out)?;
     out.flush()?;
@@ -139,13 +140,23 @@ fn can_step(rest: Rest) -> bool
     matches!(rest, Rest::Busy | Rest::Idle)
 }
 
+/// How a run ends for want of events: one that was to end by an event has starved.
+fn empty_end(until: Until) -> End
+    ensures { result ≡ empty_end until }
+{
+    match until {
+        Until::Event(_) => End::Starved,
+        Until::Never | Until::At(_) => End::Empty,
+    }
+}
+
 /// How the run of a kernel ends that makes no more units.
-fn stopped_at(rest: Rest) -> End
-    ensures { result ≡ stopped_at rest }
+fn stopped_at(until: Until, rest: Rest) -> End
+    ensures { result ≡ stopped_at until rest }
 {
     match rest {
         Rest::Busy | Rest::Idle => End::Limit,
-        Rest::Empty => End::Empty,
+        Rest::Empty => empty_end(until),
         Rest::Over(why) => why,
     }
 }

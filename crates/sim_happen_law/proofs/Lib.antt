@@ -15,6 +15,7 @@ pub mod Shutting
 pub mod Unholding
 pub mod Memberships
 pub mod TakingChecks
+pub mod TakenResumptions
 pub mod Weights
 pub mod HoldingEach
 pub mod NewConditions

@@ -16,7 +16,7 @@ use Rattle.sim_steps_model.specs.Becoming.{AreAllKept}
 use Rattle.sim_kernel.specs.Holding.{Holds, most_opened}
 use Rattle.sim_steps_law.proofs.Running.{KeepsLaw}
 use Rattle.sim_kernel.proofs.StartingAll.{with_starts, events_of_starts}
-use Rattle.sim_kernel.proofs.Stopping.{opening_built, stop_events}
+use Rattle.sim_kernel.proofs.Stopping.{stop_events}
 
 -- the opening state is lawful
 pub opens_lawfully : {B Code : Type 0} (body : BodyOf B Code) (parts : PartsOf B Code) → KeepsLaw body parts.code →
@@ -49,7 +49,6 @@ opening_holds {B} body new law fits st kept =
       state = opening g;
       lawful = opens_lawfully body new law fits;
       stands = st;
-      built = opening_built g (opening_idle g);
       bounded = record { events = omega (arith, few, st.facilities.calendar.made); processed = omega (arith, st.processed, processed_from g (blank_state g) g.setup.starts) };
       kept = kept;
     }

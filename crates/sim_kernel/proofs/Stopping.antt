@@ -29,8 +29,6 @@ use Rattle.sim_happen_law.proofs.Following.{read_is}
 use Rattle.sim_shared_model.specs.SharedOf.{SharedOf}
 use Rattle.sim_shared_model.specs.ShowsAll.{ShowsAll}
 use Rattle.sim_steps_model.specs.Becoming.{AreAllKept}
-use Rattle.sim_steps_model.specs.Built.{is_built_callback}
-use Rattle.sim_kernel.specs.Holding.{HasBuiltCallbacks}
 use Rattle.sim_steps_model.specs.Opening.{CanStop, KeepsButProcesses, SetsStop}
 use Rattle.sim_steps_model.specs.PartsOf.{PartsOf, KeepsButHappen, plan_of}
 use Rattle.sim_steps_model.specs.StandsFor.{StandsFor}
@@ -119,28 +117,3 @@ opened_stands {B} {Code} body first old new x is kept stops st =
     let P : Until → Type 0 = λ y. StandsFor new (on_events (set_stop y) s) in
     let Q : Plan B → Type 0 = λ h. StandsFor new (opening h) in
     subst Q (sym same) (subst P is (stop_stands x old new s stops st))
-
--- ---- only callbacks that are built are registered at the opening
-
-abbrev IsBuilt : Registration → Type 0
-IsBuilt r = is_built_callback r.callback ≡ true
-
-one_more : (r : Registration) (rs : List Registration) → IsBuilt r → All IsBuilt rs → All IsBuilt (rs ++ r ∷ [])
-one_more r rs here h = All-append IsBuilt rs (r ∷ []) h (All-cons IsBuilt r [] here (All-nil IsBuilt))
-
-starts_built : {B : Type 0} (g : Plan B) (s : State B) (xs : List Start) → All IsBuilt s.facilities.calendar.registered →
-    All IsBuilt (fold (start_process g) s xs).facilities.calendar.registered
-starts_built g s [] h = h
-starts_built g s (x ∷ xs) h = starts_built g (start_process g s x) xs (one_more _ s.facilities.calendar.registered refl h)
-
-stop_built : (x : Until) (c : Calendar) → All IsBuilt c.registered → All IsBuilt (set_stop x c).registered
-stop_built until.Never c h = h
-stop_built (until.At time) c h = one_more _ c.registered refl h
-stop_built (until.Event e) c h = one_more _ c.registered refl h
-
-pub opening_built : {B : Type 0} (g : Plan B) → left_of (opening g).control ≡ [] → HasBuiltCallbacks (opening g)
-opening_built g none =
-    record {
-      registered = stop_built g.setup.until _ (starts_built g (blank_state g) g.setup.starts (All-nil IsBuilt));
-      left = subst (AllPass is_built_callback) (sym none) (All-nil (λ x. is_built_callback x ≡ true));
-    }

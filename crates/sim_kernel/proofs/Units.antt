@@ -10,14 +10,12 @@ use Rattle.sim_steps_model.specs.declared.mode.Unit.{Unit}
 use Rattle.sim_steps_model.specs.PartsOf.{PartsOf, IsOpenedAs, KeepsButRoom, plan_of}
 use Rattle.sim_steps_model.specs.StandsFor.{StandsFor, LawfulOf, StepOf}
 use Rattle.sim_steps_model.specs.Becoming.{AreAllKept, Moves, most_held}
-use Rattle.sim_steps_model.specs.Built.{AsksForBuilt}
 use Rattle.sim_kernel.specs.Holding.{Holds, IsBounded, most_opened, most_made}
 use Rattle.sim_kernel.specs.Stepping.{MakesStep}
 use Rattle.sim_steps_law.proofs.Keeping.{all_kept_weaker}
 use Rattle.sim_steps_law.proofs.Becoming.{opened_then}
 use Rattle.sim_steps_law.proofs.Rooms.{roomier_stands, roomier_lawful, roomier_held}
 use Rattle.sim_steps_law.proofs.Running.{KeepsLaw}
-use Rattle.sim_kernel.proofs.BuiltCallbacks.{step_built}
 
 -- ---- the state after a unit is lawful, since the machine keeps what is lawful
 
@@ -75,9 +73,9 @@ unit_bounded units old new s t before after a h =
     one_unit units before after x y = omega (arith)
 
 pub unit_holds : {B Code : Type 0} (body : BodyOf B Code) (units : ℕ) (old mid : PartsOf B Code) (answer : Unit) (new : PartsOf B Code) →
-    KeepsLaw body old.code → AsksForBuilt body old.code → Holds body units old → KeepsButRoom old mid → Moves body mid answer new →
+    KeepsLaw body old.code → Holds body units old → KeepsButRoom old mid → Moves body mid answer new →
     Holds body (units + 1) new
-unit_holds body units old mid answer new law asks h room moves =
+unit_holds body units old mid answer new law h room moves =
     let s = h.state in
     let later = moves.each s (roomier_lawful body old mid s room h.lawful) (roomier_stands old mid s room h.stands) in
     let t = later.state in
@@ -89,7 +87,6 @@ unit_holds body units old mid answer new law asks h room moves =
       state = t;
       lawful = opened_lawful body old new t opened (stays_lawful body old h.fits law s t h.lawful stepped);
       stands = later.stands;
-      built = step_built body old.code asks (plan_of body old) s t h.lawful.bodies.bodies h.built stepped;
       bounded = unit_bounded units old new s t h.stands later.stands (step_makes (plan_of body old) (body.tell old.code) (body.sound old.code) (body.turn old.code) s t h.lawful stepped) h.bounded;
       kept = all_kept_weaker (most_held * units + 1 + most_held) (most_held * (units + 1) + 1) (held new.shared.happen) (omega arith) (moves.kept.kept (most_held * units + 1) kept);
     }
@@ -105,7 +102,6 @@ roomier_holds {B} {Code} body units old mid room h =
       state = h.state;
       lawful = roomier_lawful body old mid h.state room h.lawful;
       stands = roomier_stands old mid h.state room h.stands;
-      built = h.built;
       bounded = record { events = rw events h.bounded.events; processed = rw processed h.bounded.processed };
       kept = rw (roomier_held old mid room) h.kept;
     }

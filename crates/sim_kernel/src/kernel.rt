@@ -51,7 +51,7 @@ impl<B: Body> Kernel<B> {
         ensures lawful { IfOk result (λ k. IsLawfulOpening B.body k.parts) }
     {
         let mut parts = Parts::<B>::blank(alloc, code, setup, seed)?;
-        match open(alloc, &mut parts, code, setup) {
+        match open(&mut parts, code, setup) {
             Ok(()) => Ok(Kernel { parts, units: 0 }),
             Err(AllocError) => {
                 parts.abandon();
@@ -81,7 +81,7 @@ impl<B: Body> Kernel<B> {
         ensures units { OnOk result (self.new.units ≡ self.old.units + 1) }
         ensures err { OnErr result (IsAsBefore self.old self.new) }
     {
-        self.parts.reserve()?;
+        self.parts.reserve(code)?;
         let unit = self.parts.unit(code);
         self.units += 1;
         Ok(unit)

@@ -12,15 +12,10 @@ ghost use Rattle.sim_kernel.specs.Opening.{HasMadeStarts};
 use sim_procs::Body;
 use sim_steps::Parts;
 use sim_types::Setup;
-use std::alloc::{AllocError, Global};
+use std::alloc::AllocError;
 
 // Makes all processes that run from the start.
-fn start_all<B: Body>(
-    alloc: Global,
-    parts: &mut Parts<B>,
-    code: &B::Code,
-    setup: &Setup,
-) -> Result<(), AllocError>
+fn start_all<B: Body>(parts: &mut Parts<B>, code: &B::Code, setup: &Setup) -> Result<(), AllocError>
     requires code { code.now ≡ parts.old.code }
     requires setup { setup.now ≡ parts.old.setup }
     requires fits { FitsCode (B.body.facts code.now) setup.now }
@@ -31,14 +26,13 @@ fn start_all<B: Body>(
     ensures all_kept { OnOk result (AreAllKept 1 (held parts.new.shared.happen)) }
 {
     for start in setup.starts.as_slice() {
-        parts.start(alloc, code, start)?;
+        parts.start(code, start)?;
     }
     Ok(())
 }
 
 /// Makes the processes that run from the start, and sets what is to stop the run.
 pub(crate) fn open<B: Body>(
-    alloc: Global,
     parts: &mut Parts<B>,
     code: &B::Code,
     setup: &Setup,
@@ -52,6 +46,6 @@ pub(crate) fn open<B: Body>(
     ensures stands { OnOk result (StandsForOpening B.body parts.new) }
     ensures holds { OnOk result (Holds B.body 0 parts.new) }
 {
-    start_all(alloc, parts, code, setup)?;
+    start_all(parts, code, setup)?;
     parts.set_stop(setup)
 }

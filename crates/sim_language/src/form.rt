@@ -166,28 +166,19 @@ impl Form {
     pub fn is_built(self) -> bool
         ensures { result ≡ is_built self }
     {
-        matches!(
-            self,
-            Form::Scenario
-                | Form::UntilEmpty
-                | Form::Seed
-                | Form::Process
-                | Form::Start
-                | Form::End
-                | Form::Timeout
-                | Form::Log
-                | Form::Let
-                | Form::Raise
-                | Form::Finish
-                | Form::Loop
-                | Form::Repeat
-                | Form::If
-                | Form::Else
-                | Form::Try
-                | Form::Catch
-                | Form::Break
-                | Form::Draw
-        )
+        match self {
+            Form::Resource
+            | Form::Priority
+            | Form::Preemptive
+            | Form::Port
+            | Form::Journal
+            | Form::After
+            | Form::Poster
+            | Form::Post
+            | Form::With
+            | Form::Release => false,
+            _ => true,
+        }
     }
 
     /// Whether the form begins with `x =`.

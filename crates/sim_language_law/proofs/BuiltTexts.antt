@@ -1,7 +1,7 @@
 -- A text of built forms gives a scenario of built parts.
 --     built_text      over lines of which each says a built form or none
 --     read_built      over texts
-use Rattle.std.proofs.Common.{◌≡◌, refl, subst, ℕ, suc, ◌+◌, Bool, true, false, ◌&&◌, ◌==◌, if◌then◌else◌, List, [], ◌∷◌, ◌++◌, Option, Some, None, option_map, unwrap_or, Result, Ok, Err}
+use Rattle.std.proofs.Common.{◌≡◌, refl, subst, ℕ, suc, ◌+◌, Bool, true, false, ◌&&◌, if◌then◌else◌, List, [], ◌∷◌, ◌++◌, Option, Some, None, option_map, unwrap_or, Result, Ok, Err}
 use Rattle.std.specs.Bool.{IsTrue}
 use Rattle.std.specs.List.{All, AllByRecursion, list_all}
 use Rattle.std.proofs.lemmas.Bool.{false≢true, true≢false, and_from, and_parts}
@@ -23,7 +23,7 @@ use Rattle.sim_language.specs.Places.{LineInText, places, is_with}
 use Rattle.sim_language.specs.Statements.{end_of, statement}
 use Rattle.sim_language.specs.Links.{Closing, linked, closings, link}
 use Rattle.sim_language.specs.Reads.{add, add_said, with_statement, with_lines, nothing_said, unless_faulty, is_too_long, reads_text, reads}
-use Rattle.sim_language.specs.Built.{is_built, is_built_statement, is_never, is_built_scenario}
+use Rattle.sim_language.specs.Built.{is_built, is_built_statement, is_built_scenario}
 use Rattle.sim_language_law.proofs.Walking.{place_at}
 use Rattle.sim_language_law.proofs.BlockFrames.{block}
 use Rattle.sim_language_law.proofs.BuiltLines.{IsBuiltSaid, all_built}
@@ -38,7 +38,7 @@ last_and false x y f h = absurd (false≢true h)
 with_code : (s : ScenarioOf) (code : List Stmt)
     → (list_all is_built_statement s.code ≡ true → list_all is_built_statement code ≡ true) → is_built_scenario s ≡ true
     → is_built_scenario (record s { code = code }) ≡ true
-with_code s code = last_and (is_never s.setup.until && (s.setup.events == 0) && is_empty s.setup.resources && is_empty s.setup.ports && is_empty s.port_names && is_empty s.journal && is_empty s.posters) _ _
+with_code s code = last_and (is_empty s.setup.ports && is_empty s.port_names && is_empty s.journal && is_empty s.posters) _ _
 
 one_more : (s : ScenarioOf) (t : Stmt) → is_built_statement t ≡ true → is_built_scenario s ≡ true → is_built_scenario (with_statement s (Some t)) ≡ true
 one_more s t is = with_code s (s.code ++ t ∷ []) (λ h. rw (list_all-append is_built_statement s.code (t ∷ [])) (and_from _ _ h (and_from _ _ is refl)))
@@ -46,24 +46,10 @@ one_more s t is = with_code s (s.code ++ t ∷ []) (λ h. rw (list_all-append is
 -- ---- linking
 
 link_built : (t : Stmt) (cs : List Closing) → is_built_statement t ≡ true → is_built_statement (link t cs) ≡ true
-link_built (stmt.Sleep delay) cs h = refl
-link_built (stmt.Log value) cs h = refl
-link_built stmt.EndProcess cs h = refl
-link_built (stmt.Let to op a b) cs h = refl
-link_built (stmt.Raise code) cs h = refl
-link_built (stmt.Finish value) cs h = refl
-link_built (stmt.Loop past) cs h = refl
-link_built (stmt.Repeat times past) cs h = refl
-link_built (stmt.If test other) cs h = refl
-link_built (stmt.Else past) cs h = refl
-link_built (stmt.Try catch) cs h = refl
-link_built (stmt.Catch kind value past) cs h = refl
-link_built (stmt.EndLoop first) cs h = refl
-link_built (stmt.EndRepeat first) cs h = refl
-link_built stmt.EndPlain cs h = refl
-link_built stmt.Break cs h = refl
-link_built (stmt.Draw to lo hi) cs h = refl
-link_built t cs h = absurd (false≢true h)
+link_built (stmt.With to res priority preempt) cs h = absurd (false≢true h)
+link_built (stmt.Release on) cs h = absurd (false≢true h)
+link_built stmt.EndWith cs h = absurd (false≢true h)
+link_built t cs h = refl
 
 linked_built : (n : ℕ) (code : List Stmt) → list_all is_built_statement code ≡ true → list_all is_built_statement (linked n code) ≡ true
 linked_built n [] h = refl
@@ -175,6 +161,54 @@ made_built heads place form.UntilEmpty slots is all = tt
 made_built heads place form.Seed slots is all = tt
 made_built heads place form.Process slots is all = tt
 made_built heads place form.Start slots is all = tt
+made_built heads place form.Wait (e ∷ []) is all = refl
+made_built heads place form.Wait slots is all = tt
+made_built heads place form.Succeed (e ∷ v ∷ []) is all = refl
+made_built heads place form.Succeed slots is all = tt
+made_built heads place form.Fail (e ∷ c ∷ []) is all = refl
+made_built heads place form.Fail slots is all = tt
+made_built heads place form.Has (y ∷ c ∷ e ∷ []) is all = refl
+made_built heads place form.Has slots is all = tt
+made_built heads place form.Spawn (p ∷ args) is all = refl
+made_built heads place form.Spawn slots is all = tt
+made_built heads place form.Interrupt (p ∷ c ∷ []) is all = refl
+made_built heads place form.Interrupt slots is all = tt
+made_built heads place form.Drop (p ∷ v ∷ []) is all = refl
+made_built heads place form.Drop slots is all = tt
+made_built heads place form.Count (x ∷ r ∷ []) is all = refl
+made_built heads place form.Count slots is all = tt
+made_built heads place form.Put (r ∷ a ∷ more) is all = refl
+made_built heads place form.Put slots is all = tt
+made_built heads place form.Get (r ∷ []) is all = refl
+made_built heads place form.Get (r ∷ a ∷ more) is all = refl
+made_built heads place form.Get slots is all = tt
+made_built heads place form.Cancel (x ∷ []) is all = refl
+made_built heads place form.Cancel slots is all = tt
+made_built heads place form.Chain (e ∷ f ∷ []) is all = refl
+made_built heads place form.Chain slots is all = tt
+made_built heads place form.NewTimeout (x ∷ d ∷ v ∷ []) is all = refl
+made_built heads place form.NewTimeout slots is all = tt
+made_built heads place form.NewEvent (x ∷ []) is all = refl
+made_built heads place form.NewEvent slots is all = tt
+made_built heads place form.NewAll (x ∷ es) is all = refl
+made_built heads place form.NewAll slots is all = tt
+made_built heads place form.NewAny (x ∷ es) is all = refl
+made_built heads place form.NewAny slots is all = tt
+made_built heads place form.NewSpawn (x ∷ p ∷ args) is all = refl
+made_built heads place form.NewSpawn slots is all = tt
+made_built heads place form.NewPut (x ∷ r ∷ a ∷ more) is all = refl
+made_built heads place form.NewPut slots is all = tt
+made_built heads place form.NewGet (x ∷ r ∷ []) is all = refl
+made_built heads place form.NewGet (x ∷ r ∷ a ∷ more) is all = refl
+made_built heads place form.NewGet slots is all = tt
+made_built heads place form.ScenarioTwo slots is all = tt
+made_built heads place form.Event slots is all = tt
+made_built heads place form.UntilTime slots is all = tt
+made_built heads place form.UntilEvent slots is all = tt
+made_built heads place form.Container slots is all = tt
+made_built heads place form.Store slots is all = tt
+made_built heads place form.PStore slots is all = tt
+made_built heads place form.FStore slots is all = tt
 made_built heads place f slots is all = absurd (false≢true is)
 
 with_made : (s : ScenarioOf) (t : Option Stmt) → MadeBuilt t → is_built_scenario s ≡ true → is_built_scenario (with_statement s t) ≡ true
@@ -208,6 +242,50 @@ add_built heads place form.Try slots s is all h = with_made s (statement heads p
 add_built heads place form.Catch slots s is all h = with_made s (statement heads place form.Catch slots) (made_built heads place form.Catch slots is all) h
 add_built heads place form.Break slots s is all h = with_made s (statement heads place form.Break slots) (made_built heads place form.Break slots is all) h
 add_built heads place form.Draw slots s is all h = with_made s (statement heads place form.Draw slots) (made_built heads place form.Draw slots is all) h
+add_built heads place form.Wait slots s is all h = with_made s (statement heads place form.Wait slots) (made_built heads place form.Wait slots is all) h
+add_built heads place form.Succeed slots s is all h = with_made s (statement heads place form.Succeed slots) (made_built heads place form.Succeed slots is all) h
+add_built heads place form.Fail slots s is all h = with_made s (statement heads place form.Fail slots) (made_built heads place form.Fail slots is all) h
+add_built heads place form.Has slots s is all h = with_made s (statement heads place form.Has slots) (made_built heads place form.Has slots is all) h
+add_built heads place form.Spawn slots s is all h = with_made s (statement heads place form.Spawn slots) (made_built heads place form.Spawn slots is all) h
+add_built heads place form.Interrupt slots s is all h = with_made s (statement heads place form.Interrupt slots) (made_built heads place form.Interrupt slots is all) h
+add_built heads place form.Drop slots s is all h = with_made s (statement heads place form.Drop slots) (made_built heads place form.Drop slots is all) h
+add_built heads place form.Count slots s is all h = with_made s (statement heads place form.Count slots) (made_built heads place form.Count slots is all) h
+add_built heads place form.Put slots s is all h = with_made s (statement heads place form.Put slots) (made_built heads place form.Put slots is all) h
+add_built heads place form.Get slots s is all h = with_made s (statement heads place form.Get slots) (made_built heads place form.Get slots is all) h
+add_built heads place form.Cancel slots s is all h = with_made s (statement heads place form.Cancel slots) (made_built heads place form.Cancel slots is all) h
+add_built heads place form.Chain slots s is all h = with_made s (statement heads place form.Chain slots) (made_built heads place form.Chain slots is all) h
+add_built heads place form.NewTimeout slots s is all h = with_made s (statement heads place form.NewTimeout slots) (made_built heads place form.NewTimeout slots is all) h
+add_built heads place form.NewEvent slots s is all h = with_made s (statement heads place form.NewEvent slots) (made_built heads place form.NewEvent slots is all) h
+add_built heads place form.NewAll slots s is all h = with_made s (statement heads place form.NewAll slots) (made_built heads place form.NewAll slots is all) h
+add_built heads place form.NewAny slots s is all h = with_made s (statement heads place form.NewAny slots) (made_built heads place form.NewAny slots is all) h
+add_built heads place form.NewSpawn slots s is all h = with_made s (statement heads place form.NewSpawn slots) (made_built heads place form.NewSpawn slots is all) h
+add_built heads place form.NewPut slots s is all h = with_made s (statement heads place form.NewPut slots) (made_built heads place form.NewPut slots is all) h
+add_built heads place form.NewGet slots s is all h = with_made s (statement heads place form.NewGet slots) (made_built heads place form.NewGet slots is all) h
+add_built heads place form.ScenarioTwo slots s is all h = h
+add_built heads place form.Event slots s is all h = h
+add_built heads place form.UntilTime [] s is all h = h
+add_built heads place form.UntilTime (a ∷ []) s is all h = h
+add_built heads place form.UntilTime (a ∷ b ∷ more) s is all h = h
+add_built heads place form.UntilEvent [] s is all h = h
+add_built heads place form.UntilEvent (a ∷ []) s is all h = h
+add_built heads place form.UntilEvent (a ∷ b ∷ more) s is all h = h
+add_built heads place form.Container [] s is all h = h
+add_built heads place form.Container (a ∷ []) s is all h = h
+add_built heads place form.Container (a ∷ b ∷ []) s is all h = h
+add_built heads place form.Container (a ∷ b ∷ c ∷ []) s is all h = h
+add_built heads place form.Container (a ∷ b ∷ c ∷ d ∷ more) s is all h = h
+add_built heads place form.Store [] s is all h = h
+add_built heads place form.Store (a ∷ []) s is all h = h
+add_built heads place form.Store (a ∷ b ∷ []) s is all h = h
+add_built heads place form.Store (a ∷ b ∷ c ∷ more) s is all h = h
+add_built heads place form.PStore [] s is all h = h
+add_built heads place form.PStore (a ∷ []) s is all h = h
+add_built heads place form.PStore (a ∷ b ∷ []) s is all h = h
+add_built heads place form.PStore (a ∷ b ∷ c ∷ more) s is all h = h
+add_built heads place form.FStore [] s is all h = h
+add_built heads place form.FStore (a ∷ []) s is all h = h
+add_built heads place form.FStore (a ∷ b ∷ []) s is all h = h
+add_built heads place form.FStore (a ∷ b ∷ c ∷ more) s is all h = h
 add_built heads place f slots s is all h = absurd (false≢true is)
 
 said_built : (heads : ProcessLines) (place : LineInText) (said : Saying) (s : ScenarioOf) → IsBuiltSaid is_built said

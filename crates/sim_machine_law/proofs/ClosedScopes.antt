@@ -35,10 +35,10 @@ use Rattle.sim_machine_law.proofs.ReleasedUsers.{UsesOther, users_left, waiters_
 
 -- ---- lists
 
-All-passing : {X : Type 0} (P Q : X → Type 0) (p : X → Bool) (xs : List X) → ((x : X) → p x ≡ true → P x → Q x) → All P xs → All Q (filter p xs)
+pub All-passing : {X : Type 0} (P Q : X → Type 0) (p : X → Bool) (xs : List X) → ((x : X) → p x ≡ true → P x → Q x) → All P xs → All Q (filter p xs)
 All-passing P Q p xs step h = λ k y below. step (get_or (filter p xs) k y) (filter_passes p xs k y below) (All-filter p P xs h k y below)
 
-filter_twice : {X : Type 0} (p keep : X → Bool) (xs : List X) → All (λ x. p x ≡ true → keep x ≡ true) xs → filter p (filter keep xs) ≡ filter p xs
+pub filter_twice : {X : Type 0} (p keep : X → Bool) (xs : List X) → All (λ x. p x ≡ true → keep x ≡ true) xs → filter p (filter keep xs) ≡ filter p xs
 filter_twice p keep [] h = refl
 filter_twice {X} p keep (x ∷ xs) h =
     let P : X → Type 0 = λ y. p y ≡ true → keep y ≡ true in
@@ -47,7 +47,7 @@ filter_twice {X} p keep (x ∷ xs) h =
     cond_both (keep x) (x ∷ kept) kept (λ ys. filter p ys ≡ filter p (x ∷ xs)) (λ a. rw later refl)
     (λ a. let fails : p x ≡ false = false_from_ne_true (p x) (λ b. both_ways (keep x) a (All-head P x xs h b)) in rw fails later)
 
-all_fail : {X : Type 0} (t : X → Bool) (xs : List X) → list_any t xs ≡ false → All (λ x. t x ≡ false) xs
+pub all_fail : {X : Type 0} (t : X → Bool) (xs : List X) → list_any t xs ≡ false → All (λ x. t x ≡ false) xs
 all_fail t [] h = All-nil (λ x. t x ≡ false)
 all_fail t (x ∷ xs) h = let parts = or_parts (t x) (list_any t xs) h in All-cons (λ y. t y ≡ false) x xs parts.0 (all_fail t xs parts.1)
 
@@ -62,9 +62,9 @@ calendar_left res request f =
     let c : Calendar = (cancel request f).calendar in
     ap (λ (d : Calendar). succeed (next_event c) (pos 0) d) (end_use-calendar res request (on_calendar (λ (d : Calendar). register (next_event c) (callback.TryPut res) (make kind.Release d)) (cancel request f)))
 
-record SameButOne (request : EventId) (c d : Calendar) : Type 0 where
-  longer : length c.events ≤ length d.events
-  same : (e : EventId) → e.0 < length c.events → e.0 ≢ request.0 → event_at d e ≡ event_at c e
+pub record SameButOne (request : EventId) (c d : Calendar) : Type 0 where
+  pub longer : length c.events ≤ length d.events
+  pub same : (e : EventId) → e.0 < length c.events → e.0 ≢ request.0 → event_at d e ≡ event_at c e
 
 same_cancelled : (request : EventId) (f : Facilities) → SameButOne request f.calendar (cancel request f).calendar
 same_cancelled request f =
@@ -74,7 +74,7 @@ same_cancelled request f =
     (λ a. record { longer = omega (arith, change_event-length request change c); same = λ e made differ. change_event-other request e change c differ })
     (λ a. record { longer = omega arith; same = λ e made differ. refl })
 
-same_left : (res : ℕ) (request : EventId) (f : Facilities) → SameButOne request f.calendar (leave res request f).calendar
+pub same_left : (res : ℕ) (request : EventId) (f : Facilities) → SameButOne request f.calendar (leave res request f).calendar
 same_left res request f =
     let c : Calendar = (cancel request f).calendar in
     let e : EventId = next_event c in
@@ -88,7 +88,7 @@ same_left res request f =
     })
 
 -- what waits for another event waits as before
-waits_still : (request : EventId) (c d : Calendar) (w : Waiter) → SameButOne request c d
+pub waits_still : (request : EventId) (c d : Calendar) (w : Waiter) → SameButOne request c d
     → not (is_same w.event request) ≡ true → waits_well c w ≡ true → waits_well d w ≡ true
 waits_still request c d w k apart h =
     let e : EventId = w.event in

@@ -43,7 +43,7 @@ use Rattle.sim_machine_law.proofs.LawfulBasis.{AreScopesApart, LawfulBasis, Wait
 reverse_cons : {X : Type 0} (x : X) (xs : List X) → reverse (x ∷ xs) ≡ reverse xs ++ x ∷ []
 reverse_cons x xs = reverse-append (x ∷ []) xs
 
-All-reverse : {X : Type 0} (P : X → Type 0) (xs : List X) → All P xs → All P (reverse xs)
+pub All-reverse : {X : Type 0} (P : X → Type 0) (xs : List X) → All P xs → All P (reverse xs)
 All-reverse P [] h = h
 All-reverse P (x ∷ xs) h = subst (λ ys. All P ys) (sym (reverse_cons x xs)) (All-append P (reverse xs) (x ∷ []) (All-reverse P xs (All-tail P x xs h)) (All-cons P x [] (All-head P x xs h) (All-nil P)))
 
@@ -53,7 +53,7 @@ or_swap true false = refl
 or_swap false true = refl
 or_swap false false = refl
 
-any-reverse : {X : Type 0} (t : X → Bool) (xs : List X) → list_any t (reverse xs) ≡ list_any t xs
+pub any-reverse : {X : Type 0} (t : X → Bool) (xs : List X) → list_any t (reverse xs) ≡ list_any t xs
 any-reverse t [] = refl
 any-reverse t (x ∷ xs) =
     ap (λ ys. list_any t ys) (reverse_cons x xs) ∙ (list_any-append t (reverse xs) (x ∷ []) ∙ (ap (λ (b : Bool). b || (t x || false)) (any-reverse t xs) ∙ or_swap (t x) (list_any t xs)))
@@ -61,7 +61,7 @@ any-reverse t (x ∷ xs) =
 -- ---- the scopes of a process
 
 -- scopes of one request are one
-alone_each : (xs : List OpenScope) → AllPairs (λ x y. x.request ≢ y.request) xs
+pub alone_each : (xs : List OpenScope) → AllPairs (λ x y. x.request ≢ y.request) xs
     → All (λ (x : OpenScope). All (λ (y : OpenScope). is_same y.request x.request ≡ true → y ≡ x) xs) xs
 alone_each [] h = All-nil (λ (x : OpenScope). All (λ (y : OpenScope). is_same y.request x.request ≡ true → y ≡ x) [])
 alone_each (x ∷ xs) h =
@@ -74,7 +74,7 @@ alone_each (x ∷ xs) h =
     All-cons (P w) x xs (λ same. absurd (apart k z below (is_same-yes x.request w.request same))) (alone_each xs (AllPairs-tail R x xs h) k z below) in
     All-cons (λ z. All (P z) (x ∷ xs)) x xs first others
 
-covered_itself : (p : OpenScope → Bool) (xs : List OpenScope)
+pub covered_itself : (p : OpenScope → Bool) (xs : List OpenScope)
     → All (λ (y : OpenScope). p y ≡ true → list_any (λ (x : OpenScope). is_same y.request x.request) (filter p xs) ≡ true) xs
 covered_itself p [] = All-nil (λ (y : OpenScope). p y ≡ true → list_any (λ (x : OpenScope). is_same y.request x.request) [] ≡ true)
 covered_itself p (x ∷ xs) =

@@ -225,7 +225,7 @@ none_at test h x xs true is none later = cc
 none_at test h x xs false is none later = All-cons (λ z. test z ≡ false) x xs is (later none)
 
 -- where nothing passes, all fail
-none_passes : {X Y : Type 0} (test : X → Bool) (h : X → Y) (xs : List X) → map h (filter test xs) ≡ [] → All (λ z. test z ≡ false) xs
+pub none_passes : {X Y : Type 0} (test : X → Bool) (h : X → Y) (xs : List X) → map h (filter test xs) ≡ [] → All (λ z. test z ≡ false) xs
 none_passes test h [] none = All-nil (λ z. test z ≡ false)
 none_passes test h (x ∷ xs) none = none_at test h x xs (test x) refl none (none_passes test h xs)
 
@@ -233,10 +233,13 @@ not_of : {B : Type 0} (p q : ProcId) (z : ProcessOf B) → is_process q p ≡ fa
 not_of p q z h is = not_from_false (is_process z.id p) (ap (λ (n : ProcId). is_process n p) (same_process q z.id is) ∙ h)
 
 -- a process that is not p stays alive when p ends
+pub alive_without : {B : Type 0} (p q : ProcId) (s : State B) → is_process q p ≡ false → is_alive q s ≡ true
+    → list_any (λ z. is_process z.id q) (filter (λ z. not (is_process z.id p)) s.processes) ≡ true
+alive_without p q s h alive = any-filter_same (λ z. is_process z.id q) (λ z. not (is_process z.id p)) true (λ z is. not_of p q z h is) s.processes ∙ alive
+
 alive_ended : {B : Type 0} (p q : ProcId) (b : B) (s : State B) → is_process q p ≡ false → is_alive q s ≡ true
     → list_any (λ z. is_process z.id q) (filter (λ z. not (is_process z.id p)) (with_body p b s).processes) ≡ true
-alive_ended p q b s h alive =
-    any-filter_same (λ z. is_process z.id q) (λ z. not (is_process z.id p)) true (λ z is. not_of p q z h is) (with_body p b s).processes ∙ (alive_changed p q (λ n. record n { body = b }) s (λ n. refl) ∙ alive)
+alive_ended p q b s h alive = alive_without p q (with_body p b s) h (alive_changed p q (λ n. record n { body = b }) s (λ n. refl) ∙ alive)
 
 knows_ended : {B : Type 0} (tell : Telling B) (s t : State B) (e : EventId) (left : List Callback) (p : ProcId) (x : Signal)
     (b : B) (z : ProcessOf B) → s.control ≡ Active e left p x → t.scopes ≡ s.scopes

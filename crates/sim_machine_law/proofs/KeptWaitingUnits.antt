@@ -150,7 +150,7 @@ waiting-set_stop g tell sound s until fits named start idle h =
     let c : Calendar = s.facilities.calendar in
     waiting_unpolled g tell s (set_stop until c) s.control s.processed s.drawn s.lines (grown_old c (set_stop until c) (old_stop until c)) (old_pending c (set_stop until c) (old_stop until c)) (λ q v. refl) h.waiting
 
-none_found : {X : Type 0} (test : X → Bool) (xs : List X) → All (λ x. test x ≡ false) xs → filter test xs ≡ []
+pub none_found : {X : Type 0} (test : X → Bool) (xs : List X) → All (λ x. test x ≡ false) xs → filter test xs ≡ []
 none_found test [] h = refl
 none_found test (x ∷ xs) h = rw (All-head (λ z. test z ≡ false) x xs h) (none_found test xs (All-tail (λ z. test z ≡ false) x xs h))
 

@@ -1,5 +1,5 @@
 -- A step makes at most 40 events, and processes at most one.
-use Rattle.std.proofs.Common.{◌≡◌, ◌+◌, ◌≤◌, ℕ, zero, suc, ℤ, Bool, true, false, not, ◌&&◌, List, [], ◌∷◌, Option, Some, None, length, filter, refl, sym, subst, ap, ◌∙◌, arith, All}
+use Rattle.std.proofs.Common.{◌≡◌, ◌+◌, ◌≤◌, ◌<◌, ℕ, zero, suc, ℤ, Bool, true, false, not, ◌&&◌, List, [], ◌∷◌, Option, Some, None, length, filter, refl, sym, subst, ap, ◌∙◌, arith, All}
 use Rattle.std.specs.Prelude.{fold, find, ◌==◌, pos}
 use Rattle.std.proofs.Math.ListN.{length-set}
 use Rattle.std.proofs.lemmas.List.{length-map, length-reverse}
@@ -177,6 +177,26 @@ tried_get rs res f =
     along_same rs (get_reach (resource_at rs res).kind) (get_queue res f.waiters) f
     (All-weaker (λ w. test w ≡ true) (MakesNone rs) (λ w h. get_none rs w (not-true (wants_to_put w.want) (and_parts (w.res == res) (not (wants_to_put w.want)) h).1)) (get_queue res f.waiters) (filter_passes test f.waiters))
 
+-- no event is lost by an attempt, nor by a try
+attempt_keeps : (rs : List Resource) (r : Resource) (w : Waiter) (want : Want) (f : Facilities) → made_in f ≤ made_in (attempt_for rs r w want f)
+attempt_keeps rs r w (Slot p key) f = by_grant (grant_of r key (users w.res f.ledger))
+  where
+    by_grant : (grant : Grant) → made_in f ≤ made_in (use_slot w p key grant f)
+    by_grant NoSlot = omega arith
+    by_grant FreeSlot = omega (arith, slot_taken_same w p key f)
+    by_grant (SlotOf u) =
+        omega (arith, slot_taken_same w p key (preempt w.res u f), length-interrupted u.process (record { kind = preemption; value = u.since }) f.calendar)
+attempt_keeps rs r w (Give amount priority) f = omega (arith, served_same w (put_served r w amount priority (level rs w.res f) (items w.res f.ledger)) f)
+attempt_keeps rs r w (Take least greatest) f = omega (arith, served_same w (get_served r w least greatest (level rs w.res f) (items w.res f.ledger)) f)
+
+along_keeps : (rs : List Resource) (reach : Reach) (ws : List Waiter) (f : Facilities) → made_in f ≤ made_in (try_along rs reach ws f)
+along_keeps rs reach [] f = omega arith
+along_keeps rs reach (w ∷ ws) f =
+    let after : Facilities = attempt rs w f in
+    let first : made_in f ≤ made_in after = attempt_keeps rs (resource_at rs w.res) w w.want f in
+    if_cases (λ (t : Facilities). made_in f ≤ made_in t) (goes_on reach w after) (try_along rs reach ws after) after
+    (λ on. omega (arith, first, along_keeps rs reach ws after)) (λ ends. first)
+
 -- ---- requests, puts and gets, and scopes that are left
 
 released_one : (res : ℕ) (request : EventId) (f : Facilities) → made_in (make_release res request f) ≡ made_in f + 1
@@ -226,6 +246,19 @@ put_made rs res k want call f = omega (arith, tried_put rs res (join k res want 
 
 get_made : (rs : List Resource) (res : ℕ) (least greatest : ℤ) (f : Facilities) → made_in (make_get rs res least greatest f) ≤ made_in f + 2
 get_made rs res least greatest f = omega (arith, tried_get rs res (join kind.Get res (Take least greatest) (callback.TryPut res) f), make-length kind.Get f.calendar)
+
+-- and so it is one more at least
+pub put_made_more : (rs : List Resource) (res : ℕ) (k : EventKind) (want : Want) (call : Callback) (f : Facilities) →
+    length f.calendar.events < length (try_put rs res (join k res want call f)).calendar.events
+put_made_more rs res k want call f =
+    let joined : Facilities = join k res want call f in
+    omega (arith, along_keeps rs (put_reach (resource_at rs res).kind) (put_queue rs res joined.waiters) joined, make-length k f.calendar)
+
+pub get_made_more : (rs : List Resource) (res : ℕ) (least greatest : ℤ) (f : Facilities) →
+    length f.calendar.events < length (make_get rs res least greatest f).calendar.events
+get_made_more rs res least greatest f =
+    let joined : Facilities = join kind.Get res (Take least greatest) (callback.TryPut res) f in
+    omega (arith, tried_get rs res joined, make-length kind.Get f.calendar)
 
 enter_made : {B : Type 0} (g : Plan B) (p : ProcId) (res : ℕ) (priority : ℤ) (preempts : Bool) (s : State B) →
     made_by (enter g p res priority preempts s) ≤ made_by s + 2

@@ -11,6 +11,6 @@ pub mod Leaving
 pub mod Doing
 pub mod Taking
 pub mod ScriptLaw
-pub mod PlainAsking
+pub mod AskingWithoutScopes
 pub mod SetupFits
 pub mod Readiness

@@ -38,7 +38,7 @@ use Rattle.sim_shared_law.proofs.JoinedWaiters.{IsNewcomer, joined_shown, newcom
 -- ---- what waits is open
 
 -- what holds of each event that is among these holds of all
-all_from_each : (P : EventId → Type 0) (es : List EventId) → ((e : EventId) → stands_among e es ≡ true → P e) → All P es
+pub all_from_each : (P : EventId → Type 0) (es : List EventId) → ((e : EventId) → stands_among e es ≡ true → P e) → All P es
 all_from_each P [] h = All-nil P
 all_from_each P (e ∷ es) h =
     All-cons P e es (h e (ap (λ b. b || stands_among e es) (is_same-self e)))

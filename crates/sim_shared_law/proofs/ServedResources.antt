@@ -5,10 +5,10 @@ use Rattle.std.proofs.lemmas.Bool.{false≢true}
 use Rattle.sim_types.specs.declared.event.EventId.{EventId}
 use Rattle.sim_types.specs.declared.setup.Resource.{Resource}
 use Rattle.sim_types.specs.declared.setup.ResourceKind.TheVariants as resource
-use Rattle.sim_machine.specs.State.{Waiter, Deed, Deposited, Taken, Filled, Drained, Facilities}
+use Rattle.sim_machine.specs.State.{Waiter, Item, Deed, Deposited, Taken, Filled, Drained, Facilities}
 use Rattle.sim_machine.specs.Triggering.{succeed}
 use Rattle.sim_machine.specs.LawfulLedger.{ServeApart}
-use Rattle.sim_machine.specs.Users.{resource_at, change_of_level}
+use Rattle.sim_machine.specs.Users.{resource_at, items, change_of_level}
 use Rattle.sim_machine.specs.Attempts as attempts
 use Rattle.sim_machine.specs.Trying.{Reach, First, write_deed, unqueue, attempt, put_reach, get_reach, try_put, try_get}
 use Rattle.sim_machine.specs.Trying as trying
@@ -55,6 +55,18 @@ queues_are of by passed w behind ws left vs us e stood stay is same mine others 
 abbrev amount_event : WaitingAmount → EventId
 amount_event w = w.event
 
+-- a container is shown without the one that left, with the level that the deed made
+tank_left : (rs : List Resource) (res : ℕ) (t u : TankOf) (e : EventId) (d : Deed) (f : Facilities) → ShowsTank rs res t f
+    → u.puts ≡ besides amount_event e t.puts → u.gets ≡ besides amount_event e t.gets → u.level ≡ t.level +ℤ change_of_level res d
+    → ShowsTank rs res u (write_deed d (unqueue e f))
+tank_left rs res t u e d f s puts gets level =
+    let b : ShowsTank rs res (tank_besides e t) (unqueue e f) = unqueued_shown rs res (Tank t) f e s in
+    record {
+      puts = ap (map amount_waiting) puts ∙ b.puts;
+      gets = ap (map amount_waiting) gets ∙ b.gets;
+      level = level ∙ ap (λ l. l +ℤ change_of_level res d) s.level ∙ sym (level_more (resource_at rs res).opening res d f.ledger);
+    }
+
 module _ (res : ℕ) (t u : TankOf) (answer : Served) where
   module _ (h : Fills res t answer u) where
     pub fill_leaves : IsLeaving answer.event (waiting_at_tank t) (waiting_at_tank u)
@@ -68,18 +80,12 @@ module _ (res : ℕ) (t u : TankOf) (answer : Served) where
         → ShowsTank rs res u (write_deed h.one.deed.deed (unqueue answer.event f))
     fill_here rs f differ s =
         let o = h.one in
-        let d : Deed = o.deed.deed in
-        let b : ShowsTank rs res (tank_besides answer.event t) (unqueue answer.event f) = unqueued_shown rs res (Tank t) f answer.event s in
-        let others : All (Apart answer.event) (waiting_at_tank u) = others_differ answer.event (waiting_at_tank t) (waiting_at_tank u) differ fill_leaves in
+        let others = others_differ answer.event (waiting_at_tank t) (waiting_at_tank u) differ fill_leaves in
         let are = queues_are amount_event amount_event o.passed o.waiter o.behind t.puts u.puts t.gets u.gets answer.event o.stood o.stay
         (ap (λ (x : Served). x.event) o.told) (ap (λ (x : TankOf). x.gets) h.rest)
         (all_left (Apart answer.event) (map amount_event u.puts) (map amount_event u.gets) others)
         (all_right (Apart answer.event) (map amount_event u.puts) (map amount_event u.gets) others) in
-        record {
-          puts = ap (map amount_waiting) are.0 ∙ b.puts;
-          gets = ap (map amount_waiting) are.1 ∙ b.gets;
-          level = h.level ∙ ap (λ l. l +ℤ change_of_level res d) s.level ∙ sym (level_more (resource_at rs res).opening res d f.ledger);
-        }
+        tank_left rs res t u answer.event o.deed.deed f s are.0 are.1 h.level
 
   module _ (h : Drains res t answer u) where
     pub drain_leaves : IsLeaving answer.event (waiting_at_tank t) (waiting_at_tank u)
@@ -93,18 +99,12 @@ module _ (res : ℕ) (t u : TankOf) (answer : Served) where
         → ShowsTank rs res u (write_deed h.one.deed.deed (unqueue answer.event f))
     drain_here rs f differ s =
         let o = h.one in
-        let d : Deed = o.deed.deed in
-        let b : ShowsTank rs res (tank_besides answer.event t) (unqueue answer.event f) = unqueued_shown rs res (Tank t) f answer.event s in
-        let others : All (Apart answer.event) (waiting_at_tank u) = others_differ answer.event (waiting_at_tank t) (waiting_at_tank u) differ drain_leaves in
+        let others = others_differ answer.event (waiting_at_tank t) (waiting_at_tank u) differ drain_leaves in
         let are = queues_are amount_event amount_event o.passed o.waiter o.behind t.gets u.gets t.puts u.puts answer.event o.stood o.stay
         (ap (λ (x : Served). x.event) o.told) (ap (λ (x : TankOf). x.puts) h.rest)
         (all_right (Apart answer.event) (map amount_event u.puts) (map amount_event u.gets) others)
         (all_left (Apart answer.event) (map amount_event u.puts) (map amount_event u.gets) others) in
-        record {
-          puts = ap (map amount_waiting) are.1 ∙ b.puts;
-          gets = ap (map amount_waiting) are.0 ∙ b.gets;
-          level = h.level ∙ ap (λ l. l +ℤ change_of_level res d) s.level ∙ sym (level_more (resource_at rs res).opening res d f.ledger);
-        }
+        tank_left rs res t u answer.event o.deed.deed f s are.1 are.0 h.level
 
 -- a try of the puts or gets in its place
 module _ (a : SharedOf) (res : ℕ) (t : TankOf) (there : slice_get a.resources res ≡ Some (Tank t)) (f : Facilities) (shown : ShowsAll a f) where
@@ -161,6 +161,14 @@ put_event w = w.event
 abbrev get_event : WaitingGet → EventId
 get_event w = w.event
 
+-- a store is shown without the one that left, with the items that the deed left
+shelf_left : (rs : List Resource) (res : ℕ) (s u : ShelfOf) (e : EventId) (d : Deed) (f : Facilities) → ShowsShelf rs res s f
+    → u.puts ≡ besides put_event e s.puts → u.gets ≡ besides get_event e s.gets → u.items ≡ items res (f.ledger ++ d ∷ [])
+    → ShowsShelf rs res u (write_deed d (unqueue e f))
+shelf_left rs res s u e d f k puts gets left =
+    let b : ShowsShelf rs res (shelf_besides e s) (unqueue e f) = unqueued_shown rs res (Shelf s) f e k in
+    record { puts = ap (map (put_waiting res)) puts ∙ b.puts; gets = ap (map (get_waiting res)) gets ∙ b.gets; items = left }
+
 module _ (res : ℕ) (s u : ShelfOf) (answer : Served) where
   module _ (h : Deposits res s answer u) where
     pub deposit_leaves : IsLeaving answer.event (waiting_at_shelf s) (waiting_at_shelf u)
@@ -174,17 +182,14 @@ module _ (res : ℕ) (s u : ShelfOf) (answer : Served) where
         → ShowsShelf rs res u (write_deed (Deposited res (brought_by h.one.waiter)) (unqueue answer.event f))
     deposit_here rs f differ k =
         let o = h.one in
-        let b : ShowsShelf rs res (shelf_besides answer.event s) (unqueue answer.event f) = unqueued_shown rs res (Shelf s) f answer.event k in
-        let others : All (Apart answer.event) (waiting_at_shelf u) = others_differ answer.event (waiting_at_shelf s) (waiting_at_shelf u) differ deposit_leaves in
+        let x : Item = brought_by o.waiter in
+        let others = others_differ answer.event (waiting_at_shelf s) (waiting_at_shelf u) differ deposit_leaves in
         let are = queues_are put_event get_event o.passed o.waiter o.behind s.puts u.puts s.gets u.gets answer.event o.stood o.stay
-        (ap (λ (x : Served). x.event) o.told) (ap (λ (x : ShelfOf). x.gets) h.rest)
+        (ap (λ (y : Served). y.event) o.told) (ap (λ (y : ShelfOf). y.gets) h.rest)
         (all_left (Apart answer.event) (map put_event u.puts) (map get_event u.gets) others)
         (all_right (Apart answer.event) (map put_event u.puts) (map get_event u.gets) others) in
-        record {
-          puts = ap (map (put_waiting res)) are.0 ∙ b.puts;
-          gets = ap (map (get_waiting res)) are.1 ∙ b.gets;
-          items = h.items ∙ ap (λ xs. xs ++ brought_by o.waiter ∷ []) k.items ∙ sym (items_deposited res (brought_by o.waiter) f.ledger);
-        }
+        shelf_left rs res s u answer.event (Deposited res x) f k are.0 are.1
+        (h.items ∙ ap (λ xs. xs ++ x ∷ []) k.items ∙ sym (items_deposited res x f.ledger))
 
   module _ (h : HandsOut res s answer u) where
     pub hand_out_leaves : IsLeaving answer.event (waiting_at_shelf s) (waiting_at_shelf u)
@@ -198,17 +203,14 @@ module _ (res : ℕ) (s u : ShelfOf) (answer : Served) where
         → ShowsShelf rs res u (write_deed (Taken res h.item.put) (unqueue answer.event f))
     hand_out_here rs f differ once k =
         let o = h.one in
-        let b : ShowsShelf rs res (shelf_besides answer.event s) (unqueue answer.event f) = unqueued_shown rs res (Shelf s) f answer.event k in
-        let others : All (Apart answer.event) (waiting_at_shelf u) = others_differ answer.event (waiting_at_shelf s) (waiting_at_shelf u) differ hand_out_leaves in
+        let l = h.leaves in
+        let others = others_differ answer.event (waiting_at_shelf s) (waiting_at_shelf u) differ hand_out_leaves in
         let are = queues_are get_event put_event o.passed o.waiter o.behind s.gets u.gets s.puts u.puts answer.event o.stood o.stay
-        (ap (λ (x : Served). x.event) o.told) (ap (λ (x : ShelfOf). x.puts) h.rest)
+        (ap (λ (y : Served). y.event) o.told) (ap (λ (y : ShelfOf). y.puts) h.rest)
         (all_right (Apart answer.event) (map put_event u.puts) (map get_event u.gets) others)
         (all_left (Apart answer.event) (map put_event u.puts) (map get_event u.gets) others) in
-        record {
-          puts = ap (map (put_waiting res)) are.1 ∙ b.puts;
-          gets = ap (map (get_waiting res)) are.0 ∙ b.gets;
-          items = h.leaves.stay ∙ sym (taken_here res h.item h.leaves.before h.leaves.behind f.ledger once (sym k.items ∙ h.leaves.stood));
-        }
+        shelf_left rs res s u answer.event (Taken res h.item.put) f k are.1 are.0
+        (l.stay ∙ sym (taken_here res h.item l.before l.behind f.ledger once (sym k.items ∙ l.stood)))
 
 -- a try of the puts of a store is one attempt, and so is one of the gets, but at a filter store
 put_once : (k : ShelfKind) → goes_on_by (put_reach (store_kind k)) ≡ false

@@ -24,10 +24,11 @@ use Rattle.sim_shared_model.specs.declared.resource.SharedResource.{SharedResour
 use Rattle.sim_shared_model.specs.declared.resource.SharedResource.TheVariants.{Desk, Tank, Shelf}
 use Rattle.sim_shared_model.specs.Resources.{HasPlace, declared_as, waiting_at}
 use Rattle.sim_shared_model.specs.SharedOf.{SharedOf}
+use Rattle.sim_shared_model.specs.Places.{IsSoundShared}
 use Rattle.sim_shared_model.specs.ShowsAll.{ShowsAll, FollowsAll}
 use Rattle.sim_shared_model.specs.Serving.{TriesPut, TriesGet, puts_go_on, store_goes_on, gets_go_on, DoesPart, DoesPartOrAll, AreOpenAt, TriesAt, count_waiting, count_waiting_at}
 use Rattle.sim_shared_law.proofs.LeavingWaiters.{IsLeaving, one_fewer, others_differ, holds_of_others, held_of_one, all_stay_open}
-use Rattle.sim_shared_law.proofs.ResourcePlaces.{declared_at, got_set}
+use Rattle.sim_shared_law.proofs.ResourcePlaces.{declared_at, got_set, sound_set}
 use Rattle.sim_shared_law.proofs.ServedResources.{fill_leaves, drain_leaves, deposit_leaves, hand_out_leaves, fills_shown, drains_shown, deposits_shown, hands_out_shown, fills_none, drains_none, deposits_none, hands_out_none}
 use Rattle.sim_shared_law.proofs.TriedResources.{served_part}
 
@@ -46,7 +47,7 @@ get_leaves res answer (Desk d) (Desk e) h = absurd (none-some answer (sym h.0))
 get_leaves res answer _ _ h = absurd h
 
 -- it is of the kind and capacity that it was
-pub put_declared : (res : ℕ) (answer : Option Served) (x y : SharedResource) → TriesPut res answer x y → declared_as y ≡ declared_as x
+put_declared : (res : ℕ) (answer : Option Served) (x y : SharedResource) → TriesPut res answer x y → declared_as y ≡ declared_as x
 put_declared res None (Tank t) (Tank u) h = ap container_of h.1
 put_declared res (Some answer) (Tank t) (Tank u) h = ap container_of h.rest
 put_declared res None (Shelf s) (Shelf u) h = ap store_of h.1
@@ -54,7 +55,7 @@ put_declared res (Some answer) (Shelf s) (Shelf u) h = ap store_of h.rest
 put_declared res answer (Desk d) (Desk e) h = ap (λ k. declared_as (Desk k)) h.1
 put_declared res answer _ _ h = absurd h
 
-pub get_declared : (res : ℕ) (answer : Option Served) (x y : SharedResource) → TriesGet res answer x y → declared_as y ≡ declared_as x
+get_declared : (res : ℕ) (answer : Option Served) (x y : SharedResource) → TriesGet res answer x y → declared_as y ≡ declared_as x
 get_declared res None (Tank t) (Tank u) h = ap container_of h.1
 get_declared res (Some answer) (Tank t) (Tank u) h = ap container_of h.rest
 get_declared res None (Shelf s) (Shelf u) h = ap store_of h.1
@@ -63,7 +64,7 @@ get_declared res answer (Desk d) (Desk e) h = ap (λ k. declared_as (Desk k)) h.
 get_declared res answer _ _ h = absurd h
 
 -- and has its place to wait, if it had it
-pub put_place : (res : ℕ) (answer : Option Served) (x y : SharedResource) → TriesPut res answer x y → HasPlace x → HasPlace y
+put_place : (res : ℕ) (answer : Option Served) (x y : SharedResource) → TriesPut res answer x y → HasPlace x → HasPlace y
 put_place res None (Tank t) (Tank u) h place = subst (λ z. HasPlace (Tank z)) (sym h.1) place
 put_place res (Some answer) (Tank t) (Tank u) h place = subst (λ z. HasPlace (Tank z)) (sym h.rest) (omega (arith, place), place.1)
 put_place res None (Shelf s) (Shelf u) h place = subst (λ z. HasPlace (Shelf z)) (sym h.1) place
@@ -71,13 +72,22 @@ put_place res (Some answer) (Shelf s) (Shelf u) h place = subst (λ z. HasPlace 
 put_place res answer (Desk d) (Desk e) h place = subst (λ z. HasPlace (Desk z)) (sym h.1) place
 put_place res answer _ _ h place = absurd h
 
-pub get_place : (res : ℕ) (answer : Option Served) (x y : SharedResource) → TriesGet res answer x y → HasPlace x → HasPlace y
+get_place : (res : ℕ) (answer : Option Served) (x y : SharedResource) → TriesGet res answer x y → HasPlace x → HasPlace y
 get_place res None (Tank t) (Tank u) h place = subst (λ z. HasPlace (Tank z)) (sym h.1) place
 get_place res (Some answer) (Tank t) (Tank u) h place = subst (λ z. HasPlace (Tank z)) (sym h.rest) (place.0, omega (arith, place))
 get_place res None (Shelf s) (Shelf u) h place = subst (λ z. HasPlace (Shelf z)) (sym h.1) place
 get_place res (Some answer) (Shelf s) (Shelf u) h place = subst (λ z. HasPlace (Shelf z)) (sym h.rest) (omega (arith, place, h.room), omega (arith, place))
 get_place res answer (Desk d) (Desk e) h place = subst (λ z. HasPlace (Desk z)) (sym h.1) place
 get_place res answer _ _ h place = absurd h
+
+-- so what the type of the resources keeps, it keeps
+module _ (used : Option ℕ) (xs : List SharedResource) (rs : List Resource) (res : ℕ) (answer : Option Served) (x y : SharedResource)
+    (there : slice_get xs res ≡ Some x) (sound : IsSoundShared used xs rs) where
+  pub put_sound : TriesPut res answer x y → IsSoundShared used (slice_set xs res y) rs
+  put_sound h = sound_set used xs rs res x y there (put_declared res answer x y h) (put_place res answer x y h) sound
+
+  pub get_sound : TriesGet res answer x y → IsSoundShared used (slice_set xs res y) rs
+  get_sound h = sound_set used xs rs res x y there (get_declared res answer x y h) (get_place res answer x y h) sound
 
 -- ---- one was served
 

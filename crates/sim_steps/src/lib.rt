@@ -3,12 +3,17 @@
 #![tactic(auto)]
 
 mod calling;
+mod conditions;
 mod draw;
+mod dropping;
+mod events;
 mod making;
 mod opening;
-mod operations;
 mod parts;
 mod polling;
+mod processes;
+mod resources;
+mod waiting;
 
-pub use sim_steps_model::{Rest, Unit};
 pub use parts::Parts;
+pub use sim_steps_model::{Rest, Unit};

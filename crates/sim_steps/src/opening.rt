@@ -1,23 +1,22 @@
-ghost use Rattle.std.specs.Prelude.{◌≡◌, ◌+◌, ◌<◌, ◌≤◌, ◌^◌, pos, length, IfOk, OnOk, OnErr, IsTrue, None};
+ghost use Rattle.std.specs.Prelude.{◌≡◌, ◌+◌, ◌<◌, ◌≤◌, ◌^◌, pos, length, IfOk, OnOk, OnErr, IsTrue};
 ghost use Rattle.std.specs.List.{AllPass};
 ghost use Rattle.sim_types.specs.Setups.{resource_fits};
 ghost use Rattle.sim_machine.specs.Runs.{blank_state};
 ghost use Rattle.sim_machine.specs.Setups.{FitsCode, start_fits};
-ghost use Rattle.sim_procs.specs.RecordOf.{record_of};
 ghost use Rattle.sim_happen_model.specs.HappenOf.{held};
 ghost use Rattle.sim_steps_model.specs.Becoming.{AreAllKept};
 ghost use Rattle.sim_steps_model.specs.PartsOf.{KeepsButHappen, KeepsButRoom, plan_of};
 ghost use Rattle.sim_steps_model.specs.StandsFor.{StandsFor};
-ghost use Rattle.sim_steps_model.specs.Opening.{Begins, CanStop, IsOpening, Starts, SetsStop, next_process, KeepsButProcesses};
+ghost use Rattle.sim_steps_model.specs.Opening.{CanStop, IsOpening, Starts, SetsStop, KeepsButProcesses};
 
-use crate::making::{make_named, make_process, set_stop};
-use sim_steps_model::Mode;
+use crate::making::{make_named, set_stop};
 use crate::parts::Parts;
 use rand_core::SeedableRng;
 use rand_pcg::Pcg64;
 use sim_memo::Memo;
 use sim_procs::{Body, Procs};
 use sim_shared::Shared;
+use sim_steps_model::Mode;
 use sim_types::{Setup, Start};
 use std::alloc::{AllocError, Global};
 
@@ -46,31 +45,17 @@ impl<B: Body> Parts<B> {
             processed: 0,
             generator,
             processes,
+            ready: None,
             mode: Mode::Idle,
             code: Memo::of(code),
             setup: Memo::of(setup),
             seed: Memo::of(&seed),
+            alloc,
         })
     }
 
-    // Makes a process of a body that was filled. It is told its number, which is that of its event.
-    fn begin(&mut self, body: B)
-        requires events { 2 ≤ self.old.shared.happen.spare.events }
-        requires callbacks { 1 ≤ self.old.shared.happen.spare.callbacks }
-        requires record_room { 1 ≤ self.old.spare }
-        requires number { length self.old.shared.happen.events + 2 ≤ 2 ^ 62 }
-        requires at_start { self.old.shared.happen.time ≡ pos 0 }
-        requires not_alive { record_of (next_process self.old.shared.happen) self.old.live ≡ None }
-        ensures { Begins (B.body.numbered body (next_process self.old.shared.happen)) self.old self.new }
-    {
-        let (process, init) = make_process(self.shared.happen_mut());
-        let mut body = body;
-        body.own(process);
-        self.processes.add(process, body, init);
-    }
-
     /// Makes a process that runs from the start.
-    pub fn start(&mut self, alloc: Global, code: &B::Code, start: &Start) -> Result<(), AllocError>
+    pub fn start(&mut self, code: &B::Code, start: &Start) -> Result<(), AllocError>
         requires code { code.now ≡ self.old.code }
         requires setup { FitsCode (B.body.facts code.now) self.old.setup }
         requires fits { IsTrue (start_fits (B.body.facts code.now) start.now) }
@@ -82,10 +67,8 @@ impl<B: Body> Parts<B> {
         ensures opening { OnOk result (IsOpening self.new) }
     {
         self.shared.happen_mut().reserve(2, 1)?;
-        self.processes.reserve()?;
-        let mut body = B::blank(alloc, code)?;
-        body.fill(code, start.kind, start.args.copied());
-        self.begin(body);
+        self.reserve_process(code)?;
+        self.begin(code, start.kind, start.args.copied());
         Ok(())
     }
 
@@ -110,10 +93,12 @@ impl<B: Body> Parts<B> {
             processed: _,
             generator: _,
             processes,
+            ready: _,
             mode: _,
             code: _,
             setup: _,
             seed: _,
+            alloc: _,
         } = self;
         processes.abandon();
     }

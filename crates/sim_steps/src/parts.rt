@@ -1,21 +1,20 @@
-ghost use Rattle.std.specs.Prelude.{◌≡◌, ◌≢◌, ◌<◌, ◌≤◌, ◌^◌, [], length, OnOk};
-ghost use Rattle.std.specs.List.{AllPass};
+ghost use Rattle.std.specs.Prelude.{◌≡◌, ◌≢◌, ◌+◌, ◌<◌, ◌≤◌, ◌^◌, [], length, OnOk};
 ghost use Rattle.sim_machine.specs.Processes.{told_more, not_active};
-ghost use Rattle.sim_machine.specs.Standing.{left_of};
+ghost use Rattle.sim_machine.specs.Setups.{FitsCode};
 ghost use Rattle.sim_happen_model.specs.HappenOf.{held};
 ghost use Rattle.sim_steps_model.specs.Becoming.{AreAllKept, Moves};
-ghost use Rattle.sim_steps_model.specs.Built.{AsksForBuilt, is_built_callback};
+ghost use Rattle.sim_steps_model.specs.Built.{AsksForBuilt};
 ghost use Rattle.sim_steps_model.specs.Resting.{CanStep, rest_in};
 ghost use Rattle.sim_steps_model.specs.PartsOf.{HasUnitRoom, IsRunningIn, IsRunningAt, KeepsButRoom};
 ghost use Rattle.sim_steps_model.specs.StandsFor.{StandsForSome};
 
-use sim_steps_model::{Mode, Rest, Unit};
 use rand_pcg::Pcg64;
 use sim_memo::Memo;
 use sim_procs::{Body, Procs};
 use sim_shared::Shared;
+use sim_steps_model::{Mode, Rest, Unit};
 use sim_types::{EventId, ProcId, Setup, Signal};
-use std::alloc::AllocError;
+use std::alloc::{AllocError, Global};
 use std::marker::Model;
 
 /// Time, what happens in it and the resources, the live processes and the numbers of a kernel, and what it was opened with.
@@ -24,14 +23,17 @@ pub struct Parts<B: Body> {
     pub(crate) processed: u64,
     pub(crate) generator: Pcg64,
     pub(crate) processes: Procs<B>,
+    /// The body of the process that is made next, yet to be filled.
+    pub(crate) ready: Option<B>,
     pub(crate) mode: Mode,
     pub(crate) code: Memo<B::Code>,
     pub(crate) setup: Memo<Setup>,
     pub(crate) seed: Memo<u64>,
+    pub(crate) alloc: Global,
 }
 
 impl<B: Body> Model for Parts<B> {
-    ghost use Rattle.sim_steps_model.specs.PartsOf.{PartsOf, control_of, AreSoundParts};
+    ghost use Rattle.sim_steps_model.specs.PartsOf.{PartsOf, control_of, room_with, AreSoundParts};
 
     ghost Value = { PartsOf B B.Code };
 
@@ -44,7 +46,7 @@ impl<B: Body> Model for Parts<B> {
       code = a.code.value;
       setup = a.setup.value;
       seed = a.seed.value;
-      spare = a.processes.spare;
+      spare = room_with a.ready a.processes.spare;
     } };
 
     ghost invariant = { λ a. AreSoundParts a.mode a.shared a.setup.value };
@@ -52,11 +54,12 @@ impl<B: Body> Model for Parts<B> {
 
 impl<B: Body> Parts<B> {
     /// Makes room for all that one unit takes.
-    pub fn reserve(&mut self) -> Result<(), AllocError>
+    pub fn reserve(&mut self, code: &B::Code) -> Result<(), AllocError>
         ensures kept { KeepsButRoom self.old self.new }
         ensures room { OnOk result (HasUnitRoom self.new) }
     {
-        self.shared.reserve()
+        self.shared.reserve()?;
+        self.reserve_process(code)
     }
 
     /// The running process goes on, and is told this.
@@ -107,10 +110,10 @@ impl<B: Body> Parts<B> {
         requires stands { StandsForSome B.body self.old }
         requires can { CanStep self.old }
         requires asks { AsksForBuilt B.body code.now }
-        requires built { AllPass is_built_callback (left_of self.old.control) }
+        requires fits { FitsCode (B.body.facts code.now) self.old.setup }
         requires room { HasUnitRoom self.old }
         requires kept { AreAllKept (2 ^ 40) (held self.old.shared.happen) }
-        requires events { length self.old.shared.happen.events < 2 ^ 62 }
+        requires events { length self.old.shared.happen.events + 40 ≤ 2 ^ 62 }
         requires processed { self.old.processed < 2 ^ 62 }
         ensures moves { Moves B.body self.old result self.new }
     {

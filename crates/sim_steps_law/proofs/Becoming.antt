@@ -1,8 +1,9 @@
 -- What the parts of a kernel become is lifted to the states that it stands for, one lemma for each part.
-use Rattle.std.proofs.Common.{◌≡◌, ℕ, ◌+◌, ◌≤◌, List, Option, length, refl, sym, ap, subst, ◌∙◌, map, add-one, arith, if◌then◌else◌}
+use Rattle.std.proofs.Common.{◌≡◌, ℕ, ◌+◌, ◌≤◌, List, Option, length, refl, ap, subst, ◌∙◌, map, add-one, arith, true, if◌then◌else◌}
 use Rattle.std.proofs.lemmas.List.{length-map}
 use Rattle.std.specs.List.Sorted.{IsPermutation}
 use Rattle.std.proofs.lemmas.List.Sorted.{IsPermutation-map}
+use Rattle.std.proofs.lemmas.List.Elements.{All-weaker}
 use Rattle.rand_pcg.specs.Pcg.{pcg64}
 use Rattle.sim_types.specs.declared.event.ProcId.{ProcId}
 use Rattle.sim_types.specs.declared.event.Signal.{Signal}
@@ -11,7 +12,11 @@ use Rattle.sim_machine.specs.State.{Calendar, Facilities, ProcessOf, Control, St
 use Rattle.sim_machine.specs.Events.{is_process}
 use Rattle.sim_machine.specs.Trying.{on_calendar}
 use Rattle.sim_machine.specs.Scopes.{on_facilities, on_events}
-use Rattle.sim_machine.specs.Processes.{change_process, told_more, not_active, tell, rest, write_line}
+use Rattle.sim_machine.specs.Bodies.{BodyOf}
+use Rattle.sim_machine.specs.LawfulWaiting.{is_scope_well}
+use Rattle.sim_machine.specs.Processes.{is_alive, change_process, told_more, not_active, tell, rest, write_line}
+use Rattle.sim_machine_law.proofs.KeptWaiting.{scope_alive}
+use Rattle.sim_machine_law.proofs.KeptWaitingPolls.{alive_changed}
 use Rattle.sim_procs.specs.RecordOf.{RecordOf, change_record}
 use Rattle.sim_happen_model.specs.HappenOf.{HappenOf, held, as_before, unheld_event}
 use Rattle.sim_happen_model.specs.Shows.{Shows, Turns, Follows}
@@ -21,13 +26,24 @@ use Rattle.sim_shared_model.specs.ShowsAll.{ShowsAll, TurnsAll, FollowsAll}
 use Rattle.sim_shared_model.specs.Making.{MakesAll, unheld_events}
 use Rattle.sim_shared_law.proofs.FollowingFacilities.{shown_later, tidy_later}
 use Rattle.sim_steps_model.specs.PartsOf.{PartsOf, IsOpenedAs, with_happen}
-use Rattle.sim_steps_model.specs.StandsFor.{StandsFor, process_of, scopes_of}
+use Rattle.sim_steps_model.specs.StandsFor.{StandsFor, LawfulOf, process_of, scopes_of}
 use Rattle.sim_steps_model.specs.Becoming.{Stands, Becomes, BecomesWith}
 use Rattle.sim_steps_law.proofs.Keeping.{AddsHolders, adds_none, adds_unheld, keeps_by, keeps_more, keeps_same, keeps_then}
 use Rattle.sim_steps_law.proofs.Records.{changed_mapped, changed_scopes, changed_distinct}
 
 pub opened_then : {B Code : Type 0} (a b c : PartsOf B Code) → IsOpenedAs a b → IsOpenedAs b c → IsOpenedAs a c
 opened_then a b c h k = record { code = k.code ∙ h.code; setup = k.setup ∙ h.setup; seed = k.seed ∙ h.seed }
+
+-- ---- from a lawful state
+
+pub lawful_stands : {B Code : Type 0} (body : BodyOf B Code) (a : PartsOf B Code) (s : State B) → LawfulOf body a s → StandsFor a s → Stands a s
+lawful_stands body a s h st =
+    record {
+      stands = st;
+      distinct = h.processes.distinct;
+      owned = All-weaker (λ x. is_scope_well a.setup.resources s x ≡ true) (λ x. is_alive x.process s ≡ true) (λ x well. scope_alive a.setup.resources s x well) s.scopes h.waiting.scopes;
+      apart = h.waiting.apart;
+    }
 
 -- ---- one change after another
 
@@ -68,7 +84,7 @@ pub becomes_turned_all : {B Code : Type 0} (more : ℕ) (change : Facilities →
     (x : SharedOf) → AddsHolders more holds → TurnsAll change holds a.shared x → BecomesWith more (on_facilities change) a (record a { shared = x })
 becomes_turned_all more change holds a x adds t =
     record {
-      each = λ s h. record { stands = stands_on_facilities change a x s (t.each s.facilities) h.stands; distinct = h.distinct };
+      each = λ s h. record { stands = stands_on_facilities change a x s (t.each s.facilities) h.stands; distinct = h.distinct; owned = h.owned; apart = h.apart };
       opened = record { code = refl; setup = refl; seed = refl };
       kept = keeps_by more holds a (record a { shared = x }) adds t.held;
     }
@@ -139,7 +155,7 @@ pub becomes_controlled : {B Code : Type 0} (f : Control → Control) (a : PartsO
     Becomes (λ s. record s { control = f s.control }) a (record a { control = f a.control })
 becomes_controlled f a =
     record {
-      each = λ s h. record { stands = stands_controlled a s (f a.control) (f s.control) (ap f h.stands.control) h.stands; distinct = h.distinct };
+      each = λ s h. record { stands = stands_controlled a s (f a.control) (f s.control) (ap f h.stands.control) h.stands; distinct = h.distinct; owned = h.owned; apart = h.apart };
       opened = record { code = refl; setup = refl; seed = refl };
       kept = keeps_same a (record a { control = f a.control }) refl;
     }
@@ -165,6 +181,8 @@ becomes_written line a =
           control = h.stands.control;
         };
         distinct = h.distinct;
+        owned = h.owned;
+        apart = h.apart;
       };
       opened = record { code = refl; setup = refl; seed = refl };
       kept = keeps_same a a refl;
@@ -186,6 +204,8 @@ becomes_drawn a =
           control = h.stands.control;
         };
         distinct = h.distinct;
+        owned = h.owned;
+        apart = h.apart;
       };
       opened = record { code = refl; setup = refl; seed = refl };
       kept = keeps_same a (record a { generator = (pcg64 a.generator).1 }) refl;
@@ -211,6 +231,8 @@ becomes_changed {B} p change changes a same ids scopes keeps =
               control = h.stands.control;
             };
             distinct = changed_distinct p changes s keeps h.distinct;
+            owned = All-weaker (λ x. is_alive x.process s ≡ true) (λ x. is_alive x.process (change_process p changes s) ≡ true) (λ x lives. alive_changed p x.process changes s keeps ∙ lives) s.scopes h.owned;
+            apart = h.apart;
           };
       opened = record { code = refl; setup = refl; seed = refl };
       kept = keeps_same a (record a { live = change_record p change a.live }) refl;

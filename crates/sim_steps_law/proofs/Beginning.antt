@@ -1,5 +1,5 @@
 -- A process that the code makes is the one that the machine makes.
-use Rattle.std.proofs.Common.{◌≡◌, ℕ, ◌+◌, ◌<◌, ◌≤◌, List, [], ◌∷◌, ◌++◌, length, refl, sym, ap, subst, ◌∙◌, map, arith}
+use Rattle.std.proofs.Common.{◌≡◌, ℕ, ℤ, ◌+◌, ◌<◌, ◌≤◌, List, [], ◌∷◌, ◌++◌, length, refl, sym, ap, subst, ◌∙◌, map, arith}
 use Rattle.std.specs.Prelude.{All}
 use Rattle.std.specs.List.Sorted.{IsPermutation}
 use Rattle.std.proofs.lemmas.List.Elements.{All-cons, All-weaker}
@@ -10,6 +10,7 @@ use Rattle.sim_types.specs.declared.setup.Start.{Start}
 use Rattle.sim_machine.specs.State.{Calendar, ProcessOf, State, Plan}
 use Rattle.sim_machine.specs.Events.{next_event}
 use Rattle.sim_machine.specs.Triggering.{make}
+use Rattle.sim_machine.specs.Processes.{make_process}
 use Rattle.sim_machine.specs.Runs.{start_process}
 use Rattle.sim_machine.specs.Bodies.{BodyOf, start_of}
 use Rattle.sim_machine_law.proofs.EventLaws.{same_event, make-length}
@@ -40,7 +41,7 @@ processes_joined x ps r old new is h k =
     (IsPermutation-trans (process_of r ∷ ps) (process_of r ∷ map process_of old) (map process_of new) (IsPermutation-cons (process_of r) ps (map process_of old) h) (IsPermutation-map process_of (r ∷ old) new k)))
 
 -- the numbers that are next are those of the machine
-next_processes : (h : HappenOf) (c : Calendar) → Shows h c → next_process h ≡ record { 0 = (next_event c).0 }
+pub next_processes : (h : HappenOf) (c : Calendar) → Shows h c → next_process h ≡ record { 0 = (next_event c).0 }
 next_processes h c s = ap (λ (n : ℕ). let p : ProcId = record { 0 = n } in p) s.made
 
 next_inits : (h : HappenOf) (c : Calendar) → Shows h c → next_init h ≡ next_event (make kind.Process c)
@@ -50,20 +51,20 @@ next_inits h c s = same_event (next_init h) (next_event (make kind.Process c)) (
 two_more : (a x : HappenOf) → MakesProcess a x → length a.events ≤ length x.events
 two_more a x t = no_fewer 0 (unheld_events 2) a x (adds_unheld 2) t.held
 
--- a kernel in which the process begins stands for the state in which the process is made
-begun_stands : {B Code : Type 0} (body : BodyOf B Code) (old new : PartsOf B Code) (x : Start) (s : State B) →
-    Begins (start_of body old.code x.kind x.args (next_process old.shared.happen)) old new → s.scopes ≡ [] → StandsFor old s →
-    StandsFor new (start_process (plan_of body old) s x)
-begun_stands {B} {Code} body old new x s b none st =
+-- a kernel in which the process begins stands for the state in which the process is made, where no scope is open for it yet
+pub begun_stands : {B Code : Type 0} (body : BodyOf B Code) (old new : PartsOf B Code) (k : ℕ) (args : List ℤ) (s : State B) →
+    Begins (start_of body old.code k args (next_process old.shared.happen)) old new → scopes_of (next_process old.shared.happen) s ≡ [] →
+    StandsFor old s → StandsFor new (make_process (plan_of body old) k args s)
+begun_stands {B} {Code} body old new k args s b none st =
     let g : Plan B = plan_of body old in
     let c : Calendar = s.facilities.calendar in
-    let begun : ProcId → B = λ p. start_of body old.code x.kind x.args p in
+    let begun : ProcId → B = λ p. start_of body old.code k args p in
     let r : RecordOf B = begun_record (next_process old.shared.happen) (begun (next_process old.shared.happen)) (next_init old.shared.happen) in
-    let t : State B = start_process g s x in
+    let t : State B = make_process g k args s in
     let p : ProcId = record { 0 = (next_event c).0 } in
     let y : ProcessOf B = record { id = p; body = begun p; target = next_event (make kind.Process c) } in
     let is : y ≡ process_of r = rw (next_processes old.shared.happen c st.facilities.calendar, next_inits old.shared.happen c st.facilities.calendar) refl in
-    let no_scopes : [] ≡ scopes_of r.id t = rw none refl in
+    let no_scopes : [] ≡ scopes_of r.id t = sym none in
     record {
       facilities = subst (λ (k : SharedOf). ShowsAll k t.facilities) (sym (ap (λ (n : PartsOf B Code). n.shared) b.others))
           (shown_with old.shared new.shared.happen s.facilities t.facilities.calendar (two_more old.shared.happen new.shared.happen b.happen) (b.happen.each c st.facilities.calendar) st.facilities);
@@ -74,17 +75,14 @@ begun_stands {B} {Code} body old new x s b none st =
       control = ap (λ (n : PartsOf B Code). n.control) b.others ∙ st.control;
     }
 
--- so it is where room was made before, and the body has begun
-pub begun_starts : {B Code : Type 0} (body : BodyOf B Code) (old mid new : PartsOf B Code) (x : Start) (b : B) → KeepsButRoom old mid →
-    b ≡ body.begun old.code x.kind x.args → Begins (body.numbered b (next_process mid.shared.happen)) mid new → Starts body x old new
-begun_starts {B} {Code} body old mid new x b room is h =
-    let P = λ (d : B). Begins (body.numbered d (next_process mid.shared.happen)) mid new in
-    let code : old.code ≡ mid.code = sym (ap (λ (k : PartsOf B Code). k.code) room.others) in
-    let begins : P (body.begun mid.code x.kind x.args) = subst P (is ∙ ap (λ (k : Code). body.begun k x.kind x.args) code) h in
+-- so it is where room was made before
+pub begun_starts : {B Code : Type 0} (body : BodyOf B Code) (old mid new : PartsOf B Code) (x : Start) → KeepsButRoom old mid →
+    Begins (start_of body mid.code x.kind x.args (next_process mid.shared.happen)) mid new → Starts body x old new
+begun_starts {B} {Code} body old mid new x room begins =
     let plan : plan_of body mid ≡ plan_of body old = rw room.others refl in
     record {
       each = λ s none st.
-          subst (λ (g : Plan B). StandsFor new (start_process g s x)) plan (begun_stands body mid new x s begins none (roomier_stands old mid s room st))
+          subst (λ (g : Plan B). StandsFor new (start_process g s x)) plan (begun_stands body mid new x.kind x.args s begins (rw none refl) (roomier_stands old mid s room st));
     }
 
 -- ---- only processes that run from the start were made

@@ -1,7 +1,8 @@
 -- A process that ends is no longer alive, and its event has its outcome, as the machine has it.
-use Rattle.std.proofs.Common.{◌≡◌, ◌≢◌, ℕ, ◌<◌, ◌^◌, Bool, true, false, List, [], ◌∷◌, length, refl, sym, ap, subst, ◌∙◌, suc, cond, arith, map, filter, Option, Some, None, inl, inr, if◌then◌else◌}
-use Rattle.std.specs.Prelude.{AllPairs, not, ◌==◌, ◌&&◌, ◌||◌, is_none, IsSome, IsSomeAnd}
+use Rattle.std.proofs.Common.{◌≡◌, ◌≢◌, ℕ, ◌<◌, ◌^◌, Bool, true, false, List, [], ◌∷◌, length, get_or, refl, sym, ap, subst, ◌∙◌, suc, cond, arith, map, filter, Option, Some, None, inl, inr, if◌then◌else◌}
+use Rattle.std.specs.Prelude.{All, AllPairs, not, ◌==◌, ◌&&◌, ◌||◌, is_none, IsSome, IsSomeAnd}
 use Rattle.std.specs.Option.{option_map}
+use Rattle.std.specs.List.{list_any}
 use Rattle.std.specs.List.Sorted.{IsPermutation}
 use Rattle.std.proofs.lemmas.Bool.{eqb-true, false≢true, cases_Bool, and_parts}
 use Rattle.std.proofs.lemmas.List.Elements.{All-tail}
@@ -11,6 +12,7 @@ use Rattle.sim_types.specs.declared.event.EventId.{EventId}
 use Rattle.sim_types.specs.declared.event.EventKind.{EventKind}
 use Rattle.sim_types.specs.declared.event.EventKind.TheVariants as kind
 use Rattle.sim_types.specs.declared.event.ProcId.{ProcId}
+use Rattle.sim_types.specs.declared.event.Scope.{Scope}
 use Rattle.sim_types.specs.declared.event.Outcome.{Outcome}
 use Rattle.sim_types.specs.declared.event.Signal.{Signal}
 use Rattle.sim_types.specs.declared.op.Op.{Op}
@@ -18,7 +20,7 @@ use Rattle.sim_types.proofs.Permutations.{Differ, IsPermutation-without}
 use Rattle.sim_machine.specs.State.{EventOf, Calendar, State}
 use Rattle.sim_machine.specs.Events.{is_process, event_at}
 use Rattle.sim_machine.specs.Triggering.{trigger}
-use Rattle.sim_machine.specs.Processes.{event_of, process_at, not_active, rest, end_process}
+use Rattle.sim_machine.specs.Processes.{event_of, is_alive, process_at, not_active, rest, end_process}
 use Rattle.sim_machine.specs.Tellings.{Place, CodeFacts}
 use Rattle.sim_machine.specs.MayAsk.{may_ask}
 use Rattle.sim_machine.specs.Bodies.{BodyOf}
@@ -28,7 +30,7 @@ use Rattle.sim_machine.specs.LawfulWaiting.{requests_of, is_cancelled_well, may_
 use Rattle.sim_machine_law.proofs.LawfulBasis.{basis_of}
 use Rattle.sim_machine_law.proofs.KeptBodies.{find_has, find_passes}
 use Rattle.sim_machine_law.proofs.KeptTimes.{found_pending}
-use Rattle.sim_machine_law.proofs.KeptWaitingPolls.{own_scopes}
+use Rattle.sim_machine_law.proofs.KeptWaitingPolls.{own_scopes, none_passes, alive_without}
 use Rattle.sim_machine_law.proofs.KeptProcessesParts.{is_process-self, is_process-yes}
 use Rattle.sim_procs.specs.RecordOf.{RecordOf, record_of, change_record}
 use Rattle.sim_happen_model.specs.HappenOf.{HappenOf, IsOpen, as_before, held}
@@ -45,20 +47,34 @@ use Rattle.sim_steps_law.proofs.Running.{KeepsLaw, process_found, running_can_be
 
 -- ---- what becomes of the process
 
-same_id : (p q : ProcId) → p.0 ≡ q.0 → p ≡ q
+pub same_id : (p q : ProcId) → p.0 ≡ q.0 → p ≡ q
 same_id p q h = ap (λ (n : ℕ). let r : ProcId = record { 0 = n } in r) h
 
-differ : {B : Type 0} (s : State B) → AllPairs (λ x y. x.id ≢ y.id) s.processes → AllPairs (Differ (λ y. y.id.0)) s.processes
+pub differ : {B : Type 0} (s : State B) → AllPairs (λ x y. x.id ≢ y.id) s.processes → AllPairs (Differ (λ y. y.id.0)) s.processes
 differ s h = λ i j d before below. λ same. h i j d before below (same_id _ _ same)
 
 -- the record found is of this process
-found_id : {B : Type 0} (p : ProcId) (live : List (RecordOf B)) (r : RecordOf B) → record_of p live ≡ Some r → r.id.0 ≡ p.0
+pub found_id : {B : Type 0} (p : ProcId) (live : List (RecordOf B)) (r : RecordOf B) → record_of p live ≡ Some r → r.id.0 ≡ p.0
 found_id p live r h = eqb-true r.id.0 p.0 (find_passes (λ x. x.id.0 == p.0) live r h)
 
+-- the scopes of a process are those of its record
+pub scopes_found : {B : Type 0} (p : ProcId) (live : List (RecordOf B)) (r : RecordOf B) (s : State B) → record_of p live ≡ Some r →
+    All (λ x. x.scopes ≡ scopes_of x.id s) live → scopes_of p s ≡ r.scopes
+scopes_found p live r s found all =
+    let told : r.scopes ≡ scopes_of r.id s = find_has (λ x. x.scopes ≡ scopes_of x.id s) (λ x. x.id.0 == p.0) live r found all in
+    ap (λ q. scopes_of q s) (sym (same_id r.id p (found_id p live r found))) ∙ sym told
+
+-- where p has no open scope, those that are open are of processes that stay alive when p ends
+still_owned : {B : Type 0} (s : State B) (p : ProcId) → All (λ x. is_alive x.process s ≡ true) s.scopes → scopes_of p s ≡ [] →
+    All (λ x. list_any (λ z. is_process z.id x.process) (filter (λ z. not (is_process z.id p)) s.processes) ≡ true) s.scopes
+still_owned s p owned none =
+    let others : All (λ x. is_process x.process p ≡ false) s.scopes = none_passes (λ x. is_process x.process p) (λ x. let y : Scope = record { request = x.request; res = x.res } in y) s.scopes none in
+    λ k d below. alive_without p (get_or s.scopes k d).process s (others k d below) (owned k d below)
+
 pub ended_becomes : {B Code : Type 0} (a n : PartsOf B Code) (x : HappenOf) (p : ProcId) (o : Outcome) (r : RecordOf B) (live : List (RecordOf B))
-    (spare : ℕ) → record_of p a.live ≡ Some r → IsPermutation a.live (r ∷ live) → Follows (trigger (event_of p) o) a.shared.happen x →
+    (spare : ℕ) → record_of p a.live ≡ Some r → r.scopes ≡ [] → IsPermutation a.live (r ∷ live) → Follows (trigger (event_of p) o) a.shared.happen x →
     n ≡ record (with_happen x a) { live = live; control = not_active a.control; spare = spare } → Becomes (λ s. rest (end_process p o s)) a n
-ended_becomes {B} a n x p o r live spare found others follows is =
+ended_becomes {B} a n x p o r live spare found none others follows is =
     rw is (record {
       each = λ s h.
           let id : r.id.0 ≡ p.0 = found_id p a.live r found in
@@ -76,6 +92,8 @@ ended_becomes {B} a n x p o r live spare found others follows is =
               control = ap not_active h.stands.control;
             };
             distinct = AllPairs-filter (λ y z. y.id ≢ z.id) (λ y. not (is_process y.id p)) s.processes h.distinct;
+            owned = still_owned s p h.owned (scopes_found p a.live r s found h.stands.scopes ∙ none);
+            apart = h.apart;
           };
       opened = record { code = refl; setup = refl; seed = refl };
       kept = keeps_same a (record (with_happen x a) { live = live; control = not_active a.control; spare = spare }) follows.held;
@@ -126,7 +144,7 @@ AsksWithNoScope facts asked =
 
 module _ {B Code : Type 0} (body : BodyOf B Code) (old mid : PartsOf B Code) (p : ProcId) (told : Signal) (asked : Op) where
   -- the record of the process that was polled
-  record_polled : (a : Asks body p told old asked mid) →
+  pub record_polled : (a : Asks body p told old asked mid) →
       (r : RecordOf B) × (record_of p old.live ≡ Some r) × (r.body ≡ a.before) × (record_of p mid.live ≡ Some (record r { body = a.later }))
   record_polled a =
       let change : RecordOf B → RecordOf B = λ x. record x { body = a.later } in

@@ -1,15 +1,17 @@
 -- Every event that was made stays kept.
-use Rattle.std.proofs.Common.{◌≡◌, ℕ, ◌+◌, ◌<◌, ◌≤◌, ◌^◌, zero, suc, map, List, [], ◌∷◌, length, refl, sym, subst, arith, Option, Some, None}
-use Rattle.std.specs.Prelude.{slice_index_or, slice_set, All, IsSomeAnd, IsSome}
+use Rattle.std.proofs.Common.{◌≡◌, ℕ, ◌+◌, ◌<◌, ◌≤◌, ◌^◌, zero, suc, Bool, true, false, map, List, [], ◌∷◌, length, refl, sym, subst, arith, Option, Some, None}
+use Rattle.std.specs.Prelude.{◌==◌, slice_index_or, slice_set, All, IsSomeAnd, IsSome}
 use Rattle.std.specs.Option.{option_map}
-use Rattle.std.proofs.lemmas.List.{length-map, length-append, length-set}
-use Rattle.std.proofs.lemmas.List.Elements.{All-cons, All-head, All-tail, All-nil, All-append, All-weaker}
+use Rattle.std.proofs.lemmas.Bool.Decides.{nat_tests}
+use Rattle.std.proofs.lemmas.List.{length-map, length-append, length-set, get_or-set_same}
+use Rattle.std.proofs.lemmas.List.Elements.{All-cons, All-head, All-tail, All-nil, All-append, All-set, All-weaker}
 use Rattle.std.proofs.Math.ListN.{get_or-map}
 use Rattle.sim_types.specs.declared.event.EventId.{EventId}
 use Rattle.sim_events.specs.TableOf.{Kept, IsKept, kept_at}
-use Rattle.sim_happen_model.specs.HappenOf.{HappenOf, AreHeldByFew, held, as_before, unheld_event, one_more}
+use Rattle.sim_happen_model.specs.HappenOf.{HappenOf, AreHeldByFew, held, as_before, unheld_event, one_more, none_if_unheld, gone_if_unheld}
 use Rattle.sim_happen_law.proofs.Held.{holders_at}
 use Rattle.sim_shared_model.specs.Making.{unheld_events}
+use Rattle.sim_shared_model.specs.Waiting.{gone_if_waits}
 use Rattle.sim_steps_model.specs.PartsOf.{PartsOf}
 use Rattle.sim_steps_model.specs.Becoming.{AreAllKept, KeepsAll, most_held}
 
@@ -47,6 +49,21 @@ more_at most (x ∷ hs) (suc i) h =
 pub all_kept_held : (most : ℕ) (e : EventId) (hs : List (Option ℕ)) → AreAllKept most hs → AreAllKept (most + 1) (one_more e hs)
 all_kept_held most e hs h = record { each = more_at most hs e.0 h.each }
 
+-- a holder more keeps an event that would go, and then one is made that nobody holds
+unheld_more : (most : ℕ) (x : Option ℕ) → AtMost most x → AtMost (most + 1) (none_if_unheld (option_map (λ n. n + 1) x))
+unheld_more most None h = absurd h
+unheld_more most (Some n) h = let some : (n + 1 == 0) ≡ false = grind (arith, nat_tests) in rw some (omega (arith, h))
+
+pub all_kept_left : (most : ℕ) (e : EventId) (waited : Bool) (hs : List (Option ℕ)) → e.0 < length hs → AreAllKept most hs →
+    AreAllKept (most + 1) (unheld_event (gone_if_waits waited e (one_more e hs)))
+all_kept_left most e false hs below h = all_kept_made (most + 1) (one_more e hs) (all_kept_held most e hs h)
+all_kept_left most e true hs below h =
+    let x : Option ℕ = slice_index_or hs e.0 None in
+    let here : AtMost (most + 1) (none_if_unheld (slice_index_or (one_more e hs) e.0 None)) =
+    subst (λ (y : Option ℕ). AtMost (most + 1) (none_if_unheld y)) (sym (get_or-set_same hs e.0 (option_map (λ n. n + 1) x) None below)) (unheld_more most x (h.each e.0 None below)) in
+    all_kept_made (most + 1) (gone_if_unheld e (one_more e hs))
+    (record { each = All-set (AtMost (most + 1)) (one_more e hs) e.0 (none_if_unheld (slice_index_or (one_more e hs) e.0 None)) here (all_kept_held most e hs h).each })
+
 -- ---- what is known of an event then
 
 some_held : (most : ℕ) (o : Option Kept) → AtMost most (holders_at o) → IsSome o
@@ -76,6 +93,9 @@ unmapped most (o ∷ es) h =
 
 pub are_few : (h : HappenOf) → AreAllKept (2 ^ 40) (held h) → AreHeldByFew h.events
 are_few h all e = omega (arith, few_of (2 ^ 40) h.events e.0 (unmapped (2 ^ 40) h.events all.each))
+
+pub held_by_few : (most : ℕ) (h : HappenOf) → most < 2 ^ 60 → AreAllKept most (held h) → AreHeldByFew h.events
+held_by_few most h few all e = omega (arith, few, few_of most h.events e.0 (unmapped most h.events all.each))
 
 -- ---- what becomes of the holders
 
@@ -108,6 +128,11 @@ adds_then m n p q h k =
       longer = λ hs. omega (arith, h.longer hs, k.longer (p hs));
       kept = λ most hs all. all_kept_weaker (most + m + n) (most + (m + n)) (q (p hs)) (omega arith) (k.kept (most + m) (p hs) (h.kept most hs all));
     }
+
+-- so many holders more, or fewer than so many
+pub adds_more : (m n : ℕ) (p : List (Option ℕ) → List (Option ℕ)) → m ≤ n → AddsHolders m p → AddsHolders n p
+adds_more m n p few h =
+    record { longer = h.longer; kept = λ most hs all. all_kept_weaker (most + m) (most + n) (p hs) (omega (arith, few)) (h.kept most hs all) }
 
 -- ---- from kernel to kernel
 

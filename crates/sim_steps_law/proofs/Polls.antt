@@ -1,12 +1,11 @@
 -- What a polled process asks for is done as the machine does it.
-use Rattle.std.proofs.Common.{◌≡◌, ◌+◌, ◌≤◌, arith, ℕ, ℤ, false, List, [], ◌∷◌, ◌++◌, refl, sym, ap, subst, ◌∙◌, Option, Some, None}
-use Rattle.std.specs.Prelude.{IsTrue, int_lt}
+use Rattle.std.proofs.Common.{◌≡◌, ◌+◌, ◌≤◌, arith, ℕ, ℤ, true, false, List, ◌++◌, refl, sym, ap, subst, ◌∙◌, Option, Some, None}
+use Rattle.std.specs.Prelude.{int_lt}
 use Rattle.std.specs.Option.{option_map}
-use Rattle.std.proofs.lemmas.Bool.{false≢true}
 use Rattle.std.proofs.lemmas.Option.{none-some, same_Some}
-use Rattle.std.proofs.lemmas.List.{append-nil}
 use Rattle.rand_pcg.specs.Lcg.{Lcg}
 use Rattle.rand_pcg.specs.Pcg.{pcg64}
+use Rattle.sim_types.specs.Throws.{empty_range}
 use Rattle.sim_types.specs.declared.event.EventId.{EventId}
 use Rattle.sim_types.specs.declared.event.ProcId.{ProcId}
 use Rattle.sim_types.specs.declared.event.Callback.{Callback}
@@ -14,13 +13,9 @@ use Rattle.sim_types.specs.declared.event.Signal.{Signal}
 use Rattle.sim_types.specs.declared.event.Signal.TheVariants as signal
 use Rattle.sim_types.specs.declared.op.Op.{Op}
 use Rattle.sim_types.specs.declared.op.Op.TheVariants as op
-use Rattle.sim_types.specs.declared.line.Line.{Line}
 use Rattle.sim_types.specs.declared.line.Line.TheVariants as line
 use Rattle.sim_machine.specs.State.{Control, Idle, Calling, Active, Over, State, Plan}
-use Rattle.sim_machine.specs.Triggering.{make_timeout}
-use Rattle.sim_machine.specs.Scopes.{on_events}
-use Rattle.sim_machine.specs.Events.{next_event}
-use Rattle.sim_machine.specs.Processes.{with_body, wait, told_more, tell, write_line}
+use Rattle.sim_machine.specs.Processes.{with_body, told_more, tell, write_line}
 use Rattle.sim_machine.specs.Effect.{calendar, draw, drawn_number, effect}
 use Rattle.sim_machine.specs.Bodies.{BodyOf}
 use Rattle.sim_machine.specs.Steps.{polled}
@@ -34,7 +29,7 @@ use Rattle.sim_steps_model.specs.Becoming.{Becomes, BecomesWith, Moves, most_hel
 use Rattle.sim_steps_model.specs.Polling.{Asks}
 use Rattle.sim_steps_law.proofs.Keeping.{keeps_more}
 use Rattle.sim_steps_law.proofs.Calls.{at_control}
-use Rattle.sim_steps_law.proofs.Becoming.{becomes_then, becomes_as, becomes_changed, becomes_drawn, becomes_told, becomes_written}
+use Rattle.sim_steps_law.proofs.Becoming.{lawful_stands, becomes_then, becomes_as, becomes_changed, becomes_drawn, becomes_told, becomes_written}
 use Rattle.sim_steps_law.proofs.Running.{process_found}
 
 -- ---- the process that runs is polled
@@ -86,7 +81,7 @@ polled_moves {B} {Code} body more old mid new event p told asked answer running 
       each = λ s h st. record {
         state = polled g p asked a.later s;
         stepped = polled_step body old mid event p told asked s running a h st;
-        stands = (all.each s (record { stands = st; distinct = h.processes.distinct })).stands;
+        stands = (all.each s (lawful_stands body old s h st)).stands;
         lines =
             effect_writes g p asked (with_body p a.later s)
             ∙ ap (λ xs. s.lines ++ xs) (ap (lines_by p asked) (sym st.facilities.calendar.time) ∙ lines);
@@ -109,6 +104,12 @@ logged_moves {B} {Code} body old mid new event p told value time written running
     (subst (Becomes (λ s. tell signal.Done (writing s)) mid) (sym is) goes_on)
 
 -- ---- a number is drawn
+
+-- none is, where the range is empty
+pub empty_becomes : {B Code : Type 0} (g : Plan B) (a n : PartsOf B Code) (lo hi : ℤ) → int_lt hi lo ≡ true →
+    n ≡ record a { control = told_more (signal.Raised empty_range) a.control } → Becomes (draw g lo hi) a n
+empty_becomes g a n lo hi none is =
+    subst (Becomes (draw g lo hi) a) (sym is) (becomes_as (tell (signal.Raised empty_range)) (draw g lo hi) a _ (λ s h. rw none refl) (becomes_told (signal.Raised empty_range) a))
 
 pub drawn_becomes : {B Code : Type 0} (body : BodyOf B Code) (a n : PartsOf B Code) (lo hi number : ℤ) (word : ℕ) (next : Lcg) → int_lt hi lo ≡ false →
     (word, next) ≡ pcg64 a.generator → number ≡ drawn_number word lo hi →

@@ -14,7 +14,7 @@ use Rattle.sim_shared_model.specs.SharedOf.{SharedOf, IsSameButRoom}
 use Rattle.sim_shared_model.specs.ShowsAll.{ShowsAt, ShowsAll}
 use Rattle.sim_shared_law.proofs.ResourcePlaces.{declared_alike}
 use Rattle.sim_shared_law.proofs.CancelledEvents.{shown_alike}
-use Rattle.sim_steps_model.specs.PartsOf.{PartsOf, KeepsButRoom, plan_of}
+use Rattle.sim_steps_model.specs.PartsOf.{PartsOf, KeepsButRoom}
 use Rattle.sim_steps_model.specs.StandsFor.{StandsFor, StandsForSome, LawfulOf}
 use Rattle.sim_steps_model.specs.Opening.{SetsStop}
 use Rattle.sim_steps_law.proofs.Running.{mapped_is}

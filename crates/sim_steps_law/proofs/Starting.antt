@@ -20,7 +20,7 @@ use Rattle.sim_machine.specs.State.{Calendar, ProcessOf, Idle}
 use Rattle.sim_machine.specs.Events.{next_event}
 use Rattle.sim_machine.specs.Triggering.{make}
 use Rattle.sim_machine.specs.Processes.{make_events_of_process}
-use Rattle.sim_machine.specs.Runs.{first_calendar, blank_state}
+use Rattle.sim_machine.specs.Runs.{blank_state}
 use Rattle.sim_machine.specs.RandomWords.{generator_of}
 use Rattle.sim_machine_law.proofs.EventLaws.{change_event-length, make-length}
 use Rattle.sim_machine_law.proofs.KeptRegistrations.{named_within}
@@ -58,7 +58,7 @@ start_can_begin f setup x fits h =
 
 -- ---- the process that is made next is not alive
 
-none_of : {B : Type 0} (p : ProcId) (live : List (RecordOf B)) → All (λ x. x.id.0 < p.0) (map process_of live) → record_of p live ≡ None
+pub none_of : {B : Type 0} (p : ProcId) (live : List (RecordOf B)) → All (λ x. x.id.0 < p.0) (map process_of live) → record_of p live ≡ None
 none_of p [] h = refl
 none_of {B} p (r ∷ live) h =
     let P : ProcessOf B → Type 0 = λ x. x.id.0 < p.0 in

@@ -1,4 +1,4 @@
--- A process that pauses waits for its timeout, as the machine has it.
+-- A process waits for an event, or for a timeout that is made, as the machine has it.
 use Rattle.std.proofs.Common.{◌≡◌, ◌+◌, ℤ, pos, ◌+ℤ◌, ◌^◌, Some, true, false, ◌∷◌, refl, sym, ap, subst, ◌∙◌}
 use Rattle.std.specs.Prelude.{int_lt, length}
 use Rattle.sim_types.specs.declared.event.EventId.{EventId}
@@ -8,10 +8,10 @@ use Rattle.sim_types.specs.declared.event.Callback.TheVariants as callback
 use Rattle.sim_types.specs.declared.event.Outcome.TheVariants as outcome
 use Rattle.sim_types.specs.declared.event.Signal.TheVariants as signal
 use Rattle.sim_machine.specs.State.{EventOf, Calendar, State}
-use Rattle.sim_machine.specs.Events.{is_processed, next_event, register}
+use Rattle.sim_machine.specs.Events.{event_at, is_processed, next_event, register}
 use Rattle.sim_machine.specs.Triggering.{normal, make, make_timeout}
 use Rattle.sim_machine.specs.Scopes.{on_events}
-use Rattle.sim_machine.specs.Processes.{change_process, tell, rest, told_more, not_active, wait}
+use Rattle.sim_machine.specs.Processes.{change_process, tell, rest, told_more, not_active, signal_of, defuse_failed, wait}
 use Rattle.sim_machine.specs.Effect.{calendar, with_timeout}
 use Rattle.sim_machine_law.proofs.EventLaws.{change_event-keeps, make-new}
 use Rattle.sim_procs.specs.RecordOf.{change_record}
@@ -22,8 +22,9 @@ use Rattle.sim_happen_model.specs.Seen.{seen}
 use Rattle.sim_happen_law.proofs.Following.{read_is, event_then}
 use Rattle.sim_happen_law.proofs.NewEvents.{kept_last, next_is}
 use Rattle.sim_happen_law.proofs.SeenShown.{shows_seen}
-use Rattle.sim_steps_model.specs.PartsOf.{PartsOf, with_happen}
+use Rattle.sim_steps_model.specs.PartsOf.{PartsOf, KeepsButHappen, with_happen}
 use Rattle.sim_steps_model.specs.Becoming.{Stands, Becomes}
+use Rattle.sim_steps_model.specs.Waiting.{MakesTimeout, RefusesTimeout}
 use Rattle.sim_steps_law.proofs.Becoming.{becomes_then, becomes_as, becomes_followed, becomes_made, becomes_changed, becomes_rested, becomes_told}
 
 -- ---- to wait
@@ -47,6 +48,20 @@ waited_becomes {B} {Code} a n x e p kept unprocessed follows is =
     ap (λ (y : EventOf). y.processed) (sym (read_is a.shared.happen (calendar s) e kept h.stands.facilities.calendar)) ∙ unprocessed in
     subst (Becomes (wait e p) a) (sym is) (becomes_as (λ s. rest (targeted (registered s))) (wait e p) a d (λ s h. rw (processed s h) refl) all)
 
+-- a process is told at once of an event that is processed
+pub told_at_once : {B Code : Type 0} (a n : PartsOf B Code) (x : HappenOf) (e : EventId) (p : ProcId) → IsKept a.shared.happen.events e →
+    (kept_at a.shared.happen.events e).event.processed ≡ true → Follows (defuse_failed e) a.shared.happen x →
+    n ≡ record (with_happen x a) { control = told_more (signal_of (kept_at a.shared.happen.events e).event.outcome) a.control } → Becomes (wait e p) a n
+told_at_once {B} {Code} a n x e p kept processed follows is =
+    let y : EventOf = (kept_at a.shared.happen.events e).event in
+    let defused : State B → State B = on_events (defuse_failed e) in
+    let b : PartsOf B Code = with_happen x a in
+    let read : (s : State B) → Stands a s → event_at (calendar s) e ≡ y = λ s h. sym (read_is a.shared.happen (calendar s) e kept h.stands.facilities.calendar) in
+    subst (Becomes (wait e p) a) (sym is)
+    (becomes_as (λ s. tell (signal_of y.outcome) (defused s)) (wait e p) a _
+    (λ s h. rw (ap (λ (z : EventOf). z.processed) (read s h) ∙ processed, ap (λ (z : EventOf). z.outcome) (read s h)) refl)
+    (becomes_then defused (tell (signal_of y.outcome)) a b _ (becomes_followed (defuse_failed e) a x follows) (becomes_told (signal_of y.outcome) b)))
+
 -- ---- to make a timeout
 
 -- a timeout is not processed as soon as it is made
@@ -68,41 +83,49 @@ timeout_made a x e delay value t same =
     subst (λ f. is_processed (make_timeout delay value (seen a)) f ≡ false) (next_is a (seen a) e same (shows_seen a)) (timeout_unprocessed delay value (seen a)) in
     ap (λ (y : EventOf). y.processed) (event_then (make_timeout delay value) unheld_event a x e t kept) ∙ new
 
--- ---- to pause
-
 -- whether the delay is negative, or leads beyond the last time
 in_time : {B : Type 0} (delay value : ℤ) (after : EventId → State B → State B) (s : State B) → int_lt delay (pos 0) ≡ false →
     int_lt (pos (2 ^ 62)) ((calendar s).time +ℤ delay) ≡ false →
     with_timeout delay value after s ≡ after (next_event (calendar s)) (on_events (make_timeout delay value) s)
 in_time delay value after s h k = rw (h, k) refl
 
-pub paused_becomes : {B Code : Type 0} (a m n : PartsOf B Code) (e : EventId) (p : ProcId) (delay value : ℤ) → int_lt delay (pos 0) ≡ false →
-    int_lt (pos (2 ^ 62)) (a.shared.happen.time +ℤ delay) ≡ false → Turns (make_timeout delay value) unheld_event a.shared.happen m.shared.happen →
-    e.0 ≡ length a.shared.happen.events → m ≡ with_happen m.shared.happen a → Becomes (wait e p) m n →
-    Becomes (with_timeout delay value (λ f s. wait f p s)) a n
-paused_becomes {B} {Code} a m n e p delay value positive soon made same is waits =
-    let makes : State B → State B = on_events (make_timeout delay value) in
-    let makes_it : Becomes makes a m = subst (Becomes makes a) (sym is) (becomes_made (make_timeout delay value) a m.shared.happen made) in
-    let after : EventId → State B → State B = λ f s. wait f p s in
-    becomes_as (λ s. wait e p (makes s)) (with_timeout delay value after) a n
-    (λ s h.
-    let soon_too : int_lt (pos (2 ^ 62)) ((calendar s).time +ℤ delay) ≡ false = subst (λ t. int_lt (pos (2 ^ 62)) (t +ℤ delay) ≡ false) h.stands.facilities.calendar.time soon in
-    ap (λ f. wait f p (makes s)) (sym (next_is a.shared.happen (calendar s) e same h.stands.facilities.calendar)) ∙ sym (in_time delay value after s positive soon_too))
-    (becomes_then makes (wait e p) a m n makes_it waits)
+module _ {B Code : Type 0} (a : PartsOf B Code) (delay value : ℤ) where
+  pub timeout_makes : (m : PartsOf B Code) (e : EventId) → int_lt delay (pos 0) ≡ false → int_lt (pos (2 ^ 62)) (a.shared.happen.time +ℤ delay) ≡ false →
+      Turns (make_timeout delay value) unheld_event a.shared.happen m.shared.happen → e.0 ≡ length a.shared.happen.events →
+      KeepsButHappen a m → MakesTimeout delay value e a m
+  timeout_makes m e positive soon made same is =
+      let makes : State B → State B = on_events (make_timeout delay value) in
+      let makes_it : Becomes makes a m = subst (Becomes makes a) (sym is) (becomes_made (make_timeout delay value) a m.shared.happen made) in
+      record {
+        each = λ after last does.
+            becomes_as (λ s. after e (makes s)) (with_timeout delay value after) a last
+            (λ s h.
+            let soon_too : int_lt (pos (2 ^ 62)) ((calendar s).time +ℤ delay) ≡ false = subst (λ t. int_lt (pos (2 ^ 62)) (t +ℤ delay) ≡ false) h.stands.facilities.calendar.time soon in
+            ap (λ f. after f (makes s)) (sym (next_is a.shared.happen (calendar s) e same h.stands.facilities.calendar)) ∙ sym (in_time delay value after s positive soon_too))
+            (becomes_then makes (after e) a m last makes_it does);
+        kept = kept_last a.shared.happen m.shared.happen e made.held same;
+        unprocessed = timeout_made a.shared.happen m.shared.happen e delay value made same;
+        others = is;
+      }
 
-pub negative_becomes : {B Code : Type 0} (a n : PartsOf B Code) (p : ProcId) (delay value : ℤ) → int_lt delay (pos 0) ≡ true →
-    n ≡ record a { control = told_more (signal.Raised 1) a.control } → Becomes (with_timeout delay value (λ f s. wait f p s)) a n
-negative_becomes a n p delay value negative is =
-    subst (Becomes (with_timeout delay value (λ f s. wait f p s)) a) (sym is)
-    (becomes_as (tell (signal.Raised 1)) (with_timeout delay value (λ f s. wait f p s)) a _ (λ s h. rw negative refl) (becomes_told (signal.Raised 1) a))
+  pub negative_refuses : (n : PartsOf B Code) → int_lt delay (pos 0) ≡ true → n ≡ record a { control = told_more (signal.Raised 1) a.control } →
+      RefusesTimeout delay value a n
+  negative_refuses n negative is =
+      record {
+        each = λ after.
+            subst (Becomes (with_timeout delay value after) a) (sym is)
+            (becomes_as (tell (signal.Raised 1)) (with_timeout delay value after) a _ (λ s h. rw negative refl) (becomes_told (signal.Raised 1) a));
+      }
 
-pub late_becomes : {B Code : Type 0} (a n : PartsOf B Code) (p : ProcId) (delay value : ℤ) → int_lt delay (pos 0) ≡ false →
-    int_lt (pos (2 ^ 62)) (a.shared.happen.time +ℤ delay) ≡ true → n ≡ record a { control = told_more (signal.Raised 9) a.control } →
-    Becomes (with_timeout delay value (λ f s. wait f p s)) a n
-late_becomes a n p delay value positive late is =
-    subst (Becomes (with_timeout delay value (λ f s. wait f p s)) a) (sym is)
-    (becomes_as (tell (signal.Raised 9)) (with_timeout delay value (λ f s. wait f p s)) a _
-    (λ s h.
-    let late_too : int_lt (pos (2 ^ 62)) ((calendar s).time +ℤ delay) ≡ true = subst (λ t. int_lt (pos (2 ^ 62)) (t +ℤ delay) ≡ true) h.stands.facilities.calendar.time late in
-    rw (positive, late_too) refl)
-    (becomes_told (signal.Raised 9) a))
+  pub late_refuses : (n : PartsOf B Code) → int_lt delay (pos 0) ≡ false → int_lt (pos (2 ^ 62)) (a.shared.happen.time +ℤ delay) ≡ true →
+      n ≡ record a { control = told_more (signal.Raised 9) a.control } → RefusesTimeout delay value a n
+  late_refuses n positive late is =
+      record {
+        each = λ after.
+            subst (Becomes (with_timeout delay value after) a) (sym is)
+            (becomes_as (tell (signal.Raised 9)) (with_timeout delay value after) a _
+            (λ s h.
+            let late_too : int_lt (pos (2 ^ 62)) ((calendar s).time +ℤ delay) ≡ true = subst (λ t. int_lt (pos (2 ^ 62)) (t +ℤ delay) ≡ true) h.stands.facilities.calendar.time late in
+            rw (positive, late_too) refl)
+            (becomes_told (signal.Raised 9) a));
+      }

@@ -1,8 +1,12 @@
 pub mod PartsOf
 pub mod StandsFor
 pub mod Becoming
+pub mod Resources
 pub mod Built
 pub mod Calling
+pub mod Conditions
+pub mod Dropping
 pub mod Polling
+pub mod Waiting
 pub mod Resting
 pub mod Opening

@@ -1,5 +1,5 @@
 -- What contracts see of a kernel.
-use Rattle.std.specs.Prelude.{◌≡◌, ◌≤◌, ℕ, List, [], None}
+use Rattle.std.specs.Prelude.{◌≡◌, ◌≤◌, ℕ, List, [], Option, Some, None}
 use Rattle.rand_pcg.specs.Lcg.{Lcg}
 use Rattle.sim_types.specs.declared.event.EventId.{EventId}
 use Rattle.sim_types.specs.declared.event.ProcId.{ProcId}
@@ -34,6 +34,11 @@ NoneLeftIdle (mode.Over why event) left = Unit {0}
 pub record AreSoundParts (mode : Mode) (shared : SharedOf) (setup : Setup) : Type 0 where
   pub none_left : NoneLeftIdle mode shared.happen.left
   pub resources : shared.setup ≡ setup.resources
+
+-- for how many more processes there is room, by whether the body of the next one is there, yet to be filled
+abbrev pub room_with : {B : Type 0} → Option B → ℕ → ℕ
+room_with None room = 0
+room_with (Some body) room = room
 
 -- a kernel: time, what happens in it and the resources, its lists and numbers, what it was opened with, and for how many
 -- more live processes there is room
@@ -88,13 +93,14 @@ pub record KeepsButRoom {B Code : Type 0} (old new : PartsOf B Code) : Type 0 wh
   pub shared : IsSameButRoom old.shared new.shared
   pub others : new ≡ record old { shared = new.shared; spare = new.spare }
 
--- room for all that one unit takes: for so many events, each of which may be a condition, for so many callbacks, and for
--- one more to wait at each resource
+-- room for all that one unit takes: for so many events, each of which may be a condition, for so many callbacks, for one
+-- more to wait at each resource, and for one more process
 pub record HasUnitRoom {B Code : Type 0} (parts : PartsOf B Code) : Type 0 where
   pub events : 40 ≤ parts.shared.happen.spare.events
   pub callbacks : 64 ≤ parts.shared.happen.spare.callbacks
   pub conditions : 40 ≤ parts.shared.happen.spare.conditions
   pub places : parts.shared.used ≡ None
+  pub processes : 1 ≤ parts.spare
 
 -- the plan of the machine that a kernel was opened with
 abbrev pub plan_of : {B Code : Type 0} → BodyOf B Code → PartsOf B Code → Plan B

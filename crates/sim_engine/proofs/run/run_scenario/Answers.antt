@@ -25,7 +25,7 @@ write_trace-answer-requires-clause-opened g c =
     let s = c.args.scenario.now in
     let k = c.in_ok-kernel in
     let alone = runs_alone s c.setup.ensures.built in
-    stands_for_opening s k.kernel.parts k.ensures.code (k.ensures.setup ∙ c.setup.ensures.setup) (k.ensures.seed ∙ c.seed.ensures) c.setup.ensures.built alone.journal alone.until k.ensures.stands k.ensures.lawful
+    stands_for_opening s k.kernel.parts k.ensures.code (k.ensures.setup ∙ c.setup.ensures.setup) (k.ensures.seed ∙ c.seed.ensures) c.setup.ensures.built alone.journal k.ensures.stands k.ensures.lawful
 
 pub returns-clause-writes : goal.returns-clause-writes
 returns-clause-writes g c =

@@ -1,5 +1,4 @@
 use Rattle.std.proofs.Common.{◌≡◌, ◌∙◌, sym, ap, subst}
-use Rattle.sim_steps_model.specs.Built.{AsksForBuilt}
 use Rattle.sim_steps_law.proofs.Rooms.{roomier_stands_for_some}
 use Rattle.sim_kernel.proofs.Units.{unit_steps, unit_holds, roomier_holds}
 use Rattle.sim_kernel.proofs.kernel.Kernel.unit.Goals as goal
@@ -15,9 +14,8 @@ unit-unit-requires-clause-stands g c =
 pub invariant_of-self-2 : goal.invariant_of-self-2
 invariant_of-self-2 g c =
     let old = c.self.inside.parts in
-    let code : c.args.code.now ≡ old.code = c.requires.code ∙ sym (ap (λ k. k.parts.code) c.self.view_is) in
     unit_holds g.B.LawfulBody.body c.self.inside.units old c.reserve.new.self c.unit-unit.result c.unit-unit.new.self (g.B.LawfulBody.lawful old.code)
-    (subst (λ x. AsksForBuilt g.B.LawfulBody.body x) code c.requires.asks) c.self.invariant c.reserve.ensures.kept c.unit-unit.ensures.moves
+    c.self.invariant c.reserve.ensures.kept c.unit-unit.ensures.moves
 
 pub returns-clause-steps : goal.returns-clause-steps
 returns-clause-steps g c =

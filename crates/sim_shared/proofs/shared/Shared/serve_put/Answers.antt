@@ -1,26 +1,26 @@
-use Rattle.std.proofs.Common.{refl, ◌<◌, length}
-use Rattle.sim_shared_law.proofs.ResourcePlaces.{sound_set, got_asked}
-use Rattle.sim_shared_law.proofs.ServingTries.{put_declared, put_place}
+use Rattle.std.proofs.Common.{◌<◌, length, refl}
+use Rattle.sim_shared_law.proofs.ResourcePlaces.{got_asked}
+use Rattle.sim_shared_law.proofs.ServingTries.{put_sound}
 use Rattle.sim_shared.proofs.shared.Shared.serve_put.Goals as goal
 
 pub invariant_of-self : goal.invariant_of-self
 invariant_of-self c =
     let x = c.index_mut.result.now in
-    let y = c.serve_one_put.new.resource in
-    let asked : c.args.res < length c.self.inside.setup.value = rw (← c.self.view_is) at c.requires.res in
-    let there = got_asked c.self.inside.resources.items c.self.inside.setup.value c.args.res x c.self.invariant.opened asked c.index_mut.ensures.value in
-    sound_set c.self.inside.used c.self.inside.resources.items c.self.inside.setup.value c.args.res x y there
-    (put_declared c.args.res c.serve_one_put.result x y (c.serve_one_put.ensures.tried c.args.res))
-    (put_place c.args.res c.serve_one_put.result x y (c.serve_one_put.ensures.tried c.args.res)) c.self.invariant
+    let one = c.serve_one_put in
+    let i = c.self.inside in
+    let asked : c.args.res < length i.setup.value = rw (← c.self.view_is) at c.requires.res in
+    put_sound i.used i.resources.items i.setup.value c.args.res one.result x one.new.resource
+    (got_asked i.resources.items i.setup.value c.args.res x c.self.invariant.opened asked c.index_mut.ensures.value) c.self.invariant (one.ensures.tried c.args.res)
 
 pub returns : goal.returns
 returns c =
     let x = c.index_mut.result.now in
-    let asked : c.args.res < length c.self.inside.setup.value = rw (← c.self.view_is) at c.requires.res in
+    let i = c.self.inside in
+    let asked : c.args.res < length i.setup.value = rw (← c.self.view_is) at c.requires.res in
     rw (← c.self.view_is) (record {
       before = x;
       after = c.serve_one_put.new.resource;
-      there = got_asked c.self.inside.resources.items c.self.inside.setup.value c.args.res x c.self.invariant.opened asked c.index_mut.ensures.value;
+      there = got_asked i.resources.items i.setup.value c.args.res x c.self.invariant.opened asked c.index_mut.ensures.value;
       tried = c.serve_one_put.ensures.tried c.args.res;
       differ = c.serve_one_put.ensures.differ;
       rest = refl;

@@ -1,5 +1,5 @@
-use Rattle.std.proofs.Common.{refl, ◌∙◌}
-use Rattle.sim_steps_law.proofs.Made.{named_all, first_kept}
+use Rattle.std.proofs.Common.{refl}
+use Rattle.sim_steps_law.proofs.Made.{named_all}
 use Rattle.sim_steps_law.proofs.Starting.{blank_stands}
 use Rattle.sim_steps.proofs.parts.Parts.blank.Goals as goal
 

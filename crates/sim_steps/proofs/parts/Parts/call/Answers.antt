@@ -1,48 +1,44 @@
-use Rattle.std.proofs.Common.{◌≡◌, true, List, [], ◌∷◌, ap, refl, subst, ◌∙◌}
-use Rattle.std.specs.List.{AllPass}
-use Rattle.std.proofs.lemmas.List.Elements.{All-nil}
-use Rattle.sim_types.specs.declared.event.Callback.{Callback}
-use Rattle.sim_types.specs.declared.event.Callback.TheVariants as callback
-use Rattle.sim_machine.specs.State.{Control, Calling}
-use Rattle.sim_machine.specs.Standing.{left_of}
-use Rattle.sim_steps_model.specs.Built.{is_built_callback}
-use Rattle.sim_steps_law.proofs.Keeping.{none_is_few}
-use Rattle.sim_steps_law.proofs.Calls.{calling_is, fewer_left, called_moves, becomes_fewer, becomes_called}
+use Rattle.std.proofs.Common.{[], refl, arith}
+use Rattle.sim_steps_law.proofs.Keeping.{made_is_kept, none_is_few}
+use Rattle.sim_steps_law.proofs.Calls.{calling_made, called_moves, taken_moves, taken_names}
+use Rattle.sim_steps_law.proofs.CalledConditions.{condition_known, condition_taken}
+use Rattle.sim_steps_law.proofs.Naming.{called_names}
+use Rattle.sim_steps_law.proofs.AskedResources.{taken_ready, taken_tries}
 use Rattle.sim_steps.proofs.parts.Parts.call.Goals as goal
+
+pub settle-requires-clause-kept : goal.settle-requires-clause-kept
+settle-requires-clause-kept g c =
+    rw c.in-None.ensures.same (made_is_kept _ c.args.self.now.shared.happen c.args.event c.requires.kept (calling_made g.B.LawfulBody.body c.args.self.now c.args.event c.requires.stands c.requires.calling))
+
+pub answer-requires-clause-kept : goal.answer-requires-clause-kept
+answer-requires-clause-kept g c =
+    rw c.in-Some.ensures.taken.happen (made_is_kept _ c.args.self.now.shared.happen c.args.event c.requires.kept (calling_made g.B.LawfulBody.body c.args.self.now c.args.event c.requires.stands c.requires.calling))
+
+pub answer-requires-clause-names : goal.answer-requires-clause-names
+answer-requires-clause-names g c =
+    taken_names c.args.self.now c.take_callback.new.self c.args.event c.in-Some.callback c.in-Some.ensures.taken
+    (called_names g.B.LawfulBody.body c.args.self.now c.requires.stands c.requires.kept c.args.event c.in-Some.callback _ c.in-Some.ensures.taken.before)
+
+pub answer-requires-clause-conditions : goal.answer-requires-clause-conditions
+answer-requires-clause-conditions g c =
+    condition_taken c.args.self.now c.take_callback.new.self c.args.event c.in-Some.callback c.in-Some.ensures.taken
+    (condition_known g.B.LawfulBody.body c.args.self.now c.requires.stands c.requires.kept c.args.event c.in-Some.callback _ c.in-Some.ensures.taken.before)
+
+pub answer-requires-clause-tries : goal.answer-requires-clause-tries
+answer-requires-clause-tries g c =
+    taken_tries g.B.LawfulBody.body c.args.self.now c.take_callback.new.self c.args.event c.in-Some.callback c.in-Some.ensures.taken c.requires.stands _ c.in-Some.ensures.taken.before
+
+pub answer-requires-clause-ready : goal.answer-requires-clause-ready
+answer-requires-clause-ready g c =
+    taken_ready g.B.LawfulBody.body c.args.self.now c.take_callback.new.self c.args.event c.in-Some.callback c.in-Some.ensures.taken c.requires.stands c.requires.kept c.requires.room c.in-Some.ensures.spare (omega (arith, c.requires.events))
 
 pub returns-in-None : goal.returns-in-None
 returns-in-None g c =
-    let event = c.args.event in
-    let calling = rw (← c.self.view_is) at c.requires.calling in
-    let is = calling_is c.self.inside.mode c.self.inside.shared.happen.left event calling ∙ ap (λ (l : List Callback). Calling event l) (rw c.happen_mut.ensures.value at c.in-None.ensures.left) in
-    rw (← c.self.view_is) (record {
-      moves = called_moves g.B.LawfulBody.body 0 _ c.settle.new.self event [] is none_is_few (rw (c.in-None.ensures.none, c.happen_mut.ensures.value) at c.settle.ensures.becomes);
-    })
+    let becomes = rw c.in-None.ensures.same at c.settle.ensures.becomes in
+    record { moves = called_moves g.B.LawfulBody.body 0 c.args.self.now c.settle.new.self c.args.event [] c.in-None.ensures.done none_is_few becomes }
 
-pub returns-in-Some-Resume : goal.returns-in-Some-Resume
-returns-in-Some-Resume g c =
-    let event = c.args.event in
-    let body = g.B.LawfulBody.body in
-    let x : Callback = callback.Resume c.in-Some-Resume.process in
-    let later = c.next.new.self.left in
-    let calling = rw (← c.self.view_is) at c.requires.calling in
-    let first = (rw c.happen_mut.ensures.value at c.in-Some-Resume.ensures.left) ∙ ap (λ y. y ∷ later) c.in-Some-Resume.field-0-is in
-    let is = calling_is c.self.inside.mode c.self.inside.shared.happen.left event calling ∙ ap (λ (l : List Callback). Calling event l) first in
-    let fewer = becomes_fewer _ _ c.next.new.self (Calling event later) (rw c.happen_mut.ensures.value at c.in-Some-Resume.ensures.rest) (rw (fewer_left c.self.inside.mode c.self.inside.shared.happen.left later event calling) refl) in
-    rw (← c.self.view_is) (record {
-      moves = called_moves body 0 _ c.resume.new.self event (x ∷ later) is none_is_few (becomes_called body _ _ c.resume.new.self event x later fewer c.resume.ensures.becomes);
-    })
-
-pub returns-in-Some-Stop : goal.returns-in-Some-Stop
-returns-in-Some-Stop g c =
-    let event = c.args.event in
-    let body = g.B.LawfulBody.body in
-    let x : Callback = callback.Stop in
-    let later = c.next.new.self.left in
-    let calling = rw (← c.self.view_is) at c.requires.calling in
-    let first = (rw c.happen_mut.ensures.value at c.in-Some-Stop.ensures.left) ∙ ap (λ y. y ∷ later) c.in-Some-Stop.field-0-is in
-    let is = calling_is c.self.inside.mode c.self.inside.shared.happen.left event calling ∙ ap (λ (l : List Callback). Calling event l) first in
-    let fewer = becomes_fewer _ _ c.next.new.self (Calling event later) (rw c.happen_mut.ensures.value at c.in-Some-Stop.ensures.rest) (rw (fewer_left c.self.inside.mode c.self.inside.shared.happen.left later event calling) refl) in
-    rw (← c.self.view_is) (record {
-      moves = called_moves body 0 _ c.stop.new.self event (x ∷ later) is none_is_few (becomes_called body _ _ c.stop.new.self event x later fewer c.stop.ensures.becomes);
-    })
+pub returns-in-Some : goal.returns-in-Some
+returns-in-Some g c =
+    record {
+      moves = taken_moves g.B.LawfulBody.body c.args.self.now c.take_callback.new.self c.answer.new.self c.args.event c.in-Some.callback c.in-Some.ensures.taken c.answer.ensures.becomes;
+    }

@@ -1,37 +1,18 @@
-use Rattle.std.proofs.Common.{rules, ◌∙◌, ap, refl, Err, w64, FitsSigned}
+use Rattle.std.proofs.Common.{rules, w64, FitsSigned}
 use Rattle.std.proofs.lemmas.Int.{to_z-of_z}
-use Rattle.sim_steps_law.proofs.Signed.{is_below, not_below, no_error, not_late, late_is}
-use Rattle.sim_steps_law.proofs.Waiting.{timeout_made, paused_becomes, negative_becomes, late_becomes}
+use Rattle.sim_machine.specs.Processes.{wait}
 use Rattle.sim_steps.proofs.parts.Parts.pause.Goals as goal
 
-pub wait-requires-clause-unprocessed : goal.wait-requires-clause-unprocessed
-wait-requires-clause-unprocessed g c = timeout_made _ _ _ _ _ c.in-Ok.ensures.ok c.in-Ok.ensures.id
-
-pub returns-in-Ok : goal.returns-in-Ok
-returns-in-Ok g c =
+pub returns-in-Some : goal.returns-in-Some
+returns-in-Some g c =
     let delay : FitsSigned w64 c.args.delay = search rules in
     let value : FitsSigned w64 c.args.value = search rules in
-    let ensures = rw (to_z-of_z w64 c.args.delay delay, to_z-of_z w64 c.args.value value, c.happen_mut.ensures.value) at c.in-Ok.ensures in
-    let positive = not_below _ _ (λ h. no_error _ _ (ensures.negative.1 h)) in
-    rw (← c.self.view_is) (record {
-      becomes = paused_becomes _ _ c.wait.new.self c.in-Ok.timeout c.args.process c.args.delay c.args.value positive (not_late _ _ (λ h. no_error _ _ (ensures.late.1 h)) positive) ensures.ok ensures.id (rw ensures.ok.left refl) c.wait.ensures.becomes;
-    })
+    let made = rw (to_z-of_z w64 c.args.delay delay, to_z-of_z w64 c.args.value value) at c.in-Some.ensures.made in
+    record { becomes = made.each (λ e s. wait e c.args.process s) c.wait_for.new.self c.wait_for.ensures.becomes }
 
-pub returns-in-Err-NegativeDelay : goal.returns-in-Err-NegativeDelay
-returns-in-Err-NegativeDelay g c =
+pub returns-in-None : goal.returns-in-None
+returns-in-None g c =
     let delay : FitsSigned w64 c.args.delay = search rules in
-    let negative = rw (to_z-of_z w64 c.args.delay delay) at c.in-Err-NegativeDelay.ensures.negative in
-    let same = rw c.happen_mut.ensures.value at c.in-Err-NegativeDelay.ensures.err in
-    rw (← c.self.view_is) (record {
-      becomes = negative_becomes _ c.tell.new.self c.args.process c.args.delay c.args.value (is_below _ _ (negative.0 (ap (λ x. Err x) c.in-Err-NegativeDelay.field-0-is))) (c.tell.ensures ∙ rw same refl);
-    })
-
-pub returns-in-Err-TimeLimit : goal.returns-in-Err-TimeLimit
-returns-in-Err-TimeLimit g c =
-    let delay : FitsSigned w64 c.args.delay = search rules in
-    let late = rw (to_z-of_z w64 c.args.delay delay, c.happen_mut.ensures.value) at c.in-Err-TimeLimit.ensures.late in
-    let same = rw c.happen_mut.ensures.value at c.in-Err-TimeLimit.ensures.err in
-    let is = late_is _ _ (late.0 (ap (λ x. Err x) c.in-Err-TimeLimit.field-0-is)) in
-    rw (← c.self.view_is) (record {
-      becomes = late_becomes _ c.tell-in-Err-TimeLimit.new.self c.args.process c.args.delay c.args.value is.0 is.1 (c.tell-in-Err-TimeLimit.ensures ∙ rw same refl);
-    })
+    let value : FitsSigned w64 c.args.value = search rules in
+    let refused = rw (to_z-of_z w64 c.args.delay delay, to_z-of_z w64 c.args.value value) at c.in-None.ensures.refused in
+    record { becomes = refused.each (λ e s. wait e c.args.process s) }

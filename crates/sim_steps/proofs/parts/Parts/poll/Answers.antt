@@ -1,21 +1,76 @@
-use Rattle.std.proofs.Common.{rules, w64, FitsSigned, ◌∙◌, ap, refl}
+use Rattle.std.proofs.Common.{[], ◌∷◌, rules, w64, FitsSigned, ◌∙◌, ap, refl, arith, true}
 use Rattle.std.proofs.lemmas.Int.{to_z-of_z}
 use Rattle.sim_types.specs.declared.event.Signal.TheVariants as signal
 use Rattle.sim_types.specs.declared.op.Op.TheVariants as op
 use Rattle.sim_steps_model.specs.declared.mode.Unit.TheVariants as unit
 use Rattle.sim_steps_model.specs.PartsOf.{PartsOf}
 use Rattle.sim_steps_law.proofs.Becoming.{becomes_told}
+use Rattle.sim_steps_law.proofs.AskedConditions.{members_are_few}
 use Rattle.sim_steps_law.proofs.Keeping.{none_is_few}
 use Rattle.sim_steps_law.proofs.Polls.{polled_moves, logged_moves}
+use Rattle.sim_steps_law.proofs.Naming.{first_named, second_named, first_triggered}
 use Rattle.sim_steps_law.proofs.Ending.{polled_alive, ended_scopes, polled_open}
+use Rattle.sim_steps_law.proofs.SpawnedProcesses.{polled_time, spawned_can_begin, spawned_none}
+use Rattle.sim_steps_law.proofs.AskedResources.{one_is_few, polled_few, polled_moves_at, polled_ready, polled_within}
 use Rattle.sim_steps.proofs.parts.Parts.poll.Goals as goal
 
 pub pause-requires-clause-alive : goal.pause-requires-clause-alive
 pause-requires-clause-alive g c = polled_alive g.B.LawfulBody.body c.args.self.now c.ask.new.self c.args.process c.args.told _ c.in-Pause.ensures.asked
 
+pub wait-requires-clause-alive : goal.wait-requires-clause-alive
+wait-requires-clause-alive g c = polled_alive g.B.LawfulBody.body c.args.self.now c.ask.new.self c.args.process c.args.told _ c.in-Wait.ensures.asked
+
+pub wait-requires-clause-kept : goal.wait-requires-clause-kept
+wait-requires-clause-kept g c = first_named (g.B.LawfulBody.body.facts c.args.code.now) c.ask.new.self (op.Wait c.in-Wait.on) c.in-Wait.on [] refl c.in-Wait.ensures.names
+
+pub trigger_by-requires-clause-kept : goal.trigger_by-requires-clause-kept
+trigger_by-requires-clause-kept g c =
+    first_named (g.B.LawfulBody.body.facts c.args.code.now) c.ask.new.self (op.Succeed c.in-Succeed.triggered c.in-Succeed.value) c.in-Succeed.triggered [] refl c.in-Succeed.ensures.names
+
+pub trigger_by-requires-clause-not_cancelled : goal.trigger_by-requires-clause-not_cancelled
+trigger_by-requires-clause-not_cancelled g c =
+    first_triggered (g.B.LawfulBody.body.facts c.args.code.now) c.ask.new.self (op.Succeed c.in-Succeed.triggered c.in-Succeed.value) c.in-Succeed.triggered [] refl c.in-Succeed.ensures.names
+
+pub trigger_by-requires-in-Fail-clause-kept : goal.trigger_by-requires-in-Fail-clause-kept
+trigger_by-requires-in-Fail-clause-kept g c =
+    first_named (g.B.LawfulBody.body.facts c.args.code.now) c.ask.new.self (op.Fail c.in-Fail.triggered c.in-Fail.value) c.in-Fail.triggered [] refl c.in-Fail.ensures.names
+
+pub trigger_by-requires-in-Fail-clause-not_cancelled : goal.trigger_by-requires-in-Fail-clause-not_cancelled
+trigger_by-requires-in-Fail-clause-not_cancelled g c =
+    first_triggered (g.B.LawfulBody.body.facts c.args.code.now) c.ask.new.self (op.Fail c.in-Fail.triggered c.in-Fail.value) c.in-Fail.triggered [] refl c.in-Fail.ensures.names
+
+pub chain-requires-clause-source : goal.chain-requires-clause-source
+chain-requires-clause-source g c =
+    first_named (g.B.LawfulBody.body.facts c.args.code.now) c.ask.new.self (op.Chain c.in-Chain.source c.in-Chain.other) c.in-Chain.source (c.in-Chain.other ∷ []) refl c.in-Chain.ensures.names
+
+pub chain-requires-clause-other : goal.chain-requires-clause-other
+chain-requires-clause-other g c =
+    second_named (g.B.LawfulBody.body.facts c.args.code.now) c.ask.new.self (op.Chain c.in-Chain.source c.in-Chain.other) c.in-Chain.source c.in-Chain.other [] refl c.in-Chain.ensures.names
+
+pub chain-requires-clause-not_cancelled : goal.chain-requires-clause-not_cancelled
+chain-requires-clause-not_cancelled g c =
+    first_triggered (g.B.LawfulBody.body.facts c.args.code.now) c.ask.new.self (op.Chain c.in-Chain.source c.in-Chain.other) c.in-Chain.other [] refl c.in-Chain.ensures.names
+
+pub has-requires-clause-kept : goal.has-requires-clause-kept
+has-requires-clause-kept g c =
+    first_named (g.B.LawfulBody.body.facts c.args.code.now) c.ask.new.self (op.Has c.in-Has.condition c.in-Has.other) c.in-Has.condition (c.in-Has.other ∷ []) refl c.in-Has.ensures.names
+
+pub spawn-requires-clause-can : goal.spawn-requires-clause-can
+spawn-requires-clause-can g c =
+    let old = c.args.self.now in
+    rw c.requires.code (spawned_can_begin g.B.LawfulBody.body old c.ask.new.self c.args.event c.args.process c.args.told c.in-Spawn.kind c.in-Spawn.args c.requires.stands c.requires.kept (rw (← c.requires.code) c.requires.fits) (g.B.LawfulBody.lawful old.code) (omega (arith, c.requires.events)) c.requires.running c.in-Spawn.ensures.asked (rw (← c.requires.code) c.in-Spawn.ensures.names))
+
+pub spawn-requires-clause-time : goal.spawn-requires-clause-time
+spawn-requires-clause-time g c =
+    polled_time g.B.LawfulBody.body c.args.self.now c.ask.new.self c.args.process c.args.told (op.Spawn c.in-Spawn.kind c.in-Spawn.args) c.requires.stands c.in-Spawn.ensures.asked
+
+pub spawn-requires-clause-not_alive : goal.spawn-requires-clause-not_alive
+spawn-requires-clause-not_alive g c =
+    spawned_none g.B.LawfulBody.body c.args.self.now c.ask.new.self c.args.process c.args.told (op.Spawn c.in-Spawn.kind c.in-Spawn.args) c.requires.stands c.in-Spawn.ensures.asked
+
 pub end-requires-clause-alive : goal.end-requires-clause-alive
 end-requires-clause-alive g c =
-    ended_scopes g.B.LawfulBody.body c.args.self.now c.ask.new.self c.args.process c.args.told (op.Finish c.in-Finish.value) c.args.event (λ own places scopes h. h) (g.B.LawfulBody.lawful c.args.self.now.code) c.requires.stands c.requires.events c.requires.running c.in-Finish.ensures.asked
+    ended_scopes g.B.LawfulBody.body c.args.self.now c.ask.new.self c.args.process c.args.told (op.Finish c.in-Finish.value) c.args.event (λ own places scopes h. h) (g.B.LawfulBody.lawful c.args.self.now.code) c.requires.stands (omega (arith, c.requires.events)) c.requires.running c.in-Finish.ensures.asked
 
 pub end-requires-clause-is_open : goal.end-requires-clause-is_open
 end-requires-clause-is_open g c =
@@ -23,7 +78,7 @@ end-requires-clause-is_open g c =
 
 pub end-requires-in-Die-clause-alive : goal.end-requires-in-Die-clause-alive
 end-requires-in-Die-clause-alive g c =
-    ended_scopes g.B.LawfulBody.body c.args.self.now c.ask.new.self c.args.process c.args.told (op.Die c.in-Die.what) c.args.event (λ own places scopes h. h) (g.B.LawfulBody.lawful c.args.self.now.code) c.requires.stands c.requires.events c.requires.running c.in-Die.ensures.asked
+    ended_scopes g.B.LawfulBody.body c.args.self.now c.ask.new.self c.args.process c.args.told (op.Die c.in-Die.what) c.args.event (λ own places scopes h. h) (g.B.LawfulBody.lawful c.args.self.now.code) c.requires.stands (omega (arith, c.requires.events)) c.requires.running c.in-Die.ensures.asked
 
 pub end-requires-in-Die-clause-is_open : goal.end-requires-in-Die-clause-is_open
 end-requires-in-Die-clause-is_open g c =
@@ -71,4 +126,180 @@ pub returns-in-Die : goal.returns-in-Die
 returns-in-Die g c =
     record {
       moves = polled_moves g.B.LawfulBody.body 0 c.args.self.now c.ask.new.self _ c.args.event c.args.process c.args.told (op.Die c.in-Die.what) unit.Quiet c.requires.running c.in-Die.ensures.asked refl none_is_few c.end-in-Die.ensures.becomes;
+    }
+
+pub returns-in-Timeout : goal.returns-in-Timeout
+returns-in-Timeout g c =
+    let delay : FitsSigned w64 c.in-Timeout.delay = search rules in
+    let value : FitsSigned w64 c.in-Timeout.value = search rules in
+    let becomes = rw (to_z-of_z w64 c.in-Timeout.delay delay, to_z-of_z w64 c.in-Timeout.value value) at c.timeout.ensures.becomes in
+    record {
+      moves = polled_moves g.B.LawfulBody.body 0 c.args.self.now c.ask.new.self _ c.args.event c.args.process c.args.told (op.Timeout c.in-Timeout.delay c.in-Timeout.value) unit.Quiet c.requires.running c.in-Timeout.ensures.asked refl none_is_few becomes;
+    }
+
+pub returns-in-Wait : goal.returns-in-Wait
+returns-in-Wait g c =
+    record {
+      moves = polled_moves g.B.LawfulBody.body 0 c.args.self.now c.ask.new.self _ c.args.event c.args.process c.args.told (op.Wait c.in-Wait.on) unit.Quiet c.requires.running c.in-Wait.ensures.asked refl none_is_few c.wait.ensures.becomes;
+    }
+
+pub returns-in-NewEvent : goal.returns-in-NewEvent
+returns-in-NewEvent g c =
+    record {
+      moves = polled_moves g.B.LawfulBody.body 0 c.args.self.now c.ask.new.self _ c.args.event c.args.process c.args.told op.NewEvent unit.Quiet c.requires.running c.in-NewEvent.ensures.asked refl none_is_few c.new_event.ensures.becomes;
+    }
+
+pub returns-in-Succeed : goal.returns-in-Succeed
+returns-in-Succeed g c =
+    let value : FitsSigned w64 c.in-Succeed.value = search rules in
+    let becomes = rw (to_z-of_z w64 c.in-Succeed.value value) at c.trigger_by.ensures.becomes in
+    record {
+      moves = polled_moves g.B.LawfulBody.body 0 c.args.self.now c.ask.new.self _ c.args.event c.args.process c.args.told (op.Succeed c.in-Succeed.triggered c.in-Succeed.value) unit.Quiet c.requires.running c.in-Succeed.ensures.asked refl none_is_few becomes;
+    }
+
+pub returns-in-Fail : goal.returns-in-Fail
+returns-in-Fail g c =
+    let value : FitsSigned w64 c.in-Fail.value = search rules in
+    let becomes = rw (to_z-of_z w64 c.in-Fail.value value) at c.trigger_by-in-Fail.ensures.becomes in
+    record {
+      moves = polled_moves g.B.LawfulBody.body 0 c.args.self.now c.ask.new.self _ c.args.event c.args.process c.args.told (op.Fail c.in-Fail.triggered c.in-Fail.value) unit.Quiet c.requires.running c.in-Fail.ensures.asked refl none_is_few becomes;
+    }
+
+pub returns-in-Spawn : goal.returns-in-Spawn
+returns-in-Spawn g c =
+    record {
+      moves = polled_moves g.B.LawfulBody.body 0 c.args.self.now c.ask.new.self _ c.args.event c.args.process c.args.told (op.Spawn c.in-Spawn.kind c.in-Spawn.args) unit.Quiet c.requires.running c.in-Spawn.ensures.asked refl none_is_few c.spawn.ensures.becomes;
+    }
+
+pub returns-in-Interrupt : goal.returns-in-Interrupt
+returns-in-Interrupt g c =
+    let cause : FitsSigned w64 c.in-Interrupt.cause = search rules in
+    let becomes = rw (to_z-of_z w64 c.in-Interrupt.cause cause) at c.interrupt.ensures.becomes in
+    record {
+      moves = polled_moves g.B.LawfulBody.body 0 c.args.self.now c.ask.new.self _ c.args.event c.args.process c.args.told (op.Interrupt c.in-Interrupt.other c.in-Interrupt.cause) unit.Quiet c.requires.running c.in-Interrupt.ensures.asked refl none_is_few becomes;
+    }
+
+pub returns-in-Chain : goal.returns-in-Chain
+returns-in-Chain g c =
+    record {
+      moves = polled_moves g.B.LawfulBody.body 0 c.args.self.now c.ask.new.self _ c.args.event c.args.process c.args.told (op.Chain c.in-Chain.source c.in-Chain.other) unit.Quiet c.requires.running c.in-Chain.ensures.asked refl none_is_few c.chain.ensures.becomes;
+    }
+
+pub returns-in-AllOf : goal.returns-in-AllOf
+returns-in-AllOf g c =
+    record {
+      moves = polled_moves g.B.LawfulBody.body 16 c.args.self.now c.ask.new.self _ c.args.event c.args.process c.args.told (op.AllOf c.in-AllOf.members) unit.Quiet c.requires.running c.in-AllOf.ensures.asked refl members_are_few c.make_condition.ensures.becomes;
+    }
+
+pub returns-in-AnyOf : goal.returns-in-AnyOf
+returns-in-AnyOf g c =
+    record {
+      moves = polled_moves g.B.LawfulBody.body 16 c.args.self.now c.ask.new.self _ c.args.event c.args.process c.args.told (op.AnyOf c.in-AnyOf.members) unit.Quiet c.requires.running c.in-AnyOf.ensures.asked refl members_are_few c.make_condition-in-AnyOf.ensures.becomes;
+    }
+
+pub returns-in-Has : goal.returns-in-Has
+returns-in-Has g c =
+    record {
+      moves = polled_moves g.B.LawfulBody.body 0 c.args.self.now c.ask.new.self _ c.args.event c.args.process c.args.told (op.Has c.in-Has.condition c.in-Has.other) unit.Quiet c.requires.running c.in-Has.ensures.asked refl none_is_few c.has.ensures.becomes;
+    }
+
+pub put-requires-clause-resource : goal.put-requires-clause-resource
+put-requires-clause-resource g c =
+    polled_moves_at g.B.LawfulBody.body c.args.self.now c.ask.new.self c.args.process c.args.told (op.Put c.in-Put.res c.in-Put.amount c.in-Put.priority) c.in-Put.ensures.asked c.requires.stands c.args.event (g.B.LawfulBody.lawful c.args.self.now.code) (rw c.requires.code at c.requires.fits) (omega (arith, c.requires.events)) c.requires.running c.in-Put.res (λ own places scopes h. h)
+
+pub put-requires-clause-ready : goal.put-requires-clause-ready
+put-requires-clause-ready g c =
+    polled_ready g.B.LawfulBody.body c.args.self.now c.ask.new.self c.args.process c.args.told (op.Put c.in-Put.res c.in-Put.amount c.in-Put.priority) c.in-Put.ensures.asked c.requires.stands c.requires.kept c.requires.room (omega (arith, c.requires.events))
+
+pub returns-in-Put : goal.returns-in-Put
+returns-in-Put g c =
+    let amount : FitsSigned w64 c.in-Put.amount = search rules in
+    let priority : FitsSigned w64 c.in-Put.priority = search rules in
+    let becomes = rw (to_z-of_z w64 c.in-Put.amount amount, to_z-of_z w64 c.in-Put.priority priority) at c.put.ensures.becomes in
+    record {
+      moves = polled_moves g.B.LawfulBody.body 0 c.args.self.now c.ask.new.self _ c.args.event c.args.process c.args.told (op.Put c.in-Put.res c.in-Put.amount c.in-Put.priority) unit.Quiet c.requires.running c.in-Put.ensures.asked refl none_is_few becomes;
+    }
+
+pub put_wait-requires-clause-resource : goal.put_wait-requires-clause-resource
+put_wait-requires-clause-resource g c =
+    polled_moves_at g.B.LawfulBody.body c.args.self.now c.ask.new.self c.args.process c.args.told (op.PutWait c.in-PutWait.res c.in-PutWait.amount c.in-PutWait.priority) c.in-PutWait.ensures.asked c.requires.stands c.args.event (g.B.LawfulBody.lawful c.args.self.now.code) (rw c.requires.code at c.requires.fits) (omega (arith, c.requires.events)) c.requires.running c.in-PutWait.res (λ own places scopes h. h)
+
+pub put_wait-requires-clause-ready : goal.put_wait-requires-clause-ready
+put_wait-requires-clause-ready g c =
+    polled_ready g.B.LawfulBody.body c.args.self.now c.ask.new.self c.args.process c.args.told (op.PutWait c.in-PutWait.res c.in-PutWait.amount c.in-PutWait.priority) c.in-PutWait.ensures.asked c.requires.stands c.requires.kept c.requires.room (omega (arith, c.requires.events))
+
+pub put_wait-requires-clause-alive : goal.put_wait-requires-clause-alive
+put_wait-requires-clause-alive g c = polled_alive g.B.LawfulBody.body c.args.self.now c.ask.new.self c.args.process c.args.told _ c.in-PutWait.ensures.asked
+
+pub returns-in-PutWait : goal.returns-in-PutWait
+returns-in-PutWait g c =
+    let amount : FitsSigned w64 c.in-PutWait.amount = search rules in
+    let priority : FitsSigned w64 c.in-PutWait.priority = search rules in
+    let becomes = rw (to_z-of_z w64 c.in-PutWait.amount amount, to_z-of_z w64 c.in-PutWait.priority priority) at c.put_wait.ensures.becomes in
+    record {
+      moves = polled_moves g.B.LawfulBody.body 0 c.args.self.now c.ask.new.self _ c.args.event c.args.process c.args.told (op.PutWait c.in-PutWait.res c.in-PutWait.amount c.in-PutWait.priority) unit.Quiet c.requires.running c.in-PutWait.ensures.asked refl none_is_few becomes;
+    }
+
+pub get-requires-clause-resource : goal.get-requires-clause-resource
+get-requires-clause-resource g c =
+    polled_moves_at g.B.LawfulBody.body c.args.self.now c.ask.new.self c.args.process c.args.told (op.Get c.in-Get.res c.in-Get.least c.in-Get.greatest) c.in-Get.ensures.asked c.requires.stands c.args.event (g.B.LawfulBody.lawful c.args.self.now.code) (rw c.requires.code at c.requires.fits) (omega (arith, c.requires.events)) c.requires.running c.in-Get.res (λ own places scopes h. h)
+
+pub get-requires-clause-ready : goal.get-requires-clause-ready
+get-requires-clause-ready g c =
+    polled_ready g.B.LawfulBody.body c.args.self.now c.ask.new.self c.args.process c.args.told (op.Get c.in-Get.res c.in-Get.least c.in-Get.greatest) c.in-Get.ensures.asked c.requires.stands c.requires.kept c.requires.room (omega (arith, c.requires.events))
+
+pub returns-in-Get : goal.returns-in-Get
+returns-in-Get g c =
+    let least : FitsSigned w64 c.in-Get.least = search rules in
+    let greatest : FitsSigned w64 c.in-Get.greatest = search rules in
+    let becomes = rw (to_z-of_z w64 c.in-Get.least least, to_z-of_z w64 c.in-Get.greatest greatest) at c.get.ensures.becomes in
+    record {
+      moves = polled_moves g.B.LawfulBody.body 0 c.args.self.now c.ask.new.self _ c.args.event c.args.process c.args.told (op.Get c.in-Get.res c.in-Get.least c.in-Get.greatest) unit.Quiet c.requires.running c.in-Get.ensures.asked refl none_is_few becomes;
+    }
+
+pub get_wait-requires-clause-resource : goal.get_wait-requires-clause-resource
+get_wait-requires-clause-resource g c =
+    polled_moves_at g.B.LawfulBody.body c.args.self.now c.ask.new.self c.args.process c.args.told (op.GetWait c.in-GetWait.res c.in-GetWait.least c.in-GetWait.greatest) c.in-GetWait.ensures.asked c.requires.stands c.args.event (g.B.LawfulBody.lawful c.args.self.now.code) (rw c.requires.code at c.requires.fits) (omega (arith, c.requires.events)) c.requires.running c.in-GetWait.res (λ own places scopes h. h)
+
+pub get_wait-requires-clause-ready : goal.get_wait-requires-clause-ready
+get_wait-requires-clause-ready g c =
+    polled_ready g.B.LawfulBody.body c.args.self.now c.ask.new.self c.args.process c.args.told (op.GetWait c.in-GetWait.res c.in-GetWait.least c.in-GetWait.greatest) c.in-GetWait.ensures.asked c.requires.stands c.requires.kept c.requires.room (omega (arith, c.requires.events))
+
+pub get_wait-requires-clause-alive : goal.get_wait-requires-clause-alive
+get_wait-requires-clause-alive g c = polled_alive g.B.LawfulBody.body c.args.self.now c.ask.new.self c.args.process c.args.told _ c.in-GetWait.ensures.asked
+
+pub returns-in-GetWait : goal.returns-in-GetWait
+returns-in-GetWait g c =
+    let least : FitsSigned w64 c.in-GetWait.least = search rules in
+    let greatest : FitsSigned w64 c.in-GetWait.greatest = search rules in
+    let becomes = rw (to_z-of_z w64 c.in-GetWait.least least, to_z-of_z w64 c.in-GetWait.greatest greatest) at c.get_wait.ensures.becomes in
+    record {
+      moves = polled_moves g.B.LawfulBody.body 0 c.args.self.now c.ask.new.self _ c.args.event c.args.process c.args.told (op.GetWait c.in-GetWait.res c.in-GetWait.least c.in-GetWait.greatest) unit.Quiet c.requires.running c.in-GetWait.ensures.asked refl none_is_few becomes;
+    }
+
+pub count-requires-clause-within : goal.count-requires-clause-within
+count-requires-clause-within g c =
+    polled_within g.B.LawfulBody.body c.args.self.now c.ask.new.self c.args.process c.args.told (op.Count c.in-Count.res) c.in-Count.ensures.asked c.requires.stands c.args.event (g.B.LawfulBody.lawful c.args.self.now.code) (rw c.requires.code at c.requires.fits) (omega (arith, c.requires.events)) c.requires.running (λ k. true) c.in-Count.res (λ own places scopes h. h)
+
+pub returns-in-Count : goal.returns-in-Count
+returns-in-Count g c =
+    record {
+      moves = polled_moves g.B.LawfulBody.body 0 c.args.self.now c.ask.new.self _ c.args.event c.args.process c.args.told (op.Count c.in-Count.res) unit.Quiet c.requires.running c.in-Count.ensures.asked refl none_is_few c.count.ensures.becomes;
+    }
+
+pub cancel-requires-clause-kept : goal.cancel-requires-clause-kept
+cancel-requires-clause-kept g c =
+    first_named (g.B.LawfulBody.body.facts c.args.code.now) c.ask.new.self (op.Cancel c.in-Cancel.cancelled) c.in-Cancel.cancelled [] refl c.in-Cancel.ensures.names
+
+pub cancel-requires-clause-few : goal.cancel-requires-clause-few
+cancel-requires-clause-few g c = polled_few g.B.LawfulBody.body c.args.self.now c.ask.new.self c.args.process c.args.told (op.Cancel c.in-Cancel.cancelled) c.in-Cancel.ensures.asked c.requires.stands c.requires.kept c.in-Cancel.cancelled
+
+pub cancel-requires-clause-ready : goal.cancel-requires-clause-ready
+cancel-requires-clause-ready g c =
+    polled_ready g.B.LawfulBody.body c.args.self.now c.ask.new.self c.args.process c.args.told (op.Cancel c.in-Cancel.cancelled) c.in-Cancel.ensures.asked c.requires.stands c.requires.kept c.requires.room (omega (arith, c.requires.events))
+
+pub returns-in-Cancel : goal.returns-in-Cancel
+returns-in-Cancel g c =
+    record {
+      moves = polled_moves g.B.LawfulBody.body 1 c.args.self.now c.ask.new.self _ c.args.event c.args.process c.args.told (op.Cancel c.in-Cancel.cancelled) unit.Quiet c.requires.running c.in-Cancel.ensures.asked refl one_is_few c.cancel.ensures.becomes;
     }

@@ -1,0 +1,9 @@
+use Rattle.sim_steps_law.proofs.Keeping.{are_few}
+use Rattle.sim_steps.proofs.parts.Parts.add_condition.Goals as goal
+
+pub all_of-requires-clause-few : goal.all_of-requires-clause-few
+all_of-requires-clause-few g c = rw c.happen_mut.ensures.value (are_few c.self.inside.shared.happen (rw (← c.self.view_is) at c.requires.kept))
+
+pub any_of-requires-clause-few : goal.any_of-requires-clause-few
+any_of-requires-clause-few g c =
+    rw c.happen_mut-else-for_all.ensures.value (are_few c.self.inside.shared.happen (rw (← c.self.view_is) at c.requires.kept))

@@ -1,0 +1,9 @@
+use Rattle.std.proofs.Common.{refl}
+use Rattle.sim_steps_law.proofs.Moves.{try_put_called}
+use Rattle.sim_steps.proofs.parts.Parts.call_try_put.Goals as goal
+
+pub returns : goal.returns
+returns g c =
+    let tried = c.try_put.ensures.tried in
+    let calling = rw (← c.self.view_is) at c.requires.calling in
+    rw (← c.self.view_is) (record { becomes = try_put_called g.B.LawfulBody.body _ _ c.args.event c.args.res calling c.self.invariant.resources (rw tried.turns.left refl) 1 tried })

@@ -1,0 +1,28 @@
+use Rattle.std.proofs.Common.{rules, refl, sym, ◌∙◌, w64, FitsSigned, eq-eqb}
+use Rattle.std.proofs.lemmas.Int.{to_z-of_z}
+use Rattle.sim_machine_law.proofs.KeptProcessesParts.{is_process-no}
+use Rattle.sim_types.specs.Throws.{interrupt}
+use Rattle.sim_types.specs.declared.event.Throw.{Throw}
+use Rattle.sim_steps_law.proofs.Interruptions.{another_ended, another_itself, interrupted_becomes}
+use Rattle.sim_steps.proofs.parts.Parts.interrupt.Goals as goal
+
+pub returns-then-not-is_alive : goal.returns-then-not-is_alive
+returns-then-not-is_alive g c =
+    let ended = sym c.is_alive.ensures ∙ c.if-not-is_alive.true in
+    record { becomes = another_ended c.args.process c.args.other _ _ c.tell.new.self (rw (← c.self.view_is) ended) c.tell.ensures }
+
+pub returns-then-other-process : goal.returns-then-other-process
+returns-then-other-process g c =
+    let lives = sym c.is_alive.ensures ∙ c.if-not-is_alive.false in
+    record {
+      becomes = another_itself c.args.process c.args.other _ _ c.tell-then-other-process.new.self (rw (← c.self.view_is) lives) (eq-eqb c.args.other.0 c.args.process.0 c.if-other-process.true) c.tell-then-other-process.ensures;
+    }
+
+pub returns-else-other-process : goal.returns-else-other-process
+returns-else-other-process g c =
+    let cause : FitsSigned w64 c.args.cause = search rules in
+    let what : Throw = record { kind = interrupt; value = c.args.cause } in
+    let made = rw (to_z-of_z w64 c.args.cause cause, c.happen_mut.ensures.value) at c.interrupt.ensures.made in
+    rw (← c.self.view_is) (record {
+      becomes = interrupted_becomes c.args.process c.args.other what _ c.tell-else-other-process.new.self c.interrupt.new.self (sym c.is_alive.ensures ∙ c.if-not-is_alive.false) (is_process-no c.args.other c.args.process c.if-other-process.false) made (c.tell-else-other-process.ensures ∙ rw made.left refl);
+    })

@@ -1,0 +1,11 @@
+use Rattle.std.proofs.Common.{ap}
+use Rattle.sim_types.specs.declared.event.ProcId.{ProcId}
+use Rattle.sim_steps_law.proofs.SpawnedProcesses.{spawned_becomes}
+use Rattle.sim_steps.proofs.parts.Parts.spawn.Goals as goal
+
+pub returns : goal.returns
+returns g c =
+    let number = ap (λ (p : ProcId). p.0) c.begin-made.ensures.process in
+    record {
+      becomes = spawned_becomes g.B.LawfulBody.body c.args.self.now c.begin-made.new.self c.tell.new.self c.args.process c.args.kind c.args.args _ c.requires.not_alive c.begin-made.ensures.begins number c.tell.ensures;
+    }

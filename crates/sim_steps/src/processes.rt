@@ -1,0 +1,152 @@
+//! Processes: how they are made, interrupted and ended (SimPy's "Process interaction").
+ghost use Rattle.std.specs.Prelude.{◌≡◌, ◌<◌, ◌≤◌, ◌≤ℤ◌, ◌+◌, ◌^◌, pos, length, [], IfSome, IsSomeAnd, OnOk, None};
+ghost use Rattle.sim_types.specs.declared.event.Callback.TheVariants as callback;
+ghost use Rattle.sim_types.specs.declared.op.Op.TheVariants as op;
+ghost use Rattle.sim_machine.specs.Bodies.{start_of};
+ghost use Rattle.sim_machine.specs.Effect as effect;
+ghost use Rattle.sim_machine.specs.Processes as processes;
+ghost use Rattle.sim_procs.specs.Premises.{CanBegin};
+ghost use Rattle.sim_procs.specs.RecordOf.{record_of};
+ghost use Rattle.sim_events.specs.TableOf.{IsKept};
+ghost use Rattle.sim_happen_model.specs.HappenOf.{IsOpen};
+ghost use Rattle.sim_steps_model.specs.Becoming.{Becomes};
+ghost use Rattle.sim_steps_model.specs.Calling.{called};
+ghost use Rattle.sim_steps_model.specs.Opening.{Begins, next_process};
+ghost use Rattle.sim_steps_model.specs.PartsOf.{HasUnitRoom, IsCalling, IsRunningIn, plan_of};
+
+use crate::making::make_process;
+use crate::parts::Parts;
+use sim_procs::Body;
+use sim_steps_model::Mode;
+use sim_types::{
+    Args, Callback, ENDED_PROCESS, EventId, INTERRUPT, Outcome, PROCESS_ITSELF, ProcId, Signal,
+    Throw,
+};
+use std::alloc::AllocError;
+
+impl<B: Body> Parts<B> {
+    /// Makes room for one more process, whose body is there then, yet to be filled.
+    pub(crate) fn reserve_process(&mut self, code: &B::Code) -> Result<(), AllocError>
+        ensures rest { self.new ≡ record self.old { spare = self.new.spare } }
+        ensures room { OnOk result (1 ≤ self.new.spare) }
+    {
+        self.processes.reserve()?;
+        if self.ready.is_none() {
+            self.ready = Some(B::blank(self.alloc, code)?);
+        }
+        Ok(())
+    }
+
+    /// Makes a process, with its event and its init event, of the body that is ready. It is told its number, which is that of
+    /// its event.
+    pub(crate) fn begin(&mut self, code: &B::Code, kind: u32, args: Args) -> ProcId
+        requires code { code.now ≡ self.old.code }
+        requires can { CanBegin (B.body.facts code.now) kind args }
+        requires events { 2 ≤ self.old.shared.happen.spare.events }
+        requires callbacks { 1 ≤ self.old.shared.happen.spare.callbacks }
+        requires record_room { 1 ≤ self.old.spare }
+        requires number { length self.old.shared.happen.events + 2 ≤ 2 ^ 62 }
+        requires time { self.old.shared.happen.time ≤ℤ pos (2 ^ 62) }
+        requires not_alive { record_of (next_process self.old.shared.happen) self.old.live ≡ None }
+        ensures process { result ≡ next_process self.old.shared.happen }
+        ensures begins { Begins
+            (start_of B.body self.old.code kind args (next_process self.old.shared.happen))
+            self.old self.new }
+    {
+        let (process, init) = make_process(self.shared.happen_mut());
+        match self.ready.take() {
+            Some(blank) => {
+                let mut body = blank;
+                body.fill(code, kind, args);
+                body.own(process);
+                self.processes.add(process, body, init);
+            }
+            None => unreachable!(),
+        }
+        process
+    }
+
+    /// The running process makes another one, and is told its event.
+    pub(crate) fn spawn(
+        &mut self,
+        code: &B::Code,
+        event: EventId,
+        process: ProcId,
+        kind: u32,
+        args: Args,
+    )
+        requires code { code.now ≡ self.old.code }
+        requires running { IsRunningIn event process self.old.control }
+        requires can { CanBegin (B.body.facts code.now) kind args }
+        requires room { HasUnitRoom self.old }
+        requires number { length self.old.shared.happen.events + 2 ≤ 2 ^ 62 }
+        requires time { self.old.shared.happen.time ≤ℤ pos (2 ^ 62) }
+        requires not_alive { record_of (next_process self.old.shared.happen) self.old.live ≡ None }
+        ensures becomes { Becomes
+            (effect.effect (plan_of B.body self.old) process (op.Spawn kind args))
+            self.old self.new }
+    {
+        let made = self.begin(code, kind, args);
+        self.tell(event, process, Signal::Made(EventId(made.0)));
+    }
+
+    /// The running process interrupts another one, unless that has ended or is itself.
+    pub(crate) fn interrupt(&mut self, event: EventId, process: ProcId, other: ProcId, cause: i64)
+        requires running { IsRunningIn event process self.old.control }
+        requires room { HasUnitRoom self.old }
+        requires number { length self.old.shared.happen.events < 2 ^ 62 }
+        ensures becomes { Becomes
+            (effect.effect (plan_of B.body self.old) process (op.Interrupt other cause))
+            self.old self.new }
+    {
+        if !self.processes.is_alive(other) {
+            self.tell(event, process, Signal::Raised(ENDED_PROCESS));
+        } else if other.0 == process.0 {
+            self.tell(event, process, Signal::Raised(PROCESS_ITSELF));
+        } else {
+            let what = Throw {
+                kind: INTERRUPT,
+                value: cause,
+            };
+            self.shared.happen_mut().interrupt(other, what);
+            self.tell(event, process, Signal::Done);
+        }
+    }
+
+    /// An interruption comes: its process waits no longer for its target, and is thrown the interruption. Where it has
+    /// ended, nothing happens.
+    pub(crate) fn strike(&mut self, event: EventId, process: ProcId)
+        requires calling { IsCalling event self.old.control }
+        requires kept { IsKept self.old.shared.happen.events event }
+        requires target { IfSome (record_of process self.old.live)
+            (λ r. IsKept self.old.shared.happen.events r.target) }
+        ensures becomes { Becomes (called (plan_of B.body self.old) event (callback.Strike process))
+            self.old self.new }
+    {
+        let told = self.signal_of(event);
+        if let Some(target) = self.processes.target(process) {
+            self.shared
+                .happen_mut()
+                .unregister(target, Callback::Resume(process));
+            self.mode = Mode::Active(event, process, told);
+        }
+    }
+
+    /// The running process ends: its event gets this outcome.
+    pub(crate) fn end(&mut self, event: EventId, process: ProcId, outcome: Outcome)
+        requires running { IsRunningIn event process self.old.control }
+        requires alive { IsSomeAnd (record_of process self.old.live) (λ r. r.scopes ≡ []) }
+        requires is_open { IsOpen self.old.shared.happen (processes.event_of process) }
+        ensures becomes { Becomes (λ s. processes.rest (processes.end_process process outcome s))
+            self.old self.new }
+    {
+        match self.processes.take(process) {
+            Some(record) => record.end(),
+            None => unreachable!(),
+        }
+        match self.trigger(EventId(process.0), outcome) {
+            Ok(()) => self.rest(event),
+            Err(_) => unreachable!(),
+        }
+    }
+}

@@ -1,0 +1,213 @@
+//! What processes ask of resources, and the tries that follow (SimPy's "Shared resources").
+ghost use Rattle.std.specs.Prelude.{◌≡◌, ◌<◌, ◌^◌, length, IsSome, IfNone, IfSome};
+ghost use Rattle.sim_types.specs.declared.event.Callback.TheVariants as callback;
+ghost use Rattle.sim_types.specs.declared.op.Op.TheVariants as op;
+ghost use Rattle.sim_machine.specs.Effect as effect;
+ghost use Rattle.sim_machine.specs.Requests as requests;
+ghost use Rattle.sim_procs.specs.RecordOf.{record_of};
+ghost use Rattle.sim_events.specs.TableOf.{IsKept, kept_at};
+ghost use Rattle.sim_steps_model.specs.Becoming.{Becomes, BecomesWith};
+ghost use Rattle.sim_steps_model.specs.Calling.{called};
+ghost use Rattle.sim_steps_model.specs.PartsOf.{IsCalling, IsRunningIn, plan_of};
+ghost use Rattle.sim_steps_model.specs.Resources.{AreResourcesReady, TakesMoves, MakesMove, RefusesMove};
+
+use crate::parts::Parts;
+use sim_procs::Body;
+use sim_shared::NotPositive;
+use sim_types::{AMOUNT_NOT_POSITIVE, EventId, ProcId, Signal};
+
+impl<B: Body> Parts<B> {
+    /// The requests or puts at a resource are tried.
+    pub(crate) fn call_try_put(&mut self, event: EventId, res: u32)
+        requires calling { IsCalling event self.old.control }
+        requires within { res < length self.old.setup.resources }
+        requires ready { AreResourcesReady self.old }
+        ensures becomes { Becomes (called (plan_of B.body self.old) event (callback.TryPut res))
+            self.old self.new }
+    {
+        self.shared.try_put(res);
+    }
+
+    /// The gets at a resource are tried.
+    pub(crate) fn call_try_get(&mut self, event: EventId, res: u32)
+        requires calling { IsCalling event self.old.control }
+        requires within { res < length self.old.setup.resources }
+        requires ready { AreResourcesReady self.old }
+        ensures becomes { Becomes (called (plan_of B.body self.old) event (callback.TryGet res))
+            self.old self.new }
+    {
+        self.shared.try_get(res);
+    }
+
+    /// The running process is told how much of a resource is in use, or stands in it.
+    pub(crate) fn count(&mut self, event: EventId, process: ProcId, res: u32)
+        requires running { IsRunningIn event process self.old.control }
+        requires within { res < length self.old.setup.resources }
+        ensures becomes { Becomes (effect.effect (plan_of B.body self.old) process (op.Count res))
+            self.old self.new }
+    {
+        let count = self.shared.count(res);
+        self.tell(event, process, Signal::Number(count));
+    }
+
+    // A put is made, unless its amount is not positive: then the running process is told so.
+    fn make_put(
+        &mut self,
+        event: EventId,
+        process: ProcId,
+        res: u32,
+        amount: i64,
+        priority: i64,
+    ) -> Option<EventId>
+        requires running { IsRunningIn event process self.old.control }
+        requires resource { TakesMoves res self.old }
+        requires ready { AreResourcesReady self.old }
+        ensures refused { IfNone result (RefusesMove (plan_of B.body self.old) res amount
+            (requests.make_put self.old.setup.resources res amount priority) self.old self.new) }
+        ensures made { IfSome result (λ e. MakesMove (plan_of B.body self.old) res amount
+            (requests.make_put self.old.setup.resources res amount priority) e self.old self.new) }
+        ensures control { IfSome result (λ e. self.new.control ≡ self.old.control) }
+        ensures live { IfSome result (λ e. self.new.live ≡ self.old.live) }
+    {
+        match self.shared.put(res, amount, priority) {
+            Ok(put) => Some(put),
+            Err(NotPositive) => {
+                self.tell(event, process, Signal::Raised(AMOUNT_NOT_POSITIVE));
+                None
+            }
+        }
+    }
+
+    // A get is made, unless its amount is not positive: then the running process is told so.
+    fn make_get(
+        &mut self,
+        event: EventId,
+        process: ProcId,
+        res: u32,
+        least: i64,
+        greatest: i64,
+    ) -> Option<EventId>
+        requires running { IsRunningIn event process self.old.control }
+        requires resource { TakesMoves res self.old }
+        requires ready { AreResourcesReady self.old }
+        ensures refused { IfNone result (RefusesMove (plan_of B.body self.old) res least
+            (requests.make_get self.old.setup.resources res least greatest) self.old self.new) }
+        ensures made { IfSome result (λ e. MakesMove (plan_of B.body self.old) res least
+            (requests.make_get self.old.setup.resources res least greatest) e self.old self.new) }
+        ensures control { IfSome result (λ e. self.new.control ≡ self.old.control) }
+        ensures live { IfSome result (λ e. self.new.live ≡ self.old.live) }
+    {
+        match self.shared.get(res, least, greatest) {
+            Ok(get) => Some(get),
+            Err(NotPositive) => {
+                self.tell(event, process, Signal::Raised(AMOUNT_NOT_POSITIVE));
+                None
+            }
+        }
+    }
+
+    /// The running process is told a put that is made.
+    pub(crate) fn put(
+        &mut self,
+        event: EventId,
+        process: ProcId,
+        res: u32,
+        amount: i64,
+        priority: i64,
+    )
+        requires running { IsRunningIn event process self.old.control }
+        requires resource { TakesMoves res self.old }
+        requires ready { AreResourcesReady self.old }
+        ensures becomes { Becomes
+            (effect.effect (plan_of B.body self.old) process (op.Put res amount priority))
+            self.old self.new }
+    {
+        match self.make_put(event, process, res, amount, priority) {
+            Some(put) => self.tell(event, process, Signal::Made(put)),
+            None => {}
+        }
+    }
+
+    /// The running process waits for a put that is made.
+    pub(crate) fn put_wait(
+        &mut self,
+        event: EventId,
+        process: ProcId,
+        res: u32,
+        amount: i64,
+        priority: i64,
+    )
+        requires running { IsRunningIn event process self.old.control }
+        requires alive { IsSome (record_of process self.old.live) }
+        requires resource { TakesMoves res self.old }
+        requires ready { AreResourcesReady self.old }
+        ensures becomes { Becomes
+            (effect.effect (plan_of B.body self.old) process (op.PutWait res amount priority))
+            self.old self.new }
+    {
+        match self.make_put(event, process, res, amount, priority) {
+            Some(put) => self.wait(event, process, put),
+            None => {}
+        }
+    }
+
+    /// The running process is told a get that is made.
+    pub(crate) fn get(
+        &mut self,
+        event: EventId,
+        process: ProcId,
+        res: u32,
+        least: i64,
+        greatest: i64,
+    )
+        requires running { IsRunningIn event process self.old.control }
+        requires resource { TakesMoves res self.old }
+        requires ready { AreResourcesReady self.old }
+        ensures becomes { Becomes
+            (effect.effect (plan_of B.body self.old) process (op.Get res least greatest))
+            self.old self.new }
+    {
+        match self.make_get(event, process, res, least, greatest) {
+            Some(get) => self.tell(event, process, Signal::Made(get)),
+            None => {}
+        }
+    }
+
+    /// The running process waits for a get that is made.
+    pub(crate) fn get_wait(
+        &mut self,
+        event: EventId,
+        process: ProcId,
+        res: u32,
+        least: i64,
+        greatest: i64,
+    )
+        requires running { IsRunningIn event process self.old.control }
+        requires alive { IsSome (record_of process self.old.live) }
+        requires resource { TakesMoves res self.old }
+        requires ready { AreResourcesReady self.old }
+        ensures becomes { Becomes
+            (effect.effect (plan_of B.body self.old) process (op.GetWait res least greatest))
+            self.old self.new }
+    {
+        match self.make_get(event, process, res, least, greatest) {
+            Some(get) => self.wait(event, process, get),
+            None => {}
+        }
+    }
+
+    /// An event that waits at a resource is cancelled, and stays kept. Of what does not wait nothing is done.
+    pub(crate) fn cancel(&mut self, event: EventId, process: ProcId, cancelled: EventId)
+        requires running { IsRunningIn event process self.old.control }
+        requires kept { IsKept self.old.shared.happen.events cancelled }
+        requires few { (kept_at self.old.shared.happen.events cancelled).holders < 2 ^ 60 }
+        requires ready { AreResourcesReady self.old }
+        ensures becomes { BecomesWith 1
+            (effect.effect (plan_of B.body self.old) process (op.Cancel cancelled))
+            self.old self.new }
+    {
+        self.shared.happen_mut().hold(cancelled);
+        self.shared.cancel(cancelled);
+        self.tell(event, process, Signal::Done);
+    }
+}

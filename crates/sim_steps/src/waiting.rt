@@ -1,0 +1,120 @@
+//! Timeouts, and processes that wait (SimPy's "Events" and "Process interaction").
+ghost use Rattle.std.specs.Prelude.{◌≡◌, ◌<◌, ◌^◌, length, IsFalse, IsTrue, IsSome, IfNone, IfSome};
+ghost use Rattle.sim_machine.specs.Effect as effect;
+ghost use Rattle.sim_machine.specs.Processes as processes;
+ghost use Rattle.sim_procs.specs.RecordOf.{record_of};
+ghost use Rattle.sim_events.specs.TableOf.{IsKept, kept_at};
+ghost use Rattle.sim_steps_model.specs.Becoming.{Becomes};
+ghost use Rattle.sim_steps_model.specs.PartsOf.{IsRunningIn};
+ghost use Rattle.sim_steps_model.specs.Waiting.{MakesTimeout, RefusesTimeout};
+
+use crate::parts::Parts;
+use sim_happen::TimeoutFault;
+use sim_procs::Body;
+use sim_types::{Callback, EventId, NEGATIVE_DELAY, ProcId, Signal, TIME_TOO_LATE};
+
+impl<B: Body> Parts<B> {
+    // The running process waits for an event that is not processed, and is resumed by it.
+    fn wait_for(&mut self, event: EventId, process: ProcId, on: EventId)
+        requires running { IsRunningIn event process self.old.control }
+        requires alive { IsSome (record_of process self.old.live) }
+        requires kept { IsKept self.old.shared.happen.events on }
+        requires unprocessed { IsFalse (kept_at self.old.shared.happen.events on).event.processed }
+        requires room { 0 < self.old.shared.happen.spare.callbacks }
+        ensures becomes { Becomes (processes.wait on process) self.old self.new }
+    {
+        self.shared
+            .happen_mut()
+            .register(on, Callback::Resume(process));
+        self.processes.set_target(process, on);
+        self.rest(event);
+    }
+
+    // The running process goes on at once, since the event is processed, and is told how that turned out. A failure that it
+    // is told of ends no run by itself.
+    fn go_on(&mut self, event: EventId, process: ProcId, on: EventId)
+        requires running { IsRunningIn event process self.old.control }
+        requires kept { IsKept self.old.shared.happen.events on }
+        requires processed { IsTrue (kept_at self.old.shared.happen.events on).event.processed }
+        ensures becomes { Becomes (processes.wait on process) self.old self.new }
+    {
+        let told = self.signal_of(on);
+        self.defuse_failed(on);
+        self.tell(event, process, told);
+    }
+
+    /// The running process waits for an event, unless that is processed.
+    pub(crate) fn wait(&mut self, event: EventId, process: ProcId, on: EventId)
+        requires running { IsRunningIn event process self.old.control }
+        requires alive { IsSome (record_of process self.old.live) }
+        requires kept { IsKept self.old.shared.happen.events on }
+        requires room { 0 < self.old.shared.happen.spare.callbacks }
+        ensures becomes { Becomes (processes.wait on process) self.old self.new }
+    {
+        if self.is_processed(on) {
+            self.go_on(event, process, on);
+        } else {
+            self.wait_for(event, process, on);
+        }
+    }
+
+    // A timeout is made, unless its delay is negative or too long: then the running process is told so.
+    fn make_timeout(
+        &mut self,
+        event: EventId,
+        process: ProcId,
+        delay: i64,
+        value: i64,
+    ) -> Option<EventId>
+        requires running { IsRunningIn event process self.old.control }
+        requires room { 0 < self.old.shared.happen.spare.events }
+        requires number { length self.old.shared.happen.events < 2 ^ 62 }
+        ensures refused { IfNone result (RefusesTimeout delay value self.old self.new) }
+        ensures made { IfSome result (λ e. MakesTimeout delay value e self.old self.new) }
+        ensures callbacks { IfSome result (λ e. self.new.shared.happen.spare.callbacks
+            ≡ self.old.shared.happen.spare.callbacks) }
+    {
+        match self.shared.happen_mut().timeout(delay, value) {
+            Ok(timeout) => Some(timeout),
+            Err(TimeoutFault::NegativeDelay) => {
+                self.tell(event, process, Signal::Raised(NEGATIVE_DELAY));
+                None
+            }
+            Err(TimeoutFault::TimeLimit) => {
+                self.tell(event, process, Signal::Raised(TIME_TOO_LATE));
+                None
+            }
+        }
+    }
+
+    /// The running process is told a timeout that is made, unless the delay is negative or too long.
+    pub(crate) fn timeout(&mut self, event: EventId, process: ProcId, delay: i64, value: i64)
+        requires running { IsRunningIn event process self.old.control }
+        requires room { 0 < self.old.shared.happen.spare.events }
+        requires number { length self.old.shared.happen.events < 2 ^ 62 }
+        ensures becomes { Becomes (effect.with_timeout delay value effect.tell_made)
+            self.old self.new }
+    {
+        match self.make_timeout(event, process, delay, value) {
+            Some(timeout) => self.tell(event, process, Signal::Made(timeout)),
+            None => {}
+        }
+    }
+
+    /// The running process pauses: it waits for a timeout that is made, unless the delay is negative or too long.
+    pub(crate) fn pause(&mut self, event: EventId, process: ProcId, delay: i64, value: i64)
+        requires running { IsRunningIn event process self.old.control }
+        requires alive { IsSome (record_of process self.old.live) }
+        requires room_events { 0 < self.old.shared.happen.spare.events }
+        requires room_callbacks { 0 < self.old.shared.happen.spare.callbacks }
+        requires number { length self.old.shared.happen.events < 2 ^ 62 }
+        ensures becomes { Becomes
+            (effect.with_timeout delay value (λ e s. processes.wait e process s))
+            self.old self.new }
+    {
+        match self.make_timeout(event, process, delay, value) {
+            Some(timeout) => self.wait_for(event, process, timeout),
+            None => {}
+        }
+    }
+}

@@ -1,0 +1,67 @@
+-- Conditions that a process makes and asks about, as the machine has it.
+use Rattle.std.proofs.Common.{◌≡◌, ℕ, ◌+◌, ◌≤◌, Bool, true, false, List, [], ◌∷◌, length, refl, sym, ap, subst, ◌∙◌, arith}
+use Rattle.sim_types.specs.declared.event.EventId.{EventId}
+use Rattle.sim_types.specs.declared.event.ProcId.{ProcId}
+use Rattle.sim_types.specs.declared.event.Signal.{Signal}
+use Rattle.sim_types.specs.declared.event.Signal.TheVariants as signal
+use Rattle.sim_types.specs.declared.op.Op.TheVariants as op
+use Rattle.sim_machine.specs.State.{AllOrAny, Calendar, State, Plan}
+use Rattle.sim_machine.specs.Conditions.{is_too_wide, make_condition, has}
+use Rattle.sim_machine.specs.Scopes.{on_events}
+use Rattle.sim_machine.specs.Processes.{tell, told_more}
+use Rattle.sim_machine.specs.Effect.{calendar, effect, number_of, tell_made, with_condition}
+use Rattle.sim_happen_model.specs.HappenOf.{HappenOf, holding, one_more, one_more_each, unheld_event}
+use Rattle.sim_happen_model.specs.Shows.{Shows, Turns}
+use Rattle.sim_happen_law.proofs.NewEvents.{next_is}
+use Rattle.sim_steps_model.specs.PartsOf.{PartsOf, with_happen}
+use Rattle.sim_steps_model.specs.Becoming.{Becomes, BecomesWith, most_held}
+use Rattle.sim_steps_law.proofs.Keeping.{AddsHolders, adds_none, adds_one_more, adds_then, adds_unheld, adds_more}
+use Rattle.sim_steps_law.proofs.Becoming.{becomes_as, becomes_then, becomes_told, becomes_turned, becomes_within}
+
+-- ---- who holds the members
+
+-- each member has a holder more, as often as it stands there
+adds_each : (members : List EventId) → AddsHolders (length members) (one_more_each members)
+adds_each [] = adds_none
+adds_each (e ∷ es) =
+    adds_more (1 + length es) (length (e ∷ es)) (one_more_each (e ∷ es)) (omega arith) (adds_then 1 (length es) (one_more e) (one_more_each es) (adds_one_more e) (adds_each es))
+
+adds_holding : (most : ℕ) (members : List EventId) → length members ≤ most → AddsHolders most (holding members)
+adds_holding most members few =
+    adds_more (length members + 0) most (holding members) (omega (arith, few)) (adds_then (length members) 0 (one_more_each members) unheld_event (adds_each members) (adds_unheld 1))
+
+-- no condition gives an event too many holders
+pub members_are_few : 16 ≤ most_held
+members_are_few = omega arith
+
+-- ---- a condition is made
+
+pub condition_becomes : {B Code : Type 0} (a n : PartsOf B Code) (x : HappenOf) (e : EventId) (sort : AllOrAny) (members : List EventId) →
+    length members ≤ 16 → ((c : Calendar) → Shows a.shared.happen c → is_too_wide members c ≡ false) →
+    Turns (make_condition sort members) (holding members) a.shared.happen x → e.0 ≡ length a.shared.happen.events →
+    n ≡ record (with_happen x a) { control = told_more (signal.Made e) a.control } → BecomesWith 16 (with_condition sort members) a n
+condition_becomes {B} {Code} a n x e sort members few narrow made same is =
+    let makes : State B → State B = on_events (make_condition sort members) in
+    subst (BecomesWith 16 (with_condition sort members) a) (sym is)
+    (becomes_as (λ s. tell_made e (makes s)) (with_condition sort members) a _
+    (λ s h. ap (λ f. tell_made f (makes s)) (sym (next_is a.shared.happen (calendar s) e same h.stands.facilities.calendar)) ∙ rw (narrow (calendar s) h.stands.facilities.calendar) refl)
+    (becomes_then makes (tell_made e) a (with_happen x a) _ (becomes_turned 16 (make_condition sort members) (holding members) a x (adds_holding 16 members few) made) (becomes_told (signal.Made e) (with_happen x a))))
+
+-- one that would weigh too much is not made
+pub wide_becomes : {B Code : Type 0} (a n : PartsOf B Code) (sort : AllOrAny) (members : List EventId) →
+    ((c : Calendar) → Shows a.shared.happen c → is_too_wide members c ≡ true) → n ≡ record a { control = told_more (signal.Raised 10) a.control } →
+    BecomesWith 16 (with_condition sort members) a n
+wide_becomes a n sort members wide is =
+    subst (BecomesWith 16 (with_condition sort members) a) (sym is)
+    (becomes_within 0 16 (with_condition sort members) a _ (omega arith)
+    (becomes_as (tell (signal.Raised 10)) (with_condition sort members) a _ (λ s h. rw (wide (calendar s) h.stands.facilities.calendar) refl) (becomes_told (signal.Raised 10) a)))
+
+-- ---- a condition is asked about
+
+pub has_becomes : {B Code : Type 0} (g : Plan B) (a n : PartsOf B Code) (p : ProcId) (cond e : EventId) (is : Bool) (x : Signal) →
+    ((c : Calendar) → Shows a.shared.happen c → is ≡ has cond e c) → x ≡ signal.Number (number_of is) →
+    n ≡ record a { control = told_more x a.control } → Becomes (effect g p (op.Has cond e)) a n
+has_becomes g a n p cond e is x tells told same =
+    subst (Becomes (effect g p (op.Has cond e)) a) (sym same)
+    (becomes_as (tell x) (effect g p (op.Has cond e)) a _
+    (λ s h. ap (λ y. tell y s) (told ∙ ap (λ b. signal.Number (number_of b)) (tells (calendar s) h.stands.facilities.calendar))) (becomes_told x a))

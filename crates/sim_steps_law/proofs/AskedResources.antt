@@ -1,0 +1,137 @@
+-- What an operation on a resource needs is known of the process that asked for it.
+use Rattle.std.proofs.Common.{◌≡◌, ℕ, ◌+◌, ◌<◌, ◌≤◌, ◌^◌, Bool, true, false, not, List, [], ◌∷◌, length, refl, sym, ap, subst, ◌∙◌, arith}
+use Rattle.std.proofs.lemmas.Bool.{not-true}
+use Rattle.std.specs.List.{AllPass}
+use Rattle.std.proofs.lemmas.List.Elements.{All-head, All-weaker}
+use Rattle.sim_types.specs.declared.event.EventId.{EventId}
+use Rattle.sim_types.specs.declared.event.ProcId.{ProcId}
+use Rattle.sim_types.specs.declared.event.Callback.{Callback}
+use Rattle.sim_types.specs.declared.event.Signal.{Signal}
+use Rattle.sim_types.specs.declared.op.Op.{Op}
+use Rattle.sim_types.specs.declared.setup.ResourceKind.{ResourceKind}
+use Rattle.sim_machine.specs.State.{Calendar, Control, Calling, State}
+use Rattle.sim_machine.specs.Users.{resource_at}
+use Rattle.sim_machine.specs.Bodies.{BodyOf}
+use Rattle.sim_machine.specs.BodyLaw.{IsLawfulPoll, scopes_told}
+use Rattle.sim_machine.specs.MayAsk.{takes_requests, has_resource, may_ask}
+use Rattle.sim_machine.specs.Setups.{FitsCode}
+use Rattle.sim_machine.specs.Standing.{left_of}
+use Rattle.sim_machine.specs.Tellings.{Place, CodeFacts}
+use Rattle.sim_machine.specs.LawfulTries.{tries_well}
+use Rattle.sim_machine_law.proofs.PolledMove.{has_resource_below, has_resource_of}
+use Rattle.sim_procs.specs.RecordOf.{RecordOf}
+use Rattle.sim_events.specs.TableOf.{Spare, kept_at}
+use Rattle.sim_events.specs.Changes.{more_callbacks}
+use Rattle.sim_happen_model.specs.HappenOf.{HappenOf, IsOpen, held}
+use Rattle.sim_happen_model.specs.Shows.{Shows}
+use Rattle.sim_shared_model.specs.Resources.{waiting_at}
+use Rattle.sim_shared_model.specs.SharedOf.{SharedOf}
+use Rattle.sim_shared_model.specs.ShowsAll.{ShowsAll}
+use Rattle.sim_shared_model.specs.Making.{ShowsSome}
+use Rattle.sim_shared_model.specs.Waiting.{AreAllOpen}
+use Rattle.sim_steps_model.specs.PartsOf.{PartsOf, HasUnitRoom, IsRunning, with_happen}
+use Rattle.sim_steps_model.specs.StandsFor.{StandsForSome}
+use Rattle.sim_steps_model.specs.Becoming.{AreAllKept, most_held}
+use Rattle.sim_steps_model.specs.Calling.{TakesCallback}
+use Rattle.sim_steps_model.specs.Polling.{Asks}
+use Rattle.sim_steps_model.specs.Resources.{AreResourcesReady, TakesMoves, TakesRequests}
+use Rattle.sim_steps_law.proofs.Keeping.{are_few}
+use Rattle.sim_steps_law.proofs.Becoming.{shown_with}
+use Rattle.sim_steps_law.proofs.Running.{KeepsLaw, running_can_be_told}
+use Rattle.sim_steps_law.proofs.WaitingRequests.{resources_ready}
+
+-- ---- the process that was polled
+
+-- an operation that comes only at a resource of a kind that passes
+abbrev pub AsksAt : CodeFacts → (ResourceKind → Bool) → ℕ → Op → Type 0
+AsksAt facts test res asked =
+    (own : ProcId) (places : List Place) (scopes : List EventId) → may_ask facts own places scopes asked ≡ true → has_resource facts.resources test res ≡ true
+
+module _ {B Code : Type 0} (body : BodyOf B Code) (old mid : PartsOf B Code) (p : ProcId) (told : Signal) (asked : Op) (a : Asks body p told old asked mid)
+    (h : StandsForSome body old) where
+  pub polled_ready : AreAllKept (2 ^ 40) (held old.shared.happen) → HasUnitRoom old → length old.shared.happen.events + 1 < 2 ^ 62 → AreResourcesReady mid
+  polled_ready all room number = subst (λ k. AreResourcesReady k) (sym a.others) (unpolled old _ (resources_ready body old h all room number))
+    where
+      unpolled : {B Code : Type 0} (k : PartsOf B Code) (live : List (RecordOf B)) → AreResourcesReady k → AreResourcesReady (record k { live = live })
+      unpolled k live r = record { waiting = r.waiting; shown = r.shown; room = record { events = r.room.events; callbacks = r.room.callbacks; conditions = r.room.conditions; places = r.room.places; processes = r.room.processes }; number = r.number }
+
+  -- each event has few holders
+  pub polled_few : AreAllKept (2 ^ 40) (held old.shared.happen) → (e : EventId) → (kept_at mid.shared.happen.events e).holders < 2 ^ 60
+  polled_few all e = rw a.others (are_few old.shared.happen all e)
+
+  module _ (event : EventId) (law : KeepsLaw body old.code) (fits : FitsCode (body.facts old.code) old.setup) (few : length old.shared.happen.events < 2 ^ 62)
+      (running : IsRunning event p told old.control) where
+    -- what it asked for it may ask for
+    pub polled_may : may_ask (body.facts old.code) ((body.tell old.code).own a.later) ((body.tell old.code).places a.later)
+        (scopes_told ((body.tell old.code).scopes a.before) ((body.tell old.code).last a.before) told) asked ≡ true
+    polled_may =
+        let can = running_can_be_told body old event p told a.before h running a.found few in
+        (law.polls a.before old.shared.happen.time told asked a.later can.sound can.told a.turned).asks
+
+    module _ (test : ResourceKind → Bool) (res : ℕ) (at : AsksAt (body.facts old.code) test res asked) where
+      has_it : has_resource old.setup.resources test res ≡ true
+      has_it = subst (λ rs. has_resource rs test res ≡ true) (sym fits.resources) (at ((body.tell old.code).own a.later) ((body.tell old.code).places a.later) (scopes_told ((body.tell old.code).scopes a.before) ((body.tell old.code).last a.before) told) polled_may)
+
+      pub polled_within : res < length mid.setup.resources
+      polled_within = rw a.others (has_resource_below old.setup.resources test res has_it)
+
+      pub polled_kind : test (resource_at mid.setup.resources res).kind ≡ true
+      polled_kind = rw a.others (has_resource_of old.setup.resources test res has_it)
+
+    pub polled_moves_at : (res : ℕ) → AsksAt (body.facts old.code) (λ k. not (takes_requests k)) res asked → TakesMoves res mid
+    polled_moves_at res at =
+        record {
+          within = polled_within (λ k. not (takes_requests k)) res at;
+          stock = not-true (takes_requests (resource_at mid.setup.resources res).kind) (polled_kind (λ k. not (takes_requests k)) res at);
+        }
+
+    pub polled_requests_at : (res : ℕ) → AsksAt (body.facts old.code) takes_requests res asked → TakesRequests res mid
+    polled_requests_at res at = record { within = polled_within takes_requests res at; slots = polled_kind takes_requests res at }
+
+-- one holder more is few
+pub one_is_few : 1 ≤ most_held
+one_is_few = omega arith
+
+-- ---- the callback that was taken out
+
+open_taken : (h : HappenOf) (left : List Callback) (spare : Spare) (e : EventId) → IsOpen h e → IsOpen (record h { left = left; spare = spare }) e
+open_taken h left spare e k = record { kept = k.kept; pending = k.pending; not_cancelled = k.not_cancelled }
+
+shows_taken : (h : HappenOf) (left : List Callback) (spare : Spare) (c : Calendar) → Shows h c → Shows (record h { left = left; spare = spare }) c
+shows_taken h left spare c s =
+    record { time = s.time; scheduled = s.scheduled; agenda = s.agenda; made = s.made; kept = s.kept; unmade = s.unmade }
+
+module _ {B Code : Type 0} (body : BodyOf B Code) (a m : PartsOf B Code) (event : EventId) (x : Callback) (t : TakesCallback event x a m)
+    (h : StandsForSome body a) where
+  pub taken_ready : AreAllKept (2 ^ 40) (held a.shared.happen) → HasUnitRoom a → m.shared.happen.spare ≡ more_callbacks 1 a.shared.happen.spare →
+      length a.shared.happen.events + 1 < 2 ^ 62 → AreResourcesReady m
+  taken_ready all room more number =
+      let r = resources_ready body a h all room number in
+      let y : HappenOf = record a.shared.happen { left = m.shared.happen.left; spare = m.shared.happen.spare } in
+      let s : SharedOf = record a.shared { happen = y } in
+      let is : m.shared ≡ s = ap (λ (k : PartsOf B Code). k.shared) t.others ∙ ap (λ (z : HappenOf). let u : SharedOf = record a.shared { happen = z } in u) t.happen in
+      let waits : AreAllOpen s = record {
+        each = λ res z there. All-weaker (IsOpen a.shared.happen) (IsOpen y) (open_taken a.shared.happen m.shared.happen.left m.shared.happen.spare) (waiting_at z) (r.waiting.each res z there);
+      } in
+      let f = r.shown.facilities in
+      let shows : ShowsAll s f = shown_with a.shared y f f.calendar (omega arith) (shows_taken a.shared.happen m.shared.happen.left m.shared.happen.spare f.calendar r.shown.shown.calendar) r.shown.shown in
+      record {
+        waiting = subst AreAllOpen (sym is) waits;
+        shown = subst ShowsSome (sym is) (record { facilities = f; shown = shows });
+        room = record {
+          events = subst (λ (z : Spare). 40 ≤ z.events) (sym more) room.events;
+          callbacks = subst (λ (z : Spare). 64 ≤ z.callbacks) (sym more) (omega (arith, room.callbacks));
+          conditions = subst (λ (z : Spare). 40 ≤ z.conditions) (sym more) room.conditions;
+          places = ap (λ (z : SharedOf). z.used) is ∙ room.places;
+          processes = subst (λ (k : PartsOf B Code). 1 ≤ k.spare) (sym t.others) room.processes;
+        };
+        number = subst (λ (z : SharedOf). length z.happen.events + 1 < 2 ^ 62) (sym is) number;
+      }
+
+  -- it tries a queue of a resource that there is, if it tries one
+  pub taken_tries : (left : List Callback) → a.control ≡ Calling event (x ∷ left) → tries_well (length m.setup.resources) x ≡ true
+  taken_tries left is =
+      let P : Callback → Type 0 = λ y. tries_well (length a.setup.resources) y ≡ true in
+      let calling : AllPass (tries_well (length a.setup.resources)) (x ∷ left) =
+      subst (λ (c : Control). AllPass (tries_well (length a.setup.resources)) (left_of c)) (sym h.stands.control ∙ is) h.lawful.tries.calling in
+      rw t.others (All-head P x left calling)

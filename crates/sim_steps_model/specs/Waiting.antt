@@ -1,0 +1,20 @@
+-- What comes of a timeout that the running process asks for.
+use Rattle.std.specs.Prelude.{ℤ, IsFalse}
+use Rattle.sim_types.specs.declared.event.EventId.{EventId}
+use Rattle.sim_machine.specs.State.{State}
+use Rattle.sim_machine.specs.Effect.{with_timeout}
+use Rattle.sim_events.specs.TableOf.{IsKept, kept_at}
+use Rattle.sim_steps_model.specs.PartsOf.{PartsOf, KeepsButHappen}
+use Rattle.sim_steps_model.specs.Becoming.{Becomes}
+
+-- none is made, and the process is told why
+pub record RefusesTimeout {B Code : Type 0} (delay value : ℤ) (old new : PartsOf B Code) : Type 0 where
+  pub each : (after : EventId → State B → State B) → Becomes (with_timeout delay value after) old new
+
+-- e is made, which is kept and not processed, and whatever comes after it comes then
+pub record MakesTimeout {B Code : Type 0} (delay value : ℤ) (e : EventId) (old new : PartsOf B Code) : Type 0 where
+  pub each : (after : EventId → State B → State B) (last : PartsOf B Code) → Becomes (after e) new last →
+      Becomes (with_timeout delay value after) old last
+  pub kept : IsKept new.shared.happen.events e
+  pub unprocessed : IsFalse (kept_at new.shared.happen.events e).event.processed
+  pub others : KeepsButHappen old new
