@@ -9,18 +9,8 @@ use Rattle.sim_types.specs.declared.op.Op.{Op}
 use Rattle.sim_types.specs.declared.op.Op.TheVariants as op
 use Rattle.sim_machine_law.proofs.PlainBodies.{is_plain}
 use Rattle.sim_machine.specs.Setups.{FitsCode, start_fits, until_fits, resource_fits, port_fits}
-use Rattle.sim_steps_model.specs.Built.{AsksForBuilt, is_built}
 use Rattle.sim_bodies.specs.Travellers.{traveller_facts, traveller_body, next_is_plain}
 use Rattle.sim_bodies.specs.Clocks.{clock_facts, clock_body, tick_plain}
-
-plain_built : (asked : Op) → is_plain asked ≡ true → IsTrue (is_built asked)
-plain_built op.Nop h = refl
-plain_built (op.Pause delay value) h = refl
-plain_built (op.Log value) h = refl
-plain_built (op.Draw lo hi) h = refl
-plain_built (op.Finish value) h = refl
-plain_built (op.Die t) h = refl
-plain_built _ h = absurd cc
 
 -- a traveller of each kind is given two numbers
 pub traveller_start_fits : (kind : ℕ) (first second : ℤ) → kind < 3 →
@@ -46,13 +36,6 @@ land_fits until starts fits few pass =
       few_starts = few;
       starts = pass;
     }
-
--- travellers and clocks ask for operations that are built
-pub travellers_ask_for_built : {Code : Type 0} (code : Code) → AsksForBuilt traveller_body code
-travellers_ask_for_built code = record { asks = λ b time told asked later sound turned. rw turned.0 (plain_built _ (next_is_plain b told)) }
-
-pub clocks_ask_for_built : (pace : ℤ) → AsksForBuilt clock_body pace
-clocks_ask_for_built pace = record { asks = λ b time told asked later sound turned. rw turned.0 (plain_built _ (tick_plain pace time b.last)) }
 
 -- a setup with one clock
 pub clock_start_fits :

@@ -4,7 +4,6 @@ ghost use Rattle.sim_machine.specs.Bodies.{start_of};
 ghost use Rattle.sim_machine.specs.NumberBounds.{most_events};
 ghost use Rattle.sim_machine.specs.Setups.{FitsCode, start_fits, until_fits};
 ghost use Rattle.sim_procs.specs.Premises.{CanBegin, CanBeTold};
-ghost use Rattle.sim_steps_model.specs.Built.{AsksForBuilt};
 ghost use Rattle.sim_bodies.specs.Travellers.{traveller_facts};
 
 use crate::{Car, Clock, Land, Pace, Road, Traveller};
@@ -31,7 +30,6 @@ fn lines_of_units<B: Body>(
     limit: u32,
 ) -> Result<Vec<Line>, AllocError>
     requires code { code.now ≡ kernel.old.parts.code }
-    requires asks { AsksForBuilt B.body code.now }
     requires units { kernel.old.units ≡ 0 }
 {
     let mut lines = Vec::new(alloc);
@@ -64,7 +62,6 @@ fn lines_of_run<B: Body>(
     limit: u32,
 ) -> Result<Vec<Line>, AllocError>
     requires fits { FitsCode (B.body.facts code.now) setup.now }
-    requires asks { AsksForBuilt B.body code.now }
 {
     let mut kernel = Kernel::<B>::new(alloc, code, setup, seed)?;
     let lines = lines_of_units(alloc, &mut kernel, code, limit);
@@ -119,7 +116,7 @@ fn land_starts(
 }
 
 // The lines of a run of these travellers, of 100 units at most.
-#[tactic(auto, using(crate::proofs::TestSetups::land_fits, crate::proofs::TestSetups::travellers_ask_for_built))]
+#[tactic(auto, using(crate::proofs::TestSetups::land_fits))]
 fn land_run(
     rt: &impl Abort,
     alloc: Global,
@@ -157,7 +154,7 @@ fn land_runs_so(
 }
 
 // The lines of a run of so many clocks.
-#[tactic(auto, using(crate::proofs::TestSetups::clock_start_fits, crate::proofs::TestSetups::clocks_ask_for_built))]
+#[tactic(auto, using(crate::proofs::TestSetups::clock_start_fits))]
 fn clock_run(alloc: Global, delay: i64, limit: u32) -> Result<Vec<Line>, AllocError> {
     let mut starts = List::new(alloc);
     starts.push(Start {

@@ -1,7 +1,6 @@
 //! A kernel stands for a lawful state of the machine, and makes one unit of it at a time.
 ghost use Rattle.std.specs.Prelude.{◌≡◌, ◌+◌, ◌<◌, ◌^◌, IfOk, OnOk, OnErr};
 ghost use Rattle.sim_machine.specs.Setups.{FitsCode};
-ghost use Rattle.sim_steps_model.specs.Built.{AsksForBuilt};
 ghost use Rattle.sim_steps_model.specs.PartsOf.{IsOpenedAs};
 ghost use Rattle.sim_steps_model.specs.Resting.{CanStep, rest_in};
 ghost use Rattle.sim_steps_model.specs.StandsFor.{IsLawfulOpening, StandsForOpening};
@@ -72,7 +71,6 @@ impl<B: Body> Kernel<B> {
     pub fn unit(&mut self, code: &B::Code) -> Result<Unit, AllocError>
         requires code { code.now ≡ self.old.parts.code }
         requires can { CanStep self.old.parts }
-        requires asks { AsksForBuilt B.body code.now }
         requires units { self.old.units < 2 ^ 32 }
         // From each lawful state that it stood for, and by the invariant there is one.
         ensures steps { IfOk result (λ unit. MakesStep B.body self.old.parts unit self.new.parts) }

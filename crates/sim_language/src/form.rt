@@ -166,19 +166,10 @@ impl Form {
     pub fn is_built(self) -> bool
         ensures { result ≡ is_built self }
     {
-        match self {
-            Form::Resource
-            | Form::Priority
-            | Form::Preemptive
-            | Form::Port
-            | Form::Journal
-            | Form::After
-            | Form::Poster
-            | Form::Post
-            | Form::With
-            | Form::Release => false,
-            _ => true,
-        }
+        !matches!(
+            self,
+            Form::Port | Form::Journal | Form::After | Form::Poster | Form::Post
+        )
     }
 
     /// Whether the form begins with `x =`.

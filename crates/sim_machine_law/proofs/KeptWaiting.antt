@@ -46,6 +46,10 @@ scope_parts rs s x h =
 pub scope_alive : {B : Type 0} (rs : List Resource) (s : State B) (x : OpenScope) → is_scope_well rs s x ≡ true → is_alive x.process s ≡ true
 scope_alive rs s x h = (scope_parts rs s x h).0
 
+-- and its request was made
+pub scope_made : {B : Type 0} (rs : List Resource) (s : State B) (x : OpenScope) → is_scope_well rs s x ≡ true → was_made s.facilities.calendar x.request ≡ true
+scope_made rs s x h = (scope_parts rs s x h).1
+
 scope_grown : {B : Type 0} (rs : List Resource) (s t : State B) (x : OpenScope)
     → Grown s.facilities.calendar t.facilities.calendar → (is_alive x.process s ≡ true → is_alive x.process t ≡ true)
     → is_scope_well rs s x ≡ true → is_scope_well rs t x ≡ true

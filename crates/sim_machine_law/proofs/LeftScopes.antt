@@ -77,15 +77,15 @@ first_of_more [] v y = refl
 first_of_more (x ∷ xs) v y = refl
 
 -- is that of the scopes that were opened later
-innermost_later : (y v : OpenScope) (ys : List OpenScope) → first_of_list (reverse (y ∷ v ∷ ys)) ≡ first_of_list (reverse (v ∷ ys))
+pub innermost_later : (y v : OpenScope) (ys : List OpenScope) → first_of_list (reverse (y ∷ v ∷ ys)) ≡ first_of_list (reverse (v ∷ ys))
 innermost_later y v ys =
     let later : reverse (v ∷ ys) ≡ reverse ys ++ v ∷ [] = reverse-append (v ∷ []) ys in
     ap first_of_list (reverse-append (y ∷ []) (v ∷ ys)) ∙ (ap (λ (zs : List OpenScope). first_of_list (zs ++ y ∷ [])) later ∙ (first_of_more (reverse ys) v y ∙ sym (ap first_of_list later)))
 
-none_is_some : (z : OpenScope) → None ≡ Some z → ⊥
+pub none_is_some : (z : OpenScope) → None ≡ Some z → ⊥
 none_is_some z h = false≢true (sym (ap (λ (o : Option OpenScope). is_none o) h))
 
-one_is_some : (y z : OpenScope) → Some y ≡ Some z → y ≡ z
+pub one_is_some : (y z : OpenScope) → Some y ≡ Some z → y ≡ z
 one_is_some y z h = ap (λ (o : Option OpenScope). unwrap_or o y) h
 
 pub innermost_one : (ys : List OpenScope) (z : OpenScope) → first_of_list (reverse ys) ≡ Some z → IsOneOf ys z
@@ -125,18 +125,24 @@ filter_all : {X : Type 0} (p : X → Bool) (xs : List X) → All (λ x. p x ≡ 
 filter_all p [] h = refl
 filter_all p (x ∷ xs) h = rw (All-head (λ y. p y ≡ true) x xs h) (ap (λ zs. x ∷ zs) (filter_all p xs (All-tail (λ y. p y ≡ true) x xs h)))
 
--- the requests of another process stay
-pub requests_elsewhere : (xs : List OpenScope) (z : OpenScope) (q : ProcId) → AllPairs AreOfTwo xs → IsOneOf xs z
-    → is_process z.process q ≡ false → requests_in q (filter (keeps z.request) xs) ≡ requests_in q xs
-requests_elsewhere xs z q k one apart =
+-- the scopes of another process stay
+pub scopes_elsewhere : (xs : List OpenScope) (z : OpenScope) (q : ProcId) → AllPairs AreOfTwo xs → IsOneOf xs z
+    → is_process z.process q ≡ false
+    → filter (λ x. is_process x.process q) (filter (keeps z.request) xs) ≡ filter (λ x. is_process x.process q) xs
+scopes_elsewhere xs z q k one apart =
     let test : OpenScope → Bool = λ x. is_process x.process q in
     let all : All (λ y. test y ≡ true → keeps z.request y ≡ true) xs = All-weaker (IsOneOf xs) (λ y. test y ≡ true → keeps z.request y ≡ true) (λ y at is. stays y at is) xs (all_one_of xs) in
     let kept : All (λ y. keeps z.request y ≡ true) (filter test xs) = λ n y below. All-filter test (λ v. test v ≡ true → keeps z.request v ≡ true) xs all n y below (filter_passes test xs n y below) in
-    ap (map (λ (x : OpenScope). x.request)) (filter_swap test (keeps z.request) xs ∙ filter_all (keeps z.request) (filter test xs) kept)
+    filter_swap test (keeps z.request) xs ∙ filter_all (keeps z.request) (filter test xs) kept
   where
     stays : (y : OpenScope) → IsOneOf xs y → is_process y.process q ≡ true → keeps z.request y ≡ true
     stays y at is =
         not_from_false (is_same y.request z.request) (fails_by (is_same y.request z.request) false (λ same. absurd (both_ways (is_process z.process q) apart (ap (λ (v : OpenScope). is_process v.process q) (sym (same_scope xs y z k at one (is_same-yes y.request z.request same))) ∙ is))) refl)
+
+-- and so their requests do
+pub requests_elsewhere : (xs : List OpenScope) (z : OpenScope) (q : ProcId) → AllPairs AreOfTwo xs → IsOneOf xs z
+    → is_process z.process q ≡ false → requests_in q (filter (keeps z.request) xs) ≡ requests_in q xs
+requests_elsewhere xs z q k one apart = ap (map (λ (x : OpenScope). x.request)) (scopes_elsewhere xs z q k one apart)
 
 -- and those of its own but the innermost
 pub requests_left : (xs : List OpenScope) (z : OpenScope) (p : ProcId)

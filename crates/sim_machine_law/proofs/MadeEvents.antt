@@ -229,8 +229,12 @@ timeout_made : {B : Type 0} (delay value : ℤ) (after : EventId → State B →
 timeout_made {B} delay value after s same =
     let c : Calendar = calendar s in
     timeout_cases (λ t. made_by t ≤ made_by s + 1) delay value after s (omega arith) (omega arith)
-    (λ low high. omega (arith, same (next_event c) (on_events (make_timeout delay value) s), make-length kind.Timeout c,
-    change_event-length (next_event c) (λ y. record y { outcome = Some (outcome.Ok value) }) (make kind.Timeout c)))
+    (λ low high. omega (
+      arith,
+      same (next_event c) (on_events (make_timeout delay value) s),
+      make-length kind.Timeout c,
+      change_event-length (next_event c) (λ y. record y { outcome = Some (outcome.Ok value) }) (make kind.Timeout c),
+    ))
 
 move_made : {B : Type 0} (g : Plan B) (res : ℕ) (amount : ℤ) (made : Facilities → Facilities) (after : EventId → State B → State B) (s : State B) →
     ((e : EventId) (t : State B) → made_by (after e t) ≡ made_by t) → made_in (made s.facilities) ≤ made_by s + 2 →
@@ -304,8 +308,13 @@ dropped_made {B} q value s =
     let test : OpenScope → Bool = λ x. is_process x.process q in
     let t : State B = stop_waiting q s in
     let u : State B = record t { control = strip_resume q t.control } in
-    omega (arith, change_event-length (event_of q) (λ y. record y { outcome = Some (outcome.Ok value) }) (calendar (leave_all q u)), all_closed_made (scopes_inwards q u) u,
-    length-reverse (filter test s.scopes), length-map (filter test s.scopes) (λ (x : OpenScope). x.request))
+    omega (
+      arith,
+      change_event-length (event_of q) (λ y. record y { outcome = Some (outcome.Ok value) }) (calendar (leave_all q u)),
+      all_closed_made (scopes_inwards q u) u,
+      length-reverse (filter test s.scopes),
+      length-map (filter test s.scopes) (λ (x : OpenScope). x.request),
+    )
 
 another_made : {B : Type 0} (p q : ProcId) (does : State B → State B) (s : State B) → (is_alive q s ≡ true → made_by (does s) ≤ made_by s + most_scopes) →
     made_by (to_another p q does s) ≤ made_by s + most_scopes

@@ -11,6 +11,5 @@ pub mod Leaving
 pub mod Doing
 pub mod Taking
 pub mod ScriptLaw
-pub mod AskingWithoutScopes
 pub mod SetupFits
 pub mod Readiness

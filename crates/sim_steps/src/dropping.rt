@@ -15,9 +15,7 @@ use crate::parts::Parts;
 use sim_happen::Happen;
 use sim_procs::{Body, ProcRecord};
 use sim_shared::Shared;
-use sim_types::{
-    Callback, ENDED_PROCESS, EventId, PROCESS_ITSELF, ProcId, Scope, Signal,
-};
+use sim_types::{Callback, ENDED_PROCESS, EventId, PROCESS_ITSELF, ProcId, Scope, Signal};
 
 // The process waits for its target no longer, and where its resumption is left to call it is taken out.
 fn stop_waiting(happen: &mut Happen, process: ProcId, target: EventId)
@@ -28,8 +26,8 @@ fn stop_waiting(happen: &mut Happen, process: ProcId, target: EventId)
     happen.strip(Callback::Resume(process));
 }
 
-// A scope is left. Its request has a holder more, so that it is kept where it waited and is cancelled.
-fn leave_scope(shared: &mut Shared, scope: Scope)
+/// A scope is left. Its request has a holder more, so that it is kept where it waited and is cancelled.
+pub(crate) fn leave_scope(shared: &mut Shared, scope: Scope)
     requires can { CanLeave (scope ∷ []) shared.old }
     requires held { AreAllKept (2 ^ 41) (held shared.old.happen) }
     requires spare_events { 0 < shared.old.happen.spare.events }

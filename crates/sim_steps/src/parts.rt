@@ -3,7 +3,6 @@ ghost use Rattle.sim_machine.specs.Processes.{told_more, not_active};
 ghost use Rattle.sim_machine.specs.Setups.{FitsCode};
 ghost use Rattle.sim_happen_model.specs.HappenOf.{held};
 ghost use Rattle.sim_steps_model.specs.Becoming.{AreAllKept, Moves};
-ghost use Rattle.sim_steps_model.specs.Built.{AsksForBuilt};
 ghost use Rattle.sim_steps_model.specs.Resting.{CanStep, rest_in};
 ghost use Rattle.sim_steps_model.specs.PartsOf.{HasUnitRoom, IsRunningIn, IsRunningAt, KeepsButRoom};
 ghost use Rattle.sim_steps_model.specs.StandsFor.{StandsForSome};
@@ -109,7 +108,6 @@ impl<B: Body> Parts<B> {
         requires code { code.now ≡ self.old.code }
         requires stands { StandsForSome B.body self.old }
         requires can { CanStep self.old }
-        requires asks { AsksForBuilt B.body code.now }
         requires fits { FitsCode (B.body.facts code.now) self.old.setup }
         requires room { HasUnitRoom self.old }
         requires kept { AreAllKept (2 ^ 40) (held self.old.shared.happen) }

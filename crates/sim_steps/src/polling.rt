@@ -2,7 +2,6 @@
 ghost use Rattle.std.specs.Prelude.{◌≡◌, ◌+◌, ◌<◌, ◌≤◌, ◌^◌, IsTrue, length};
 ghost use Rattle.sim_machine.specs.Setups.{FitsCode};
 ghost use Rattle.sim_steps_model.specs.Becoming.{AreAllKept, Moves};
-ghost use Rattle.sim_steps_model.specs.Built.{AsksForBuilt, is_built};
 ghost use Rattle.sim_steps_model.specs.PartsOf.{HasUnitRoom, IsRunning};
 ghost use Rattle.sim_steps_model.specs.Polling.{Asks, NamesKept};
 ghost use Rattle.sim_steps_model.specs.StandsFor.{StandsForSome};
@@ -14,15 +13,14 @@ use sim_steps_model::Unit;
 use sim_types::{EventId, FAILURE, Line, Op, Outcome, ProcId, Signal, Throw};
 
 impl<B: Body> Parts<B> {
-    // Polls the body of the running process: it is told this, and asks for an operation, which is built.
+    // Polls the body of the running process: it is told this, and asks for an operation.
     fn poll_body(&mut self, code: &B::Code, event: EventId, process: ProcId, told: Signal) -> Op
         requires code { code.now ≡ self.old.code }
         requires stands { StandsForSome B.body self.old }
         requires running { IsRunning event process told self.old.control }
-        requires built { AsksForBuilt B.body code.now }
         requires events { length self.old.shared.happen.events < 2 ^ 62 }
         ensures asked { Asks B.body process told self.old result self.new }
-        ensures built { IsTrue (is_built result) }
+        ensures resources { self.new.shared.setup ≡ self.new.setup.resources }
     {
         let time = self.shared.happen().now();
         self.processes.body_mut(process).poll(code, time, told)
@@ -33,12 +31,11 @@ impl<B: Body> Parts<B> {
         requires code { code.now ≡ self.old.code }
         requires stands { StandsForSome B.body self.old }
         requires running { IsRunning event process told self.old.control }
-        requires built { AsksForBuilt B.body code.now }
         requires fits { FitsCode (B.body.facts code.now) self.old.setup }
         requires kept { AreAllKept (2 ^ 40) (held self.old.shared.happen) }
         requires events { length self.old.shared.happen.events < 2 ^ 62 }
         ensures asked { Asks B.body process told self.old result self.new }
-        ensures built { IsTrue (is_built result) }
+        ensures resources { self.new.shared.setup ≡ self.new.setup.resources }
         ensures names { NamesKept (B.body.facts code.now) result self.new }
     {
         self.poll_body(code, event, process, told)
@@ -55,7 +52,6 @@ impl<B: Body> Parts<B> {
         requires code { code.now ≡ self.old.code }
         requires stands { StandsForSome B.body self.old }
         requires running { IsRunning event process told self.old.control }
-        requires built { AsksForBuilt B.body code.now }
         requires fits { FitsCode (B.body.facts code.now) self.old.setup }
         requires room { HasUnitRoom self.old }
         requires kept { AreAllKept (2 ^ 40) (held self.old.shared.happen) }
@@ -82,10 +78,16 @@ impl<B: Body> Parts<B> {
             }
             Op::Spawn(kind, args) => self.spawn(code, event, process, kind, args),
             Op::Interrupt(other, cause) => self.interrupt(event, process, other, cause),
+            Op::Drop(other, value) => self.drop_process(event, process, other, value),
             Op::Chain(source, other) => self.chain(event, process, source, other),
             Op::AllOf(members) => self.make_condition(event, process, true, members),
             Op::AnyOf(members) => self.make_condition(event, process, false, members),
             Op::Has(condition, other) => self.has(event, process, condition, other),
+            Op::Enter(res, priority, preempts) => {
+                self.enter(event, process, res, priority, preempts)
+            }
+            Op::Leave => self.leave(event, process),
+            Op::Release(request) => self.release(event, process, request),
             Op::Put(res, amount, priority) => self.put(event, process, res, amount, priority),
             Op::PutWait(res, amount, priority) => {
                 self.put_wait(event, process, res, amount, priority)
@@ -108,7 +110,6 @@ impl<B: Body> Parts<B> {
                     value,
                 });
             }
-            _ => unreachable!(),
         }
         Unit::Quiet
     }

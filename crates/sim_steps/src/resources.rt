@@ -1,20 +1,24 @@
 //! What processes ask of resources, and the tries that follow (SimPy's "Shared resources").
-ghost use Rattle.std.specs.Prelude.{◌≡◌, ◌<◌, ◌^◌, length, IsSome, IfNone, IfSome};
+ghost use Rattle.std.specs.Prelude.{◌≡◌, ◌<◌, ◌^◌, [], ◌∷◌, length, option_and_then, IsSome, IsSomeAnd, IfNone, IfSome};
 ghost use Rattle.sim_types.specs.declared.event.Callback.TheVariants as callback;
 ghost use Rattle.sim_types.specs.declared.op.Op.TheVariants as op;
 ghost use Rattle.sim_machine.specs.Effect as effect;
+ghost use Rattle.sim_machine.specs.MayAsk.{most_scopes};
 ghost use Rattle.sim_machine.specs.Requests as requests;
-ghost use Rattle.sim_procs.specs.RecordOf.{record_of};
+ghost use Rattle.sim_procs.specs.RecordOf.{record_of, innermost, scope_of};
 ghost use Rattle.sim_events.specs.TableOf.{IsKept, kept_at};
-ghost use Rattle.sim_steps_model.specs.Becoming.{Becomes, BecomesWith};
+ghost use Rattle.sim_happen_model.specs.HappenOf.{held};
+ghost use Rattle.sim_steps_model.specs.Becoming.{AreAllKept, Becomes, BecomesWith};
 ghost use Rattle.sim_steps_model.specs.Calling.{called};
+ghost use Rattle.sim_steps_model.specs.Dropping.{CanLeave};
 ghost use Rattle.sim_steps_model.specs.PartsOf.{IsCalling, IsRunningIn, plan_of};
-ghost use Rattle.sim_steps_model.specs.Resources.{AreResourcesReady, TakesMoves, MakesMove, RefusesMove};
+ghost use Rattle.sim_steps_model.specs.Resources.{AreResourcesReady, TakesMoves, TakesRequests, MakesMove, RefusesMove};
 
+use crate::dropping::leave_scope;
 use crate::parts::Parts;
 use sim_procs::Body;
-use sim_shared::NotPositive;
-use sim_types::{AMOUNT_NOT_POSITIVE, EventId, ProcId, Signal};
+use sim_shared::{NotPositive, OwnVictim};
+use sim_types::{AMOUNT_NOT_POSITIVE, EventId, PROCESS_ITSELF, ProcId, Scope, Signal};
 
 impl<B: Body> Parts<B> {
     /// The requests or puts at a resource are tried.
@@ -208,6 +212,74 @@ impl<B: Body> Parts<B> {
     {
         self.shared.happen_mut().hold(cancelled);
         self.shared.cancel(cancelled);
+        self.tell(event, process, Signal::Done);
+    }
+
+    /// The running process is told a request that is made, and whose scope is open from now on. One that would preempt the
+    /// process itself is not made.
+    pub(crate) fn enter(
+        &mut self,
+        event: EventId,
+        process: ProcId,
+        res: u32,
+        priority: i64,
+        preempts: bool,
+    )
+        requires running { IsRunningIn event process self.old.control }
+        requires scopes { IsSomeAnd (record_of process self.old.live)
+            (λ r. length r.scopes < most_scopes) }
+        requires resource { TakesRequests res self.old }
+        requires ready { AreResourcesReady self.old }
+        ensures becomes { Becomes
+            (effect.enter (plan_of B.body self.old) process res priority preempts)
+            self.old self.new }
+    {
+        match self.shared.request(res, process, priority, preempts) {
+            Ok(request) => {
+                self.processes.push_scope(process, Scope { request, res });
+                self.tell(event, process, Signal::Made(request));
+            }
+            Err(OwnVictim) => self.tell(event, process, Signal::Raised(PROCESS_ITSELF)),
+        }
+    }
+
+    /// The innermost open scope of the running process is left: its request is cancelled where it waits, stays kept, and
+    /// is released in any case.
+    pub(crate) fn leave(&mut self, event: EventId, process: ProcId)
+        requires running { IsRunningIn event process self.old.control }
+        requires scope { IsSomeAnd
+            (option_and_then (λ r. innermost r.scopes) (record_of process self.old.live))
+            (λ x. CanLeave (x ∷ []) self.old.shared) }
+        requires kept { AreAllKept (2 ^ 40) (held self.old.shared.happen) }
+        requires ready { AreResourcesReady self.old }
+        ensures becomes { BecomesWith 1
+            (effect.effect (plan_of B.body self.old) process op.Leave)
+            self.old self.new }
+    {
+        match self.processes.pop_scope(process) {
+            Some(scope) => leave_scope(&mut self.shared, scope),
+            None => unreachable!(),
+        }
+        self.tell(event, process, Signal::Done);
+    }
+
+    /// A request in an open scope of the running process is released early. Its scope stays open.
+    pub(crate) fn release(&mut self, event: EventId, process: ProcId, request: EventId)
+        requires running { IsRunningIn event process self.old.control }
+        requires scope { IsSomeAnd
+            (option_and_then (λ r. scope_of request r.scopes) (record_of process self.old.live))
+            (λ x. CanLeave (x ∷ []) self.old.shared) }
+        requires ready { AreResourcesReady self.old }
+        ensures becomes { Becomes
+            (effect.effect (plan_of B.body self.old) process (op.Release request))
+            self.old self.new }
+    {
+        match self.processes.scope(process, request) {
+            Some(scope) => {
+                self.shared.release(scope.res, request);
+            }
+            None => unreachable!(),
+        }
         self.tell(event, process, Signal::Done);
     }
 }

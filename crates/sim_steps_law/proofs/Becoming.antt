@@ -3,19 +3,22 @@ use Rattle.std.proofs.Common.{◌≡◌, ℕ, ◌+◌, ◌≤◌, List, Option, 
 use Rattle.std.proofs.lemmas.List.{length-map}
 use Rattle.std.specs.List.Sorted.{IsPermutation}
 use Rattle.std.proofs.lemmas.List.Sorted.{IsPermutation-map}
+use Rattle.std.proofs.lemmas.Bool.{lt-ltb, ltb-true}
+use Rattle.std.specs.Prelude.{All}
 use Rattle.std.proofs.lemmas.List.Elements.{All-weaker}
 use Rattle.rand_pcg.specs.Pcg.{pcg64}
 use Rattle.sim_types.specs.declared.event.ProcId.{ProcId}
 use Rattle.sim_types.specs.declared.event.Signal.{Signal}
 use Rattle.sim_types.specs.declared.line.Line.{Line}
-use Rattle.sim_machine.specs.State.{Calendar, Facilities, ProcessOf, Control, State}
+use Rattle.sim_machine.specs.State.{OpenScope, Calendar, Facilities, ProcessOf, Control, State}
 use Rattle.sim_machine.specs.Events.{is_process}
 use Rattle.sim_machine.specs.Trying.{on_calendar}
 use Rattle.sim_machine.specs.Scopes.{on_facilities, on_events}
 use Rattle.sim_machine.specs.Bodies.{BodyOf}
+use Rattle.sim_machine.specs.Standing.{was_made}
 use Rattle.sim_machine.specs.LawfulWaiting.{is_scope_well}
 use Rattle.sim_machine.specs.Processes.{is_alive, change_process, told_more, not_active, tell, rest, write_line}
-use Rattle.sim_machine_law.proofs.KeptWaiting.{scope_alive}
+use Rattle.sim_machine_law.proofs.KeptWaiting.{scope_alive, scope_made}
 use Rattle.sim_machine_law.proofs.KeptWaitingPolls.{alive_changed}
 use Rattle.sim_procs.specs.RecordOf.{RecordOf, change_record}
 use Rattle.sim_happen_model.specs.HappenOf.{HappenOf, held, as_before, unheld_event}
@@ -43,6 +46,7 @@ lawful_stands body a s h st =
       distinct = h.processes.distinct;
       owned = All-weaker (λ x. is_scope_well a.setup.resources s x ≡ true) (λ x. is_alive x.process s ≡ true) (λ x well. scope_alive a.setup.resources s x well) s.scopes h.waiting.scopes;
       apart = h.waiting.apart;
+      entered = All-weaker (λ x. is_scope_well a.setup.resources s x ≡ true) (λ x. was_made s.facilities.calendar x.request ≡ true) (λ x well. scope_made a.setup.resources s x well) s.scopes h.waiting.scopes;
     }
 
 -- ---- one change after another
@@ -79,12 +83,31 @@ stands_on_facilities change a x s shows h =
       control = h.control;
     }
 
+pub no_fewer : (more : ℕ) (holds : List (Option ℕ) → List (Option ℕ)) (a x : HappenOf) → AddsHolders more holds → held x ≡ holds (held a) →
+    length a.events ≤ length x.events
+no_fewer more holds a x adds is =
+    omega (arith, adds.longer (held a), ap (λ (hs : List (Option ℕ)). length hs) is, length-map a.events holders_at, length-map x.events holders_at)
+
+-- what was made was made as long as no event is lost
+pub entered_still : (c d : Calendar) (xs : List OpenScope) → length c.events ≤ length d.events → All (λ x. was_made c x.request ≡ true) xs →
+    All (λ x. was_made d x.request ≡ true) xs
+entered_still c d xs longer h =
+    All-weaker (λ x. was_made c x.request ≡ true) (λ x. was_made d x.request ≡ true)
+    (λ x made. lt-ltb x.request.0 (length d.events) (omega (arith, ltb-true x.request.0 (length c.events) made, longer))) xs h
+
 -- each event has so many holders more at most
 pub becomes_turned_all : {B Code : Type 0} (more : ℕ) (change : Facilities → Facilities) (holds : List (Option ℕ) → List (Option ℕ)) (a : PartsOf B Code)
     (x : SharedOf) → AddsHolders more holds → TurnsAll change holds a.shared x → BecomesWith more (on_facilities change) a (record a { shared = x })
 becomes_turned_all more change holds a x adds t =
     record {
-      each = λ s h. record { stands = stands_on_facilities change a x s (t.each s.facilities) h.stands; distinct = h.distinct; owned = h.owned; apart = h.apart };
+      each = λ s h. record {
+        stands = stands_on_facilities change a x s (t.each s.facilities) h.stands;
+        distinct = h.distinct;
+        owned = h.owned;
+        apart = h.apart;
+        entered = entered_still s.facilities.calendar (change s.facilities).calendar s.scopes
+            (omega (arith, no_fewer more holds a.shared.happen x.happen adds t.held, h.stands.facilities.calendar.made, (t.each s.facilities h.stands.facilities).calendar.made)) h.entered;
+      };
       opened = record { code = refl; setup = refl; seed = refl };
       kept = keeps_by more holds a (record a { shared = x }) adds t.held;
     }
@@ -110,11 +133,6 @@ shown_with a x f d more s h =
       resources = λ res y there. shown_later a.setup res y f d (h.resources res y there);
       tidy = tidy_later (length a.setup) f d (omega (arith, h.calendar.made, s.made, more)) h.tidy;
     }
-
-pub no_fewer : (more : ℕ) (holds : List (Option ℕ) → List (Option ℕ)) (a x : HappenOf) → AddsHolders more holds → held x ≡ holds (held a) →
-    length a.events ≤ length x.events
-no_fewer more holds a x adds is =
-    omega (arith, adds.longer (held a), ap (λ (hs : List (Option ℕ)). length hs) is, length-map a.events holders_at, length-map x.events holders_at)
 
 pub becomes_turned : {B Code : Type 0} (more : ℕ) (change : Calendar → Calendar) (holds : List (Option ℕ) → List (Option ℕ)) (a : PartsOf B Code)
     (x : HappenOf) → AddsHolders more holds → Turns change holds a.shared.happen x → BecomesWith more (on_events change) a (with_happen x a)
@@ -155,7 +173,7 @@ pub becomes_controlled : {B Code : Type 0} (f : Control → Control) (a : PartsO
     Becomes (λ s. record s { control = f s.control }) a (record a { control = f a.control })
 becomes_controlled f a =
     record {
-      each = λ s h. record { stands = stands_controlled a s (f a.control) (f s.control) (ap f h.stands.control) h.stands; distinct = h.distinct; owned = h.owned; apart = h.apart };
+      each = λ s h. record { stands = stands_controlled a s (f a.control) (f s.control) (ap f h.stands.control) h.stands; distinct = h.distinct; owned = h.owned; apart = h.apart; entered = h.entered };
       opened = record { code = refl; setup = refl; seed = refl };
       kept = keeps_same a (record a { control = f a.control }) refl;
     }
@@ -183,6 +201,7 @@ becomes_written line a =
         distinct = h.distinct;
         owned = h.owned;
         apart = h.apart;
+        entered = h.entered;
       };
       opened = record { code = refl; setup = refl; seed = refl };
       kept = keeps_same a a refl;
@@ -206,6 +225,7 @@ becomes_drawn a =
         distinct = h.distinct;
         owned = h.owned;
         apart = h.apart;
+        entered = h.entered;
       };
       opened = record { code = refl; setup = refl; seed = refl };
       kept = keeps_same a (record a { generator = (pcg64 a.generator).1 }) refl;
@@ -233,6 +253,7 @@ becomes_changed {B} p change changes a same ids scopes keeps =
             distinct = changed_distinct p changes s keeps h.distinct;
             owned = All-weaker (λ x. is_alive x.process s ≡ true) (λ x. is_alive x.process (change_process p changes s) ≡ true) (λ x lives. alive_changed p x.process changes s keeps ∙ lives) s.scopes h.owned;
             apart = h.apart;
+            entered = h.entered;
           };
       opened = record { code = refl; setup = refl; seed = refl };
       kept = keeps_same a (record a { live = change_record p change a.live }) refl;

@@ -126,6 +126,7 @@ becomes_taken {B} {Code} a m event x t =
             distinct = h.distinct;
             owned = h.owned;
             apart = h.apart;
+            entered = h.entered;
           };
       opened = record { code = refl; setup = refl; seed = refl };
       kept = keeps_same a b refl;

@@ -1,8 +1,8 @@
 -- What the drop of a process needs is known of each lawful state.
-use Rattle.std.proofs.Common.{◌≡◌, ◌≢◌, ℕ, ◌<◌, ◌≤◌, ◌^◌, Bool, true, false, ◌&&◌, List, [], ◌∷◌, Option, Some, None, length, filter, map, refl, sym, ap, subst, ◌∙◌, arith, get_or, All}
-use Rattle.std.specs.Prelude.{◌==◌, reverse, nat_lt, not, is_none}
+use Rattle.std.proofs.Common.{◌≡◌, ◌≢◌, ◌<◌, ◌^◌, Bool, true, false, ◌&&◌, List, [], ◌∷◌, Option, Some, None, length, filter, map, refl, sym, ap, subst, ◌∙◌, arith, get_or, cond, if◌then◌else◌, All}
+use Rattle.std.specs.Prelude.{◌==◌, is_none, IfSome}
 use Rattle.std.specs.Option.{option_map}
-use Rattle.std.proofs.lemmas.Bool.{and_parts, eqb-true, false≢true, ltb-true, not-true}
+use Rattle.std.proofs.lemmas.Bool.{and_parts, eqb-true, false≢true, ltb-true}
 use Rattle.std.proofs.lemmas.List.{length-map}
 use Rattle.std.proofs.lemmas.List.Elements.{All-cons, All-filter, All-head, All-nil, All-tail}
 use Rattle.std.proofs.lemmas.List.Folds.{Any-from_list_any}
@@ -12,16 +12,17 @@ use Rattle.sim_types.specs.declared.event.EventKind.TheVariants as kind
 use Rattle.sim_types.specs.declared.event.ProcId.{ProcId}
 use Rattle.sim_types.specs.declared.event.Scope.{Scope}
 use Rattle.sim_types.specs.declared.setup.Resource.{Resource}
-use Rattle.sim_machine.specs.State.{EventOf, Calendar, Facilities, OpenScope, ProcessOf, State, Waiter, Want, Slot, Give, Take, Plan}
+use Rattle.sim_types.specs.declared.event.Signal.{Signal}
+use Rattle.sim_types.specs.declared.op.Op.{Op}
+use Rattle.sim_machine.specs.State.{EventOf, Calendar, Facilities, OpenScope, State, Waiter, Want, Slot, Give, Take}
 use Rattle.sim_machine.specs.Events.{is_same, is_process, event_at, is_pending}
 use Rattle.sim_machine.specs.Users.{resource_at}
 use Rattle.sim_machine.specs.Processes.{event_of, is_alive, process_at}
-use Rattle.sim_machine.specs.MayAsk.{most_scopes, takes_requests}
 use Rattle.sim_machine.specs.Bodies.{BodyOf}
 use Rattle.sim_machine.specs.Standing.{was_made, kind_at}
 use Rattle.sim_machine.specs.LawfulProcesses.{is_living_well, is_process_kind}
 use Rattle.sim_machine.specs.LawfulCapacities.{waits_for_fitting}
-use Rattle.sim_machine.specs.LawfulWaiting.{KnowsItsScopes, has_scope, is_get_kind, is_put_kind, is_request_kind, is_scope_well, request_has_scope, requests_of}
+use Rattle.sim_machine.specs.LawfulWaiting.{KnowsItsScopes, is_get_kind, is_put_kind, is_request_kind, request_has_scope}
 use Rattle.sim_machine_law.proofs.EventLaws.{same_event}
 use Rattle.sim_machine_law.proofs.FollowingCalendars.{uncancelled_kind}
 use Rattle.sim_machine_law.proofs.KeptBodies.{find_has, four_parts}
@@ -32,9 +33,10 @@ use Rattle.sim_procs.specs.RecordOf.{RecordOf, record_of}
 use Rattle.sim_happen_model.specs.HappenOf.{held}
 use Rattle.sim_happen_law.proofs.Following.{read_is}
 use Rattle.sim_events.specs.TableOf.{IsKept}
-use Rattle.sim_steps_model.specs.PartsOf.{PartsOf, plan_of}
+use Rattle.sim_steps_model.specs.PartsOf.{PartsOf}
 use Rattle.sim_steps_model.specs.StandsFor.{StandsForSome, process_of, scopes_of}
 use Rattle.sim_steps_model.specs.Becoming.{AreAllKept}
+use Rattle.sim_steps_model.specs.Polling.{Asks}
 use Rattle.sim_steps_model.specs.Dropping.{CanBeDropped, CanBeLeft}
 use Rattle.sim_steps_law.proofs.Keeping.{made_is_kept}
 use Rattle.sim_steps_law.proofs.Running.{process_found}
@@ -149,3 +151,39 @@ module _ {B Code : Type 0} (body : BodyOf B Code) (parts : PartsOf B Code) (h : 
           each = All-reverse (CanBeLeft parts.shared.setup s.facilities) r.scopes (rw scopes (mapped_all (CanBeLeft parts.shared.setup s.facilities) scope (filter test s.scopes) (All-filter test (λ x. CanBeLeft parts.shared.setup s.facilities (scope x)) s.scopes scope_can)));
         };
       }
+
+-- ---- in the midst of a poll, when the body of the running process is in its new state
+
+record_either : {B : Type 0} (q : ProcId) (change : RecordOf B → RecordOf B) (r : RecordOf B) (o m : Option (RecordOf B)) (b : Bool) → (r.id.0 == q.0) ≡ b →
+    (change r).id ≡ r.id → o ≡ option_map change m →
+    cond ((change r).id.0 == q.0) (Some (change r)) o ≡ option_map change (cond b (Some r) m)
+record_either q change r o m true is id h = rw (id, is) refl
+record_either q change r o m false is id h = rw (id, is) h
+
+record_mapped : {B : Type 0} (q : ProcId) (change : RecordOf B → RecordOf B) → ((r : RecordOf B) → (change r).id ≡ r.id) → (live : List (RecordOf B)) →
+    record_of q (map change live) ≡ option_map change (record_of q live)
+record_mapped q change ids [] = refl
+record_mapped q change ids (r ∷ live) =
+    record_either q change r (record_of q (map change live)) (record_of q live) (r.id.0 == q.0) refl (ids r) (record_mapped q change ids live)
+
+-- each process that is alive can be dropped
+pub polled_droppable : {B Code : Type 0} (body : BodyOf B Code) (old mid : PartsOf B Code) (p : ProcId) (told : Signal) (asked : Op) →
+    StandsForSome body old → AreAllKept (2 ^ 40) (held old.shared.happen) → old.shared.setup ≡ old.setup.resources → Asks body p told old asked mid →
+    (q : ProcId) → IfSome (record_of q mid.live) (λ r. CanBeDropped r mid.shared)
+polled_droppable {B} body old mid p told asked h all same a q =
+    let change : RecordOf B → RecordOf B = λ r. if r.id.0 == p.0 then record r { body = a.later } else r in
+    let P : Option (RecordOf B) → Type 0 = λ o. IfSome o (λ r. CanBeDropped r old.shared) in
+    rw a.others (subst P (sym (record_mapped q change (λ r. same_id_of r (r.id.0 == p.0) a.later) old.live)) (at_record (record_of q old.live) refl))
+  where
+    same_id_of : (r : RecordOf B) (b : Bool) (later : B) → (if b then record r { body = later } else r).id ≡ r.id
+    same_id_of r true later = refl
+    same_id_of r false later = refl
+
+    polled_can : (r : RecordOf B) (b : Bool) → CanBeDropped r old.shared → CanBeDropped (if b then record r { body = a.later } else r) old.shared
+    polled_can r true can = record { target = can.target; is_open = can.is_open; apart = can.apart; few = can.few; can = can.can }
+    polled_can r false can = can
+
+    at_record : (o : Option (RecordOf B)) → record_of q old.live ≡ o →
+        IfSome (option_map (λ r. if r.id.0 == p.0 then record r { body = a.later } else r) o) (λ r. CanBeDropped r old.shared)
+    at_record None found = tt
+    at_record (Some r) found = polled_can r (r.id.0 == p.0) (can_be_dropped body old h all same q r found)

@@ -11,7 +11,6 @@ use Rattle.std.proofs.lemmas.List.Sorted.{IsPermutation-map, IsPermutation-trans
 use Rattle.sim_types.specs.declared.event.EventId.{EventId}
 use Rattle.sim_types.specs.declared.event.ProcId.{ProcId}
 use Rattle.sim_types.specs.declared.event.Callback.{Callback}
-use Rattle.sim_types.specs.declared.event.Outcome.{Outcome}
 use Rattle.sim_types.specs.declared.event.Outcome.TheVariants as outcome
 use Rattle.sim_types.specs.declared.event.Signal.TheVariants as signal
 use Rattle.sim_types.specs.declared.event.Scope.{Scope}
@@ -19,17 +18,17 @@ use Rattle.sim_types.proofs.Permutations.{IsPermutation-without}
 use Rattle.sim_machine.specs.State.{EventOf, Calendar, Facilities, OpenScope, ProcessOf, State}
 use Rattle.sim_machine.specs.Events.{is_same, is_process, event_at, unregister, without_first, is_resume_of}
 use Rattle.sim_machine.specs.Triggering.{trigger}
-use Rattle.sim_machine.specs.Scopes.{close_scope, leave_all, scopes_inwards}
+use Rattle.sim_machine.specs.Scopes.{close_scope, leave_all}
 use Rattle.sim_machine.specs.Processes.{event_of, end_process, is_alive, drop_process, strip_resume, target_of, process_at, tell, told_more}
 use Rattle.sim_machine.specs.Requests.{leave}
+use Rattle.sim_machine.specs.Standing.{was_made}
 use Rattle.sim_machine.specs.Effect.{to_another}
 use Rattle.sim_machine.specs.MayAsk.{most_scopes}
 use Rattle.sim_machine.specs.LawfulWaiting.{AreOfTwo}
-use Rattle.sim_machine_law.proofs.EventLaws.{is_same-self}
 use Rattle.sim_machine_law.proofs.KeptTimesCases.{if_cases}
 use Rattle.sim_machine_law.proofs.KeptWaitingPolls.{alive_without}
 use Rattle.sim_machine_law.proofs.ClosedScopes.{SameButOne, filter_twice, same_left}
-use Rattle.sim_machine_law.proofs.DroppedProcess.{scopeless_state, stopped_state}
+use Rattle.sim_machine_law.proofs.DroppedProcess.{stopped_state}
 use Rattle.sim_machine_law.proofs.DroppedWaiting.{All-reverse, alone_each, any-reverse, covered_itself}
 use Rattle.sim_procs.specs.RecordOf.{RecordOf, record_of}
 use Rattle.sim_happen_model.specs.HappenOf.{HappenOf, IsOpen, as_before, held}
@@ -46,7 +45,7 @@ use Rattle.sim_steps_model.specs.StandsFor.{process_of, scopes_of}
 use Rattle.sim_steps_model.specs.Becoming.{AreAllKept, Stands, BecomesWith}
 use Rattle.sim_steps_model.specs.Dropping.{CanBeDropped, CanBeLeft, CanLeave, Leaves, StopsWaiting, leave_each}
 use Rattle.sim_steps_law.proofs.Keeping.{adds_none, all_kept_weaker, made_is_kept}
-use Rattle.sim_steps_law.proofs.Becoming.{becomes_as, becomes_then, becomes_told, becomes_within, no_fewer, shown_with}
+use Rattle.sim_steps_law.proofs.Becoming.{entered_still, becomes_as, becomes_then, becomes_told, becomes_within, no_fewer, shown_with}
 use Rattle.sim_steps_law.proofs.Ending.{differ, found_id, same_id, scopes_found}
 use Rattle.sim_steps_law.proofs.Interruptions.{alive_is, target_is}
 
@@ -215,6 +214,16 @@ dropped_becomes {B} {Code} q value a n d =
                 let y : OpenScope = get_or (filter stays s.scopes) k x in
                 alive_without q y.process s (not-true (mine y) (filter_passes stays s.scopes k x below)) (All-filter stays (λ v. is_alive v.process s ≡ true) s.scopes h.owned k x below);
             apart = AllPairs-filter AreOfTwo (λ y. not (mine y)) s.scopes h.apart;
+            entered = entered_still s.facilities.calendar (trigger (event_of q) (outcome.Ok value) u.facilities.calendar) (filter (λ y. not (mine y)) s.scopes)
+                (omega (
+                  arith,
+                  same_events,
+                  d.leaves.made,
+                  no_fewer 0 as_before d.left.happen d.ended adds_none d.follows.held,
+                  h.stands.facilities.calendar.made,
+                  (d.follows.each u.facilities.calendar left_shown.calendar).made,
+                ))
+                (All-filter (λ y. not (mine y)) (λ y. was_made s.facilities.calendar y.request ≡ true) s.scopes h.entered);
           }));
       opened = rw d.is (record { code = refl; setup = refl; seed = refl });
       kept = record { kept = dropped_held q value a n d };

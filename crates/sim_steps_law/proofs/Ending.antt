@@ -41,7 +41,7 @@ use Rattle.sim_steps_model.specs.StandsFor.{StandsForSome, process_of, scopes_of
 use Rattle.sim_steps_model.specs.Becoming.{AreAllKept, Becomes}
 use Rattle.sim_steps_model.specs.Polling.{Asks}
 use Rattle.sim_steps_law.proofs.Keeping.{adds_none, made_is_kept, keeps_same}
-use Rattle.sim_steps_law.proofs.Becoming.{no_fewer, shown_with}
+use Rattle.sim_steps_law.proofs.Becoming.{entered_still, no_fewer, shown_with}
 use Rattle.sim_steps_law.proofs.Polls.{running_is, found_record}
 use Rattle.sim_steps_law.proofs.Running.{KeepsLaw, process_found, running_can_be_told}
 
@@ -94,6 +94,9 @@ ended_becomes {B} a n x p o r live spare found none others follows is =
             distinct = AllPairs-filter (λ y z. y.id ≢ z.id) (λ y. not (is_process y.id p)) s.processes h.distinct;
             owned = still_owned s p h.owned (scopes_found p a.live r s found h.stands.scopes ∙ none);
             apart = h.apart;
+            entered = entered_still s.facilities.calendar (trigger (event_of p) o s.facilities.calendar) s.scopes
+                (omega (arith, no_fewer 0 as_before a.shared.happen x adds_none follows.held, h.stands.facilities.calendar.made, (follows.each s.facilities.calendar h.stands.facilities.calendar).made))
+                h.entered;
           };
       opened = record { code = refl; setup = refl; seed = refl };
       kept = keeps_same a (record (with_happen x a) { live = live; control = not_active a.control; spare = spare }) follows.held;

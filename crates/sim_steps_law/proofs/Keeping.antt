@@ -6,6 +6,7 @@ use Rattle.std.proofs.lemmas.Bool.Decides.{nat_tests}
 use Rattle.std.proofs.lemmas.List.{length-map, length-append, length-set, get_or-set_same}
 use Rattle.std.proofs.lemmas.List.Elements.{All-cons, All-head, All-tail, All-nil, All-append, All-set, All-weaker}
 use Rattle.std.proofs.Math.ListN.{get_or-map}
+use Rattle.sim_machine.specs.MayAsk.{most_scopes}
 use Rattle.sim_types.specs.declared.event.EventId.{EventId}
 use Rattle.sim_events.specs.TableOf.{Kept, IsKept, kept_at}
 use Rattle.sim_happen_model.specs.HappenOf.{HappenOf, AreHeldByFew, held, as_before, unheld_event, one_more, none_if_unheld, gone_if_unheld}
@@ -154,3 +155,6 @@ keeps_more m n a b few p = record { kept = λ most h. all_kept_weaker (most + m)
 -- what gives no event a holder more gives none too many
 pub none_is_few : 0 ≤ most_held
 none_is_few = omega arith
+
+pub scopes_are_few : most_scopes ≤ most_held
+scopes_are_few = omega arith

@@ -1,6 +1,6 @@
 -- Scopes are left one after another.
 use Rattle.std.proofs.Common.{◌≡◌, ◌≢◌, ℕ, ◌+◌, ◌<◌, ◌≤◌, Bool, true, false, ◌||◌, not, List, [], ◌∷◌, ◌++◌, Option, Some, None, length, filter, refl, sym, ap, subst, ◌∙◌, arith, inl, inr, All}
-use Rattle.std.specs.Prelude.{◌==◌, slice_get, slice_index_or, reverse, is_none}
+use Rattle.std.specs.Prelude.{◌==◌, slice_index_or, reverse, is_none}
 use Rattle.std.specs.Option.{option_map}
 use Rattle.std.specs.List.{list_any, AllPass}
 use Rattle.std.proofs.lemmas.Bool.{cases_Bool, false≢true, false_from_ne_true, eqb-true}
@@ -10,11 +10,8 @@ use Rattle.std.proofs.lemmas.List.Elements.{All-cons, All-filter, All-head, All-
 use Rattle.std.proofs.lemmas.List.Sums.{fold-append}
 use Rattle.sim_types.specs.declared.event.EventId.{EventId}
 use Rattle.sim_types.specs.declared.event.Scope.{Scope}
-use Rattle.sim_types.specs.declared.setup.Resource.{Resource}
 use Rattle.sim_machine.specs.State.{EventOf, Calendar, Facilities, Waiter}
 use Rattle.sim_machine.specs.Events.{is_same, event_at, is_pending}
-use Rattle.sim_machine.specs.Users.{resource_at}
-use Rattle.sim_machine.specs.MayAsk.{takes_requests}
 use Rattle.sim_machine.specs.Standing.{was_made, kind_at}
 use Rattle.sim_machine.specs.LawfulWaiting.{may_wait_kind, waits_well}
 use Rattle.sim_machine.specs.Requests as requests
@@ -30,7 +27,6 @@ use Rattle.sim_happen_model.specs.HappenOf.{HappenOf, IsOpen, held, one_more, un
 use Rattle.sim_happen_model.specs.Shows.{Turns}
 use Rattle.sim_happen_law.proofs.Following.{read_is}
 use Rattle.sim_happen_law.proofs.Held.{holders_at}
-use Rattle.sim_shared_model.specs.declared.resource.SharedResource.{SharedResource}
 use Rattle.sim_shared_model.specs.Resources.{waiting_at}
 use Rattle.sim_shared_model.specs.SharedOf.{SharedOf}
 use Rattle.sim_shared_model.specs.ShowsAll.{ShowsAll, TurnsAll}
@@ -60,10 +56,10 @@ waiting_parts c [] e h k = absurd (false≢true k)
 waiting_parts c (w ∷ ws) e h k =
     elim (cases_Bool (is_same w.event e)) [
       | inl is ↦
-        let P : EventId → Type 0 = λ n. (was_made c n ≡ true) × (is_pending c n ≡ true) × (not (event_at c n).cancelled ≡ true) in
-        let n : EventId = w.event in
-        let parts = four_parts (was_made c n) (is_pending c n) (not (event_at c n).cancelled) (may_wait_kind (kind_at c n)) (All-head (λ v. waits_well c v ≡ true) w ws h) in
-        subst P (is_same-yes w.event e is) (parts.0, parts.1, parts.2)
+          let P : EventId → Type 0 = λ n. (was_made c n ≡ true) × (is_pending c n ≡ true) × (not (event_at c n).cancelled ≡ true) in
+          let n : EventId = w.event in
+          let parts = four_parts (was_made c n) (is_pending c n) (not (event_at c n).cancelled) (may_wait_kind (kind_at c n)) (All-head (λ v. waits_well c v ≡ true) w ws h) in
+          subst P (is_same-yes w.event e is) (parts.0, parts.1, parts.2)
       | inr other ↦ waiting_parts c ws e (All-tail (λ v. waits_well c v ≡ true) w ws h) (rw other at k)
     ]
 

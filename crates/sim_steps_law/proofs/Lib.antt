@@ -21,8 +21,11 @@ pub mod WaitingRequests
 pub mod Moves
 pub mod AskedResources
 pub mod LeavingEach
+pub mod EnteredScopes
+pub mod HeldScopes
 pub mod DroppedProcesses
 pub mod DroppableProcesses
+pub mod AskedScopes
 -- the opening
 pub mod Rooms
 pub mod Made

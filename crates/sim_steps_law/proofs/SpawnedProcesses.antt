@@ -48,7 +48,7 @@ use Rattle.sim_steps_model.specs.Becoming.{AreAllKept, Becomes}
 use Rattle.sim_steps_model.specs.Polling.{Asks, NamesKept}
 use Rattle.sim_steps_model.specs.Opening.{next_process, Begins}
 use Rattle.sim_steps_law.proofs.Keeping.{adds_unheld, keeps_by}
-use Rattle.sim_steps_law.proofs.Becoming.{becomes_then, becomes_as, becomes_told}
+use Rattle.sim_steps_law.proofs.Becoming.{no_fewer, entered_still, becomes_then, becomes_as, becomes_told}
 use Rattle.sim_steps_law.proofs.Beginning.{begun_stands, next_processes}
 use Rattle.sim_steps_law.proofs.Interruptions.{alive_is}
 use Rattle.sim_steps_law.proofs.Starting.{none_of}
@@ -100,6 +100,13 @@ begun_becomes {B} {Code} body old new k args none b =
             distinct = distinct_joined s y (subst (λ r. is_alive r s ≡ false) same ended) h.distinct;
             owned = All-weaker (λ x. is_alive x.process s ≡ true) (λ x. list_any (λ z. is_process z.id x.process) (s.processes ++ y ∷ []) ≡ true) (λ x lives. alive_joined s y x.process lives) s.scopes h.owned;
             apart = h.apart;
+            entered = entered_still s.facilities.calendar (make_process (plan_of body old) k args s).facilities.calendar s.scopes
+                (omega (
+                  arith,
+                  no_fewer 0 (unheld_events 2) old.shared.happen new.shared.happen (adds_unheld 2) b.happen.held,
+                  h.stands.facilities.calendar.made,
+                  (begun_stands body old new k args s b (scopes_of_none p s ended h.owned) h.stands).facilities.calendar.made,
+                )) h.entered;
           };
       opened = record { code = rw b.others refl; setup = rw b.others refl; seed = rw b.others refl };
       kept = keeps_by 0 (unheld_events 2) old new (adds_unheld 2) b.happen.held;

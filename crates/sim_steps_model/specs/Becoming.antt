@@ -3,6 +3,7 @@ use Rattle.std.specs.Prelude.{◌≡◌, ◌≢◌, ◌+◌, ◌≤◌, ℕ, Lis
 use Rattle.sim_machine.specs.State.{State}
 use Rattle.sim_machine.specs.Processes.{is_alive}
 use Rattle.sim_machine.specs.Bodies.{BodyOf}
+use Rattle.sim_machine.specs.Standing.{was_made}
 use Rattle.sim_machine.specs.LawfulWaiting.{AreOfTwo}
 use Rattle.sim_happen_model.specs.HappenOf.{held}
 use Rattle.sim_steps_model.specs.PartsOf.{PartsOf, IsOpenedAs}
@@ -18,12 +19,13 @@ pub record KeepsAll {B Code : Type 0} (more : ℕ) (old new : PartsOf B Code) : 
   pub kept : (most : ℕ) → AreAllKept most (held old.shared.happen) → AreAllKept (most + more) (held new.shared.happen)
 
 -- the kernel stands for the state, whose processes have different numbers, and whose open scopes are of live processes and
--- of different requests; in the midst of a unit it need not be lawful
+-- of different requests that were made; in the midst of a unit it need not be lawful
 pub record Stands {B Code : Type 0} (parts : PartsOf B Code) (s : State B) : Type 0 where
   pub stands : StandsFor parts s
   pub distinct : AllPairs (λ x y. x.id ≢ y.id) s.processes
   pub owned : All (λ x. IsTrue (is_alive x.process s)) s.scopes
   pub apart : AllPairs AreOfTwo s.scopes
+  pub entered : All (λ x. IsTrue (was_made s.facilities.calendar x.request)) s.scopes
 
 -- whatever state the kernel stood for, it stands for what the change makes of it; what it was opened with stays, and so
 -- do all events, each with so many holders more at most

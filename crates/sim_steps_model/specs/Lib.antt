@@ -2,7 +2,6 @@ pub mod PartsOf
 pub mod StandsFor
 pub mod Becoming
 pub mod Resources
-pub mod Built
 pub mod Calling
 pub mod Conditions
 pub mod Dropping

@@ -1,14 +1,13 @@
 -- What the resources of a kernel need, and what comes of a put or get that the running process asks for.
 use Rattle.std.specs.Prelude.{ℕ, ℤ, ◌+◌, ◌<◌, ◌^◌, length, IsTrue, IsFalse}
 use Rattle.sim_types.specs.declared.event.EventId.{EventId}
-use Rattle.sim_types.specs.declared.event.Scope.{Scope}
 use Rattle.sim_machine.specs.State.{Facilities, State, Plan}
 use Rattle.sim_machine.specs.Users.{resource_at}
 use Rattle.sim_machine.specs.MayAsk.{takes_requests}
 use Rattle.sim_machine.specs.Effect.{with_move}
 use Rattle.sim_events.specs.TableOf.{IsKept}
 use Rattle.sim_shared_model.specs.Making.{ShowsSome}
-use Rattle.sim_shared_model.specs.Waiting.{AreAllOpen, WaitsAtMostAt}
+use Rattle.sim_shared_model.specs.Waiting.{AreAllOpen}
 use Rattle.sim_steps_model.specs.PartsOf.{PartsOf, HasUnitRoom}
 use Rattle.sim_steps_model.specs.Becoming.{Becomes}
 
@@ -44,9 +43,3 @@ pub record MakesMove {B Code : Type 0}
       Becomes (after e) new last → Becomes (with_move g res amount change after) old last
   pub kept : IsKept new.shared.happen.events e
   pub room : 0 < new.shared.happen.spare.callbacks
-
--- the request of an open scope is kept, at a resource that takes requests, and waits nowhere else
-pub record IsScopeKnown {B Code : Type 0} (parts : PartsOf B Code) (x : Scope) : Type 0 where
-  pub resource : TakesRequests x.res parts
-  pub kept : IsKept parts.shared.happen.events x.request
-  pub here : WaitsAtMostAt x.request x.res parts.shared

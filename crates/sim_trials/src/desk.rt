@@ -171,7 +171,7 @@ fn writes_what_fits(rt: HostRuntime) {
         bytes: b"ok\n",
     };
     assert!(rt; writes_fronts_for(&rt, alloc, "run 1000", ONE_TIMEOUT, ONE_TIMEOUT_TRACE));
-    assert!(rt; writes_fronts_for(&rt, alloc, "run 1000", "scenario 2\n", bad_header));
+    assert!(rt; writes_fronts_for(&rt, alloc, "run 1000", "scenario 3\n", bad_header));
     assert!(rt; writes_fronts_for(&rt, alloc, "check", ONE_TIMEOUT, ok));
-    assert!(rt; writes_fronts_for(&rt, alloc, "check", "scenario 2\n", bad_header));
+    assert!(rt; writes_fronts_for(&rt, alloc, "check", "scenario 3\n", bad_header));
 }

@@ -2,13 +2,9 @@ use Rattle.std.proofs.Common.{[], refl, sym, ap, ◌∙◌, append-nil, true}
 use Rattle.sim_outside.proofs.Written.{told_err, none_written, none_to_write, as_well, as_failed}
 use Rattle.sim_engine.specs.EngineFaults.{is_write}
 use Rattle.sim_engine.specs.StandsForRun.{added_text}
-use Rattle.sim_engine.proofs.ScriptsRun.{script_asks_for_built}
 use Rattle.sim_engine.proofs.RunUnits.{unit_stands, unit_adds_line}
 use Rattle.sim_engine.proofs.RunTexts.{none_added, line_added}
 use Rattle.sim_engine.proofs.run.write_unit.Goals as goal
-
-pub unit-requires-clause-asks : goal.unit-requires-clause-asks
-unit-requires-clause-asks g c = script_asks_for_built c.args.scenario.now c.requires.stands.built
 
 pub returns-in_err-unit-clause-writes : goal.returns-in_err-unit-clause-writes
 returns-in_err-unit-clause-writes g c =

@@ -1,17 +1,20 @@
-use Rattle.std.proofs.Common.{[], ◌∷◌, rules, w64, FitsSigned, ◌∙◌, ap, refl, arith, true}
+use Rattle.std.proofs.Common.{◌^◌, [], ◌∷◌, rules, w64, FitsSigned, ◌∙◌, ap, refl, arith, true}
 use Rattle.std.proofs.lemmas.Int.{to_z-of_z}
 use Rattle.sim_types.specs.declared.event.Signal.TheVariants as signal
 use Rattle.sim_types.specs.declared.op.Op.TheVariants as op
 use Rattle.sim_steps_model.specs.declared.mode.Unit.TheVariants as unit
+use Rattle.sim_machine.specs.MayAsk.{most_scopes}
 use Rattle.sim_steps_model.specs.PartsOf.{PartsOf}
 use Rattle.sim_steps_law.proofs.Becoming.{becomes_told}
 use Rattle.sim_steps_law.proofs.AskedConditions.{members_are_few}
-use Rattle.sim_steps_law.proofs.Keeping.{none_is_few}
+use Rattle.sim_steps_law.proofs.DroppableProcesses.{polled_droppable}
+use Rattle.sim_steps_law.proofs.Keeping.{none_is_few, scopes_are_few}
 use Rattle.sim_steps_law.proofs.Polls.{polled_moves, logged_moves}
 use Rattle.sim_steps_law.proofs.Naming.{first_named, second_named, first_triggered}
 use Rattle.sim_steps_law.proofs.Ending.{polled_alive, ended_scopes, polled_open}
 use Rattle.sim_steps_law.proofs.SpawnedProcesses.{polled_time, spawned_can_begin, spawned_none}
-use Rattle.sim_steps_law.proofs.AskedResources.{one_is_few, polled_few, polled_moves_at, polled_ready, polled_within}
+use Rattle.sim_steps_law.proofs.AskedResources.{one_is_few, polled_few, polled_may, polled_moves_at, polled_ready, polled_requests_at, polled_within}
+use Rattle.sim_steps_law.proofs.AskedScopes.{entered_at, polled_innermost, polled_kept, polled_scope, polled_scopes}
 use Rattle.sim_steps.proofs.parts.Parts.poll.Goals as goal
 
 pub pause-requires-clause-alive : goal.pause-requires-clause-alive
@@ -185,6 +188,21 @@ returns-in-Chain g c =
       moves = polled_moves g.B.LawfulBody.body 0 c.args.self.now c.ask.new.self _ c.args.event c.args.process c.args.told (op.Chain c.in-Chain.source c.in-Chain.other) unit.Quiet c.requires.running c.in-Chain.ensures.asked refl none_is_few c.chain.ensures.becomes;
     }
 
+pub drop_process-requires-clause-can : goal.drop_process-requires-clause-can
+drop_process-requires-clause-can g c =
+    polled_droppable g.B.LawfulBody.body c.args.self.now c.ask.new.self c.args.process c.args.told (op.Drop c.in-Drop.other c.in-Drop.value) c.requires.stands c.requires.kept (rw c.in-Drop.ensures.asked.others at c.in-Drop.ensures.resources) c.in-Drop.ensures.asked c.in-Drop.other
+
+pub drop_process-requires-clause-held : goal.drop_process-requires-clause-held
+drop_process-requires-clause-held g c = polled_kept g.B.LawfulBody.body c.args.self.now c.ask.new.self c.args.process c.args.told (op.Drop c.in-Drop.other c.in-Drop.value) c.in-Drop.ensures.asked (2 ^ 40) c.requires.kept
+
+pub returns-in-Drop : goal.returns-in-Drop
+returns-in-Drop g c =
+    let value : FitsSigned w64 c.in-Drop.value = search rules in
+    let becomes = rw (to_z-of_z w64 c.in-Drop.value value) at c.drop_process.ensures.becomes in
+    record {
+      moves = polled_moves g.B.LawfulBody.body most_scopes c.args.self.now c.ask.new.self _ c.args.event c.args.process c.args.told (op.Drop c.in-Drop.other c.in-Drop.value) unit.Quiet c.requires.running c.in-Drop.ensures.asked refl scopes_are_few becomes;
+    }
+
 pub returns-in-AllOf : goal.returns-in-AllOf
 returns-in-AllOf g c =
     record {
@@ -302,4 +320,58 @@ pub returns-in-Cancel : goal.returns-in-Cancel
 returns-in-Cancel g c =
     record {
       moves = polled_moves g.B.LawfulBody.body 1 c.args.self.now c.ask.new.self _ c.args.event c.args.process c.args.told (op.Cancel c.in-Cancel.cancelled) unit.Quiet c.requires.running c.in-Cancel.ensures.asked refl one_is_few c.cancel.ensures.becomes;
+    }
+
+pub enter-requires-clause-scopes : goal.enter-requires-clause-scopes
+enter-requires-clause-scopes g c =
+    let may = polled_may g.B.LawfulBody.body c.args.self.now c.ask.new.self c.args.process c.args.told (op.Enter c.in-Enter.res c.in-Enter.priority c.in-Enter.preempts) c.in-Enter.ensures.asked c.requires.stands c.args.event (g.B.LawfulBody.lawful c.args.self.now.code) (rw c.requires.code at c.requires.fits) (omega (arith, c.requires.events)) c.requires.running in
+    polled_scopes g.B.LawfulBody.body c.args.self.now c.ask.new.self c.args.process c.args.told (op.Enter c.in-Enter.res c.in-Enter.priority c.in-Enter.preempts) c.in-Enter.ensures.asked c.requires.stands c.args.event (g.B.LawfulBody.lawful c.args.self.now.code) (rw c.requires.code at c.requires.fits) (omega (arith, c.requires.events)) c.requires.running c.in-Enter.res may
+
+pub enter-requires-clause-resource : goal.enter-requires-clause-resource
+enter-requires-clause-resource g c =
+    polled_requests_at g.B.LawfulBody.body c.args.self.now c.ask.new.self c.args.process c.args.told (op.Enter c.in-Enter.res c.in-Enter.priority c.in-Enter.preempts) c.in-Enter.ensures.asked c.requires.stands c.args.event (g.B.LawfulBody.lawful c.args.self.now.code) (rw c.requires.code at c.requires.fits) (omega (arith, c.requires.events)) c.requires.running c.in-Enter.res (entered_at (g.B.LawfulBody.body.facts c.args.self.now.code) c.in-Enter.res c.in-Enter.priority c.in-Enter.preempts)
+
+pub enter-requires-clause-ready : goal.enter-requires-clause-ready
+enter-requires-clause-ready g c =
+    polled_ready g.B.LawfulBody.body c.args.self.now c.ask.new.self c.args.process c.args.told (op.Enter c.in-Enter.res c.in-Enter.priority c.in-Enter.preempts) c.in-Enter.ensures.asked c.requires.stands c.requires.kept c.requires.room (omega (arith, c.requires.events))
+
+pub returns-in-Enter : goal.returns-in-Enter
+returns-in-Enter g c =
+    let priority : FitsSigned w64 c.in-Enter.priority = search rules in
+    let becomes = rw (to_z-of_z w64 c.in-Enter.priority priority) at c.enter.ensures.becomes in
+    record {
+      moves = polled_moves g.B.LawfulBody.body 0 c.args.self.now c.ask.new.self _ c.args.event c.args.process c.args.told (op.Enter c.in-Enter.res c.in-Enter.priority c.in-Enter.preempts) unit.Quiet c.requires.running c.in-Enter.ensures.asked refl none_is_few becomes;
+    }
+
+pub leave-requires-clause-scope : goal.leave-requires-clause-scope
+leave-requires-clause-scope g c =
+    let may = polled_may g.B.LawfulBody.body c.args.self.now c.ask.new.self c.args.process c.args.told op.Leave c.in-Leave.ensures.asked c.requires.stands c.args.event (g.B.LawfulBody.lawful c.args.self.now.code) (rw c.requires.code at c.requires.fits) (omega (arith, c.requires.events)) c.requires.running in
+    polled_innermost g.B.LawfulBody.body c.args.self.now c.ask.new.self c.args.process c.args.told op.Leave c.in-Leave.ensures.asked c.requires.stands c.args.event (g.B.LawfulBody.lawful c.args.self.now.code) (rw c.requires.code at c.requires.fits) (omega (arith, c.requires.events)) c.requires.running c.requires.kept c.in-Leave.ensures.resources may
+
+pub leave-requires-clause-kept : goal.leave-requires-clause-kept
+leave-requires-clause-kept g c = polled_kept g.B.LawfulBody.body c.args.self.now c.ask.new.self c.args.process c.args.told op.Leave c.in-Leave.ensures.asked (2 ^ 40) c.requires.kept
+
+pub leave-requires-clause-ready : goal.leave-requires-clause-ready
+leave-requires-clause-ready g c =
+    polled_ready g.B.LawfulBody.body c.args.self.now c.ask.new.self c.args.process c.args.told op.Leave c.in-Leave.ensures.asked c.requires.stands c.requires.kept c.requires.room (omega (arith, c.requires.events))
+
+pub returns-in-Leave : goal.returns-in-Leave
+returns-in-Leave g c =
+    record {
+      moves = polled_moves g.B.LawfulBody.body 1 c.args.self.now c.ask.new.self _ c.args.event c.args.process c.args.told op.Leave unit.Quiet c.requires.running c.in-Leave.ensures.asked refl one_is_few c.leave.ensures.becomes;
+    }
+
+pub release-requires-clause-scope : goal.release-requires-clause-scope
+release-requires-clause-scope g c =
+    let may = polled_may g.B.LawfulBody.body c.args.self.now c.ask.new.self c.args.process c.args.told (op.Release c.in-Release.request) c.in-Release.ensures.asked c.requires.stands c.args.event (g.B.LawfulBody.lawful c.args.self.now.code) (rw c.requires.code at c.requires.fits) (omega (arith, c.requires.events)) c.requires.running in
+    polled_scope g.B.LawfulBody.body c.args.self.now c.ask.new.self c.args.process c.args.told (op.Release c.in-Release.request) c.in-Release.ensures.asked c.requires.stands c.args.event (g.B.LawfulBody.lawful c.args.self.now.code) (rw c.requires.code at c.requires.fits) (omega (arith, c.requires.events)) c.requires.running c.requires.kept c.in-Release.ensures.resources c.in-Release.request may
+
+pub release-requires-clause-ready : goal.release-requires-clause-ready
+release-requires-clause-ready g c =
+    polled_ready g.B.LawfulBody.body c.args.self.now c.ask.new.self c.args.process c.args.told (op.Release c.in-Release.request) c.in-Release.ensures.asked c.requires.stands c.requires.kept c.requires.room (omega (arith, c.requires.events))
+
+pub returns-in-Release : goal.returns-in-Release
+returns-in-Release g c =
+    record {
+      moves = polled_moves g.B.LawfulBody.body 0 c.args.self.now c.ask.new.self _ c.args.event c.args.process c.args.told (op.Release c.in-Release.request) unit.Quiet c.requires.running c.in-Release.ensures.asked refl none_is_few c.release.ensures.becomes;
     }

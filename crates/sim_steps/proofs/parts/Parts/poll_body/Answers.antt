@@ -1,4 +1,3 @@
-use Rattle.sim_procs.specs.Premises.{CanBeTold}
 use Rattle.sim_steps_law.proofs.Running.{running_alive, running_can_be_told}
 use Rattle.sim_steps.proofs.parts.Parts.poll_body.Goals as goal
 
@@ -9,9 +8,3 @@ body_mut-requires g c =
 pub poll-requires : goal.poll-requires
 poll-requires g c =
     rw (c.requires.code, ← c.self.view_is) (running_can_be_told g.B.LawfulBody.body _ c.args.event c.args.process c.args.told c.body_mut.result.now (rw (← c.self.view_is) at c.requires.stands) (rw (← c.self.view_is) at c.requires.running) c.body_mut.ensures.value (rw (← c.self.view_is) at c.requires.events))
-
-pub returns-clause-built : goal.returns-clause-built
-returns-clause-built g c =
-    let can : CanBeTold g.B.LawfulBody.body c.args.code.now c.body_mut.result.now c.args.told =
-    rw (c.requires.code, ← c.self.view_is) (running_can_be_told g.B.LawfulBody.body _ c.args.event c.args.process c.args.told c.body_mut.result.now (rw (← c.self.view_is) at c.requires.stands) (rw (← c.self.view_is) at c.requires.running) c.body_mut.ensures.value (rw (← c.self.view_is) at c.requires.events)) in
-    c.requires.built.asks _ _ _ _ _ can.sound c.poll.ensures

@@ -1,0 +1,154 @@
+-- What is known of the open scopes of the process that asked to enter one, to leave its innermost or to release a request.
+use Rattle.std.proofs.Common.{◌≡◌, ℕ, zero, ◌+◌, ◌<◌, ◌≤◌, ◌^◌, ℤ, Bool, true, false, ◌&&◌, ◌||◌, List, [], ◌∷◌, length, refl, sym, ap, subst, ◌∙◌, arith, map, filter, Option, Some, None, cond}
+use Rattle.std.specs.Prelude.{All, ◌==◌, nat_lt, find, reverse, IsSome, IsSomeAnd, option_and_then}
+use Rattle.std.specs.Option.{option_map}
+use Rattle.std.specs.List.{list_any}
+use Rattle.std.proofs.lemmas.Bool.{and_parts, eqb-true, eq-eqb, false≢true, ltb-true}
+use Rattle.std.proofs.lemmas.List.{length-map, reverse-reverse}
+use Rattle.std.proofs.lemmas.List.Elements.{All-cons, All-nil}
+use Rattle.sim_types.specs.declared.event.EventId.{EventId}
+use Rattle.sim_types.specs.declared.event.ProcId.{ProcId}
+use Rattle.sim_types.specs.declared.event.Scope.{Scope}
+use Rattle.sim_types.specs.declared.event.Signal.{Signal}
+use Rattle.sim_types.specs.declared.op.Op.{Op}
+use Rattle.sim_types.specs.declared.op.Op.TheVariants as op
+use Rattle.sim_machine.specs.State.{OpenScope, State}
+use Rattle.sim_machine.specs.Events.{is_process, is_same}
+use Rattle.sim_machine.specs.Processes.{process_at}
+use Rattle.sim_machine.specs.Bodies.{BodyOf}
+use Rattle.sim_machine.specs.BodyLaw.{scopes_told}
+use Rattle.sim_machine.specs.MayAsk.{takes_requests, has_resource, most_scopes}
+use Rattle.sim_machine.specs.Setups.{FitsCode}
+use Rattle.sim_machine.specs.Tellings.{CodeFacts}
+use Rattle.sim_machine.specs.LawfulWaiting.{requests_of}
+use Rattle.sim_machine_law.proofs.DroppedWaiting.{All-reverse}
+use Rattle.sim_machine_law.proofs.KeptBodies.{find_has}
+use Rattle.sim_machine_law.proofs.KeptProcessesParts.{is_process-self}
+use Rattle.sim_machine_law.proofs.KeptWaitingPolls.{own_scopes}
+use Rattle.sim_machine_law.proofs.LawfulBasis.{basis_of}
+use Rattle.sim_procs.specs.RecordOf.{RecordOf, record_of, innermost, without_innermost, scope_of}
+use Rattle.sim_happen_model.specs.HappenOf.{held}
+use Rattle.sim_shared_model.specs.SharedOf.{SharedOf}
+use Rattle.sim_steps_model.specs.PartsOf.{PartsOf, IsRunning, plan_of}
+use Rattle.sim_steps_model.specs.StandsFor.{StandsForSome, process_of, scopes_of}
+use Rattle.sim_steps_model.specs.Becoming.{AreAllKept}
+use Rattle.sim_steps_model.specs.Dropping.{CanBeLeft, CanLeave}
+use Rattle.sim_steps_model.specs.Polling.{Asks}
+use Rattle.sim_steps_law.proofs.Running.{KeepsLaw, process_found}
+use Rattle.sim_steps_law.proofs.Polls.{running_is}
+use Rattle.sim_steps_law.proofs.Ending.{record_polled, scopes_found}
+use Rattle.sim_steps_law.proofs.AskedResources.{AsksAt}
+use Rattle.sim_steps_law.proofs.LeavingEach.{can_first, innermost_first, none_innermost}
+use Rattle.sim_steps_law.proofs.DroppableProcesses.{can_be_dropped}
+use Rattle.sim_steps_law.proofs.EnteredScopes.{scope_in}
+
+-- the scope of a request that is among these is found
+scope_some : (request : EventId) (ys : List OpenScope) → list_any (is_same request) (map (λ (y : OpenScope). y.request) ys) ≡ true →
+    IsSome (scope_of request (map scope_in ys))
+scope_some request [] h = absurd (false≢true h)
+scope_some request (y ∷ ys) h = at (y.request.0 == request.0) refl (scope_some request ys)
+  where
+    later : (w : Bool) → (y.request.0 == request.0) ≡ false → (request.0 == y.request.0) ≡ w →
+        (w || list_any (is_same request) (map (λ (v : OpenScope). v.request) ys)) ≡ true →
+        list_any (is_same request) (map (λ (v : OpenScope). v.request) ys) ≡ true
+    later true is same k = absurd (false≢true (sym is ∙ eq-eqb y.request.0 request.0 (sym (eqb-true request.0 y.request.0 same))))
+    later false is same k = k
+
+    at : (v : Bool) → (y.request.0 == request.0) ≡ v →
+        (list_any (is_same request) (map (λ (w : OpenScope). w.request) ys) ≡ true → IsSome (scope_of request (map scope_in ys))) →
+        IsSome (cond v (Some (scope_in y)) (scope_of request (map scope_in ys)))
+    at true is others = refl
+    at false is others = others (later (request.0 == y.request.0) is refl h)
+
+-- one of the scopes that can be left
+one_can : (xs : List Scope) (x : Scope) (request : EventId) (a : SharedOf) → CanLeave (reverse xs) a → scope_of request xs ≡ Some x → CanLeave (x ∷ []) a
+one_can xs x request a can found =
+    let P : Scope → Type 0 = CanBeLeft a.setup can.facilities in
+    let all : All P xs = subst (All P) (reverse-reverse xs) (All-reverse P (reverse xs) can.each) in
+    record {
+      facilities = can.facilities;
+      shown = can.shown;
+      waiting = can.waiting;
+      each = All-cons P x [] (find_has P (λ s. s.request.0 == request.0) xs x found all) (All-nil P);
+    }
+
+-- who asks to enter does so at a resource that takes requests
+pub entered_at : (facts : CodeFacts) (res : ℕ) (priority : ℤ) (preempts : Bool) → AsksAt facts takes_requests res (op.Enter res priority preempts)
+entered_at facts res priority preempts own places scopes h = (and_parts (nat_lt (length scopes) most_scopes) (has_resource facts.resources takes_requests res) h).1
+
+module _ {B Code : Type 0} (body : BodyOf B Code) (old mid : PartsOf B Code) (p : ProcId) (told : Signal) (asked : Op) (a : Asks body p told old asked mid)
+    (h : StandsForSome body old) (event : EventId) (law : KeepsLaw body old.code) (fits : FitsCode (body.facts old.code) old.setup)
+    (few : length old.shared.happen.events < 2 ^ 62) (running : IsRunning event p told old.control) where
+  abbrev entered : List EventId
+  entered = scopes_told ((body.tell old.code).scopes a.before) ((body.tell old.code).last a.before) told
+
+  abbrev r : RecordOf B
+  r = (record_polled body old mid p told asked a).0
+
+  found : record_of p old.live ≡ Some r
+  found = (record_polled body old mid p told asked a).1
+
+  found_now : record_of p mid.live ≡ Some (record r { body = a.later })
+  found_now = (record_polled body old mid p told asked a).3
+
+  -- its scopes are those that its body knows of
+  own : requests_of p h.state ≡ entered
+  own =
+      let s = h.state in
+      let tell = body.tell old.code in
+      let is = running_is old.control event p told running in
+      let here : process_at p s ≡ Some (process_of r) = process_found old s p h.lawful.processes.distinct h.stands ∙ ap (λ o. option_map process_of o) found in
+      let waiting = (basis_of (plan_of body old) tell (body.sound old.code) s h.lawful).waiting in
+      (own_scopes (plan_of body old) tell s event is.0 p told (process_of r) (sym h.stands.control ∙ is.1) here waiting p (is_process-self p)).0
+      ∙ ap (λ (b : B). scopes_told (tell.scopes b) (tell.last b) told) (record_polled body old mid p told asked a).2
+
+  told_scopes : scopes_of p h.state ≡ r.scopes
+  told_scopes = scopes_found p old.live r h.state found h.stands.scopes
+
+  count : length r.scopes ≡ length entered
+  count =
+      let ys : List OpenScope = filter (λ y. is_process y.process p) h.state.scopes in
+      sym (ap (λ (xs : List Scope). length xs) told_scopes)
+      ∙ (length-map ys scope_in ∙ (sym (length-map ys (λ (y : OpenScope). y.request)) ∙ ap (λ (xs : List EventId). length xs) own))
+
+  -- who asks to enter has room for one scope more
+  pub polled_scopes : (res : ℕ) → (nat_lt (length entered) most_scopes && has_resource (body.facts old.code).resources takes_requests res) ≡ true →
+      IsSomeAnd (record_of p mid.live) (λ q. length q.scopes < most_scopes)
+  polled_scopes res may =
+      rw found_now (omega (arith, count, ltb-true (length entered) most_scopes (and_parts (nat_lt (length entered) most_scopes) (has_resource (body.facts old.code).resources takes_requests res) may).0))
+
+  module _ (all : AreAllKept (2 ^ 40) (held old.shared.happen)) (resources : mid.shared.setup ≡ mid.setup.resources) where
+    can : CanLeave (reverse r.scopes) mid.shared
+    can =
+        let same : old.shared.setup ≡ old.setup.resources = subst (λ (k : PartsOf B Code). k.shared.setup ≡ k.setup.resources) a.others resources in
+        subst (λ (k : SharedOf). CanLeave (reverse r.scopes) k) (sym (ap (λ (k : PartsOf B Code). k.shared) a.others)) (can_be_dropped body old h all same p r found).can
+
+    -- who asks to leave has a scope, which can be left
+    pub polled_innermost : nat_lt 0 (length entered) ≡ true →
+        IsSomeAnd (option_and_then (λ q. innermost q.scopes) (record_of p mid.live)) (λ x. CanLeave (x ∷ []) mid.shared)
+    polled_innermost may = rw found_now (at (innermost r.scopes) refl)
+      where
+        at : (o : Option Scope) → innermost r.scopes ≡ o → IsSomeAnd o (λ x. CanLeave (x ∷ []) mid.shared)
+        at None is =
+            absurd (omega (arith, count, ltb-true 0 (length entered) may, ap (λ (xs : List Scope). length xs) (none_innermost r.scopes is)))
+        at (Some x) is =
+            can_first x (reverse (without_innermost r.scopes)) mid.shared (subst (λ (xs : List Scope). CanLeave xs mid.shared) (innermost_first r.scopes x is) can)
+
+    -- and who asks to release a request has it in a scope
+    pub polled_scope : (request : EventId) → list_any (is_same request) entered ≡ true →
+        IsSomeAnd (option_and_then (λ q. scope_of request q.scopes) (record_of p mid.live)) (λ x. CanLeave (x ∷ []) mid.shared)
+    polled_scope request may = rw found_now (at (scope_of request r.scopes) refl some)
+      where
+        some : IsSome (scope_of request r.scopes)
+        some =
+            subst (λ (xs : List Scope). IsSome (scope_of request xs)) told_scopes
+            (scope_some request (filter (λ y. is_process y.process p) h.state.scopes) (subst (λ (es : List EventId). list_any (is_same request) es ≡ true) (sym own) may))
+
+        at : (o : Option Scope) → scope_of request r.scopes ≡ o → IsSome o → IsSomeAnd o (λ x. CanLeave (x ∷ []) mid.shared)
+        at None is k = absurd (false≢true k)
+        at (Some x) is k = one_can r.scopes x request mid.shared can is
+
+-- a poll changes no holders
+pub polled_kept : {B Code : Type 0} (body : BodyOf B Code) (old mid : PartsOf B Code) (p : ProcId) (told : Signal) (asked : Op) → Asks body p told old asked mid →
+    (most : ℕ) → AreAllKept most (held old.shared.happen) → AreAllKept most (held mid.shared.happen)
+polled_kept body old mid p told asked a most h = rw a.others h
