@@ -1,9 +1,10 @@
 -- What is left of a list where the one element that passes a test is taken out at its place.
-use Rattle.std.proofs.Common.{◌≡◌, ◌≢◌, ℕ, ◌+◌, suc, ◌<◌, ◌≤◌, Bool, true, false, not, List, [], ◌∷◌, length, Some, None, position, nat_lt, refl, sym, ap, subst, ◌∙◌, filter, arith, All, AllPairs, if◌then◌else◌}
+use Rattle.std.proofs.Common.{◌≡◌, ◌≢◌, ℕ, ◌+◌, suc, ◌<◌, ◌≤◌, Bool, true, false, not, List, [], ◌∷◌, length, Some, None, position, nat_lt, refl, sym, ap, subst, ◌∙◌, filter, arith, All, AllPairs, if◌then◌else◌, get_or}
 use Rattle.std.specs.List.{position_or_len, list_any, remove}
 use Rattle.std.proofs.lemmas.Bool.{false_from_ne_true}
 use Rattle.std.proofs.lemmas.Bool.Decides.{nat_tests}
 use Rattle.std.proofs.lemmas.Option.{cond_some}
+use Rattle.std.proofs.lemmas.List.Sums.{position_or_len_is}
 use Rattle.std.proofs.lemmas.List.Elements.{All-head, All-tail, All-weaker}
 use Rattle.sim_types.proofs.Permutations.{AllPairs-head, AllPairs-tail}
 use Rattle.sim_types.specs.declared.event.EventId.{EventId}
@@ -115,6 +116,27 @@ none_passes p xs h = (none_before p xs (far p xs (nat_lt (position_or_len p xs) 
 
 pub none_taken : {X : Type 0} (p : X → Bool) (xs : List X) → position p xs ≡ None → filter (λ x. not (p x)) xs ≡ xs
 none_taken p xs h = (none_before p xs (far p xs (nat_lt (position_or_len p xs) (length xs)) refl h)).1
+
+-- where no two pass, one that passes stands at the first place of all
+pub place_alone : {X : Type 0} (p : X → Bool) (xs : List X) (i : ℕ) (d : X) → PassAlone p xs → i < length xs → p (get_or xs i d) ≡ true
+    → position p xs ≡ Some i
+place_alone p xs i d alone within passes =
+    let before : (k : ℕ) → k < i → p (get_or xs k d) ≡ false = λ k less. false_from_ne_true (p (get_or xs k d)) (λ yes. alone k i d less within yes passes) in
+    let at = position_or_len_is p xs i d (omega arith) before (λ _. passes) in
+    placed (position_or_len p xs) i (length xs) at within
+  where
+    placed : (n i len : ℕ) → n ≡ i → i < len → (if nat_lt n len then Some n else None) ≡ Some i
+    placed n i len is below = grind (arith, nat_tests)
+
+-- where none passes there is no place
+pub no_place : {X : Type 0} (p : X → Bool) (xs : List X) → ((k : ℕ) (d : X) → k < length xs → p (get_or xs k d) ≡ false) → position p xs ≡ None
+no_place p [] fails = refl
+no_place p (x ∷ xs) fails =
+    let beyond = position_or_len_is p (x ∷ xs) (length (x ∷ xs)) x (omega arith) (λ k before. fails k x before) (λ h. absurd (omega (arith, h))) in
+    unplaced (position_or_len p (x ∷ xs)) (length (x ∷ xs)) beyond
+  where
+    unplaced : (n len : ℕ) → n ≡ len → (if nat_lt n len then Some n else None) ≡ None
+    unplaced n len is = grind (arith, nat_tests)
 
 -- elements whose requests differ
 pub alone_of : {X : Type 0} (request_of : X → EventId) (request : EventId) (xs : List X) → AllPairs (λ x y. request_of x ≢ request_of y) xs →

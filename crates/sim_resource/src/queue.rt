@@ -88,13 +88,23 @@ pub(crate) fn first_key_with(
     }
 }
 
-// The place of a request in the queue.
+// The place of a request in the queue. It is looked for from both ends at once: who gives up came just now, or has waited
+// longest.
 fn place_of(queue: &VecDeque<WaitingRequest>, request: EventId) -> Option<usize>
+    requires apart { AllPairs (λ v w. v.request ≢ w.request) queue.now.items }
     ensures { result ≡ position (λ w. is_same w.request request) queue.now.items }
 {
-    queue
-        .iter()
-        .position(|waiting| waiting.request.0 == request.0)
+    let len = queue.len();
+    for near in 0..len - len / 2 {
+        let far = len - 1 - near;
+        if queue[far].request.0 == request.0 {
+            return Some(far);
+        }
+        if queue[near].request.0 == request.0 {
+            return Some(near);
+        }
+    }
+    None
 }
 
 /// A request waits no longer. Whether it did.

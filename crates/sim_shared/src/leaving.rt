@@ -94,6 +94,27 @@ impl Shared {
         }
     }
 
+    // Where the event waits at this place, it is cancelled, and the place is not searched for what is not open: what waits
+    // is. The answer is whether it did.
+    fn cancel_open_at(&mut self, at: usize, event: EventId) -> bool
+        requires at { at < length self.old.setup }
+        requires open { AreAllOpen self.old }
+        ensures waited { result ≡ waits_in event (slice_get self.old.resources at) }
+        ensures cancelled { IsTrue result →
+            TurnsAll (requests.cancel event) (gone_if_unheld event) self.old self.new }
+        ensures same { IsFalse result → self.new ≡ self.old }
+        ensures used { self.new.used ≡ self.old.used }
+        ensures room { KeepsRoom self.old.happen self.new.happen }
+        ensures never_less { self.old.happen.spare.events ≤ self.new.happen.spare.events }
+        ensures made { length self.new.happen.events ≡ length self.old.happen.events }
+        ensures setup { self.new.setup ≡ self.old.setup }
+    {
+        if !self.is_open(event) {
+            return false;
+        }
+        self.cancel_at(at, event)
+    }
+
     // Where the event waits at the resource that its first callback names, it is cancelled. The answer is whether it did.
     fn cancel_named(&mut self, event: EventId) -> bool
         requires open { AreAllOpen self.old }
@@ -176,7 +197,7 @@ impl Shared {
     }
 
     /// A scope is left: a request that still waits is cancelled, and in any case it is released (SimPy's end of
-    /// `with`). The answer is the release.
+    /// `with`). The answer is the release. A request that was granted is not looked for in the queue.
     pub fn leave(&mut self, res: u32, request: EventId) -> EventId
         requires res { res < length self.old.setup }
         requires slots { IsTrue (takes_requests (resource_at self.old.setup res).kind) }
@@ -192,7 +213,7 @@ impl Shared {
         ensures used { self.new.used ≡ self.old.used }
         ensures room { LeavesRoom self.old.happen self.new.happen }
     {
-        let _waited = self.cancel_at(res as usize, request);
+        let _waited = self.cancel_open_at(res as usize, request);
         self.release(res, request)
     }
 }

@@ -220,6 +220,11 @@ nowhere_there e [] h n x there = absurd (none-some x there)
 nowhere_there e (y ∷ xs) h zero x there = ap (waits_at e) (sym (same_Some y x there)) ∙ (or_none (waits_at e y) (waits_anywhere e xs) h).0
 nowhere_there e (y ∷ xs) h (suc n) x there = nowhere_there e xs (or_none (waits_at e y) (waits_anywhere e xs) h).1 n x there
 
+pub nowhere_in : (e : EventId) (xs : List SharedResource) (n : ℕ) → waits_anywhere e xs ≡ false → waits_in e (slice_get xs n) ≡ false
+nowhere_in e [] n h = refl
+nowhere_in e (y ∷ xs) zero h = (or_none (waits_at e y) (waits_anywhere e xs) h).0
+nowhere_in e (y ∷ xs) (suc n) h = nowhere_in e xs n (or_none (waits_at e y) (waits_anywhere e xs) h).1
+
 -- what is seen of who waits is what is shown
 pub anywhere_shown : (a : SharedOf) (f : Facilities) (e : EventId) → ShowsAll a f → waits_anywhere e a.resources ≡ requests.waits e f
 anywhere_shown a f e h = elim (cases_Bool (waits_anywhere e a.resources)) [

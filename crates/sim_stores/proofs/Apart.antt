@@ -3,11 +3,11 @@ use Rattle.std.proofs.Common.{◌≡◌, ◌≢◌, ◌||◌, Bool, true, false,
 use Rattle.std.proofs.lemmas.Bool.{false≢true}
 use Rattle.std.proofs.lemmas.Bool.Decides.{nat_tests}
 use Rattle.std.proofs.lemmas.List.{append-nil, map-append}
-use Rattle.std.proofs.lemmas.List.Elements.{All-cons, All-nil}
+use Rattle.std.proofs.lemmas.List.Elements.{All-cons, All-nil, All-head, All-tail}
 use Rattle.std.proofs.lemmas.List.Kept.{AllPairs-cons}
 use Rattle.std.proofs.lemmas.List.Sorted.{IsPermutation-sym, IsPermutation-middle}
 use Rattle.sim_types.specs.declared.event.EventId.{EventId}
-use Rattle.sim_types.proofs.Permutations.{AllPairs-tail, AllPairs-IsPermutation}
+use Rattle.sim_types.proofs.Permutations.{AllPairs-head, AllPairs-tail, AllPairs-IsPermutation}
 use Rattle.sim_machine.specs.Events.{is_same}
 use Rattle.sim_stores.specs.Waiting.{stands_among, AllDiffer}
 
@@ -66,3 +66,18 @@ module _ {W V : Type 0} (of : W → EventId) (by : V → EventId) (us : List W) 
       let left : (map of us ++ map by passed) ++ map by behind ≡ map of us ++ map by (passed ++ behind) =
       append_assoc (map of us) (map by passed) (map by behind) ∙ ap (λ es. map of us ++ es) (sym (map-append by passed behind)) in
       subst AllDiffer left (differ_without (map of us ++ map by passed) (by w) (map by behind) (subst AllDiffer split h))
+
+-- in each of two queues
+pub differ_right : (es fs : List EventId) → AllDiffer (es ++ fs) → AllDiffer fs
+differ_right [] fs h = h
+differ_right (e ∷ es) fs h = differ_right es fs (AllPairs-tail Apart e (es ++ fs) h)
+
+all_left : (e : EventId) (es fs : List EventId) → All (Apart e) (es ++ fs) → All (Apart e) es
+all_left e [] fs h = All-nil (Apart e)
+all_left e (f ∷ es) fs h =
+    All-cons (Apart e) f es (All-head (Apart e) f (es ++ fs) h) (all_left e es fs (All-tail (Apart e) f (es ++ fs) h))
+
+pub differ_left : (es fs : List EventId) → AllDiffer (es ++ fs) → AllDiffer es
+differ_left [] fs h = λ i j d before below. absurd (omega (arith, below))
+differ_left (e ∷ es) fs h =
+    AllPairs-cons Apart e es (all_left e es fs (AllPairs-head Apart e (es ++ fs) h)) (differ_left es fs (AllPairs-tail Apart e (es ++ fs) h))

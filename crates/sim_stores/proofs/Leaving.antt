@@ -1,15 +1,16 @@
 -- What waits for an event leaves its queue.
-use Rattle.std.proofs.Common.{◌≡◌, ◌≢◌, ◌==◌, ◌||◌, ℕ, suc, ◌<◌, ◌≤◌, not, Bool, true, false, cond, List, [], ◌∷◌, ◌++◌, length, map, filter, refl, sym, ap, subst, ◌∙◌, arith}
-use Rattle.std.specs.List.{list_any}
+use Rattle.std.proofs.Common.{◌≡◌, ◌≢◌, ◌||◌, ℕ, zero, suc, ◌<◌, get_or, All, not, Bool, true, false, cond, List, [], ◌∷◌, ◌++◌, length, map, filter, refl, sym, ap, subst, ◌∙◌, arith}
+use Rattle.std.specs.List.{list_any, remove}
 use Rattle.std.proofs.lemmas.Bool.{false≢true}
 use Rattle.std.proofs.lemmas.Bool.Decides.{nat_tests}
-use Rattle.std.proofs.lemmas.List.Elements.{filter-append}
+use Rattle.std.proofs.lemmas.List.Elements.{filter-append, All-head, All-tail}
 use Rattle.std.proofs.lemmas.List.Folds.{list_any-append}
 use Rattle.std.proofs.lemmas.List.Kept.{AllPairs-filter}
-use Rattle.std.proofs.lemmas.List.Sums.{length-filter, count_by-le-length}
+use Rattle.sim_types.proofs.Permutations.{AllPairs-head, AllPairs-tail}
 use Rattle.sim_types.specs.declared.event.EventId.{EventId}
 use Rattle.sim_machine.specs.Events.{is_same}
 use Rattle.sim_stores.specs.Waiting.{stands_among, AllDiffer, besides}
+use Rattle.sim_stores.proofs.Apart.{Apart}
 
 module _ {X : Type 0} (p : X → Bool) where
   stays_step : (b r : Bool) (x : X) (us vs : List X) → (b || r) ≡ false → (r ≡ false → us ≡ vs) → cond (not b) (x ∷ us) us ≡ x ∷ vs
@@ -21,27 +22,21 @@ module _ {X : Type 0} (p : X → Bool) where
   all_stay [] h = refl
   all_stay (x ∷ xs) h = stays_step (p x) (list_any p xs) x (filter (λ y. not (p y)) xs) xs h (all_stay xs)
 
-  few : (xs : List X) → length (filter (λ x. not (p x)) xs) ≤ length xs
-  few xs = omega (arith, length-filter (λ x. not (p x)) xs, count_by-le-length (λ x. not (p x)) xs)
+  -- where each fails, none passes
+  pub none_passes : (xs : List X) → ((k : ℕ) (d : X) → k < length xs → p (get_or xs k d) ≡ false) → list_any p xs ≡ false
+  none_passes [] fails = refl
+  none_passes (x ∷ xs) fails =
+      ap (λ b. b || list_any p xs) (fails 0 x (omega arith)) ∙ none_passes xs (λ k d below. fails (suc k) d (omega (arith, below)))
 
-  fewer_step : (b r : Bool) (x : X) (us : List X) (n : ℕ) → (b || r) ≡ true → length us ≤ n → (r ≡ true → length us < n)
-      → length (cond (not b) (x ∷ us) us) < suc n
-  fewer_step true r x us n h few f = omega arith
-  fewer_step false r x us n h few f = let less : length us < n = f h in omega arith
+  or_true : (b : Bool) → (b || true) ≡ true
+  or_true true = refl
+  or_true false = refl
 
-  -- where one does, fewer stay
-  pub fewer_stay : (xs : List X) → list_any p xs ≡ true → length (filter (λ x. not (p x)) xs) < length xs
-  fewer_stay [] h = absurd (false≢true h)
-  fewer_stay (x ∷ xs) h = fewer_step (p x) (list_any p xs) x (filter (λ y. not (p y)) xs) (length xs) h (few xs) (fewer_stay xs)
-
-  told_by : (b : Bool) (m n : ℕ) → (b ≡ false → m ≡ n) → (b ≡ true → m < n) → not (m == n) ≡ b
-  told_by true m n same less = let h : m < n = less refl in grind (arith, nat_tests)
-  told_by false m n same less = let h : m ≡ n = same refl in grind (arith, nat_tests)
-
-  -- the lengths tell which
-  pub length_tells : (xs : List X) (m n : ℕ) → m ≡ length (filter (λ x. not (p x)) xs) → n ≡ length xs → not (m == n) ≡ list_any p xs
-  length_tells xs m n few all =
-      told_by (list_any p xs) m n (λ none. few ∙ (ap length (all_stay xs none) ∙ sym all)) (λ one. omega (arith, fewer_stay xs one, few, all))
+  -- one does that stands at a place
+  pub one_passes : (xs : List X) (i : ℕ) (d : X) → i < length xs → p (get_or xs i d) ≡ true → list_any p xs ≡ true
+  one_passes [] i d below passes = absurd (omega (arith, below))
+  one_passes (x ∷ xs) zero d below passes = ap (λ b. b || list_any p xs) passes
+  one_passes (x ∷ xs) (suc i) d below passes = ap (λ b. p x || b) (one_passes xs i d (omega (arith, below)) passes) ∙ or_true (p x)
 
 module _ {W : Type 0} (event : W → EventId) (e : EventId) where
   mapped_step : (b : Bool) (w : W) (ws : List W) → map event (cond b (w ∷ ws) ws) ≡ cond b (event w ∷ map event ws) (map event ws)
@@ -58,6 +53,34 @@ module _ {W : Type 0} (event : W → EventId) (e : EventId) where
   pub among_events : (ws : List W) → stands_among e (map event ws) ≡ list_any (λ w. is_same (event w) e) ws
   among_events [] = refl
   among_events (w ∷ ws) = ap (λ b. is_same (event w) e || b) (among_events ws)
+
+  another : (f g : EventId) → Apart f g → is_same f e ≡ true → is_same g e ≡ false
+  another f g h is = grind (arith, nat_tests)
+
+  -- behind the event none is of it
+  none_behind : (f : EventId) (ws : List W) → is_same f e ≡ true → All (Apart f) (map event ws) → list_any (λ w. is_same (event w) e) ws ≡ false
+  none_behind f [] is h = refl
+  none_behind f (w ∷ ws) is h =
+      ap (λ b. b || list_any (λ v. is_same (event v) e) ws) (another f (event w) (All-head (Apart f) (event w) (map event ws) h) is)
+      ∙ none_behind f ws is (All-tail (Apart f) (event w) (map event ws) h)
+
+  removed_step : (b : Bool) (w : W) (ws : List W) (i : ℕ) (d : W) → is_same (event w) e ≡ b → i < length ws → is_same (event (get_or ws i d)) e ≡ true
+      → All (Apart (event w)) (map event ws) → remove ws i ≡ besides event e ws → w ∷ remove ws i ≡ cond (not b) (w ∷ besides event e ws) (besides event e ws)
+  removed_step true w ws i d is below passes apart rest =
+      absurd (false≢true (sym (none_behind (event w) ws is apart) ∙ one_passes (λ v. is_same (event v) e) ws i d below passes))
+  removed_step false w ws i d is below passes apart rest = ap (λ vs. w ∷ vs) rest
+
+  -- without the waiter at a place there are all that are not of its event
+  pub removed_at : (ws : List W) (i : ℕ) (d : W) → i < length ws → is_same (event (get_or ws i d)) e ≡ true → AllDiffer (map event ws)
+      → remove ws i ≡ besides event e ws
+  removed_at [] i d below passes apart = absurd (omega (arith, below))
+  removed_at (w ∷ ws) zero d below passes apart =
+      sym (ap (λ b. cond (not b) (w ∷ besides event e ws) (besides event e ws)) passes
+      ∙ all_stay (λ v. is_same (event v) e) ws (none_behind (event w) ws passes (AllPairs-head Apart (event w) (map event ws) apart)))
+  removed_at (w ∷ ws) (suc i) d below passes apart =
+      let inside : i < length ws = omega (arith, below) in
+      removed_step (is_same (event w) e) w ws i d refl inside passes (AllPairs-head Apart (event w) (map event ws) apart)
+      (removed_at ws i d inside passes (AllPairs-tail Apart (event w) (map event ws) apart))
 
 module _ {W V : Type 0} (of : W → EventId) (by : V → EventId) (e : EventId) (us : List W) (vs : List V) where
   -- those that are left in two queues differ as before

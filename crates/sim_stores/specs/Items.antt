@@ -1,5 +1,5 @@
 -- Items as they are kept, and one that is given. Only the code of this crate knows it.
-use Rattle.std.specs.Prelude.{◌≡◌, ◌≢◌, ◌<◌, Bool, ◌&&◌, IsTrue, IsFalse, int_le, ℕ, length, ℤ, List, ◌∷◌, ◌++◌, Option, Some, None, All, MatchOption}
+use Rattle.std.specs.Prelude.{◌≡◌, ◌<◌, Bool, ◌&&◌, IsTrue, IsFalse, int_le, ℕ, length, ℤ, List, Option, Some, None, MatchOption}
 use Rattle.std.specs.List.{AllWithin, HoldsAt}
 use Rattle.sim_machine.specs.State.{Item}
 use Rattle.sim_stores.specs.Shelves.{Leaves}

@@ -1,5 +1,5 @@
 -- What contracts see of a store (SimPy's Store, PriorityStore and FilterStore).
-use Rattle.std.specs.Prelude.{◌≡◌, ◌≢◌, ℕ, ◌+◌, ◌≤◌, pos, List, [], ◌∷◌, ◌++◌, map, length, Option, Some, None, All, MatchOption}
+use Rattle.std.specs.Prelude.{◌≡◌, ◌≢◌, ℕ, ◌+◌, ◌≤◌, pos, List, [], ◌∷◌, ◌++◌, map, Option, Some, None, All, MatchOption}
 use Rattle.sim_types.specs.declared.event.EventId.{EventId}
 use Rattle.sim_types.specs.declared.setup.Resource.{Resource}
 use Rattle.sim_types.specs.declared.setup.ResourceKind.{ResourceKind}
@@ -14,7 +14,7 @@ use Rattle.sim_stores.specs.declared.waiting.WaitingPut.{WaitingPut}
 use Rattle.sim_stores.specs.declared.waiting.WaitingGet.{WaitingGet}
 use Rattle.sim_stores.specs.declared.stock.ShelfKind.{ShelfKind}
 use Rattle.sim_stores.specs.declared.stock.ShelfKind.TheVariants as kind
-use Rattle.sim_stores.specs.Waiting.{AllDiffer, besides, ServesNone, ServesOne}
+use Rattle.sim_stores.specs.Waiting.{besides, ServesNone, ServesOne}
 
 -- a store: its kind, how many items it can hold, who waits, the next to be looked at first, its items in the order put,
 -- and for how many more that wait there is room

@@ -1,16 +1,15 @@
 -- What contracts see of a container (SimPy's Container).
-use Rattle.std.specs.Prelude.{◌≡◌, ℕ, ◌+◌, ℤ, pos, ◌+ℤ◌, ◌≤ℤ◌, ◌<ℤ◌, List, ◌++◌, map, Option, All, MatchOption}
+use Rattle.std.specs.Prelude.{◌≡◌, ℕ, ◌+◌, ℤ, pos, ◌+ℤ◌, List, ◌++◌, map, Option, MatchOption}
 use Rattle.sim_types.specs.declared.event.EventId.{EventId}
 use Rattle.sim_types.specs.declared.setup.Resource.{Resource}
 use Rattle.sim_types.specs.declared.setup.ResourceKind.TheVariants as resource
-use Rattle.sim_types.specs.Limits.{most_level}
 use Rattle.sim_machine.specs.Users.{change_of_level}
 use Rattle.sim_machine.specs.Attempts.{fill, drain}
 use Rattle.sim_machine.specs.Attempts as attempts
 use Rattle.sim_machine.specs.Trying.{put_reach, get_reach}
 use Rattle.sim_stores.specs.declared.waiting.Served.{Served}
 use Rattle.sim_stores.specs.declared.waiting.WaitingAmount.{WaitingAmount}
-use Rattle.sim_stores.specs.Waiting.{AllDiffer, besides, ServesNone, ServesOne}
+use Rattle.sim_stores.specs.Waiting.{besides, ServesNone, ServesOne}
 
 -- a container: what it can hold and holds, who waits, the next to be served first, and for how many more there is room
 pub record TankOf : Type 0 where

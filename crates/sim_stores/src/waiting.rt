@@ -1,10 +1,11 @@
 //! Who waits at a container or a store, and who was served.
-ghost use Rattle.std.specs.Prelude.{◌≡◌, ◌≤◌, not, IsFalse};
+ghost use Rattle.std.specs.Prelude.{◌≡◌, ◌≤◌, map, IsFalse};
 ghost use Rattle.std.specs.List.{list_any};
 ghost use Rattle.std.specs.VecDeque.{deque_len, deque_capacity};
 ghost use Rattle.sim_machine.specs.Events.{is_same};
 ghost use Rattle.sim_types.specs.declared.event.EventId.{EventId};
-ghost use Rattle.sim_stores.specs.Waiting.{besides};
+ghost use Rattle.sim_stores.specs.Waiting.{AllDiffer, besides};
+ghost use Rattle.sim_stores.specs.Queues.{IsPlaceOf};
 
 use sim_types::EventId;
 use std::collections::VecDeque;
@@ -78,8 +79,27 @@ impl Waits for WaitingGet {
     }
 }
 
+// The place of what waits for an event. It is looked for from both ends at once: who gives up came just now, or has waited
+// longest.
+fn place_of<W: Waits>(queue: &VecDeque<W>, event: EventId) -> Option<usize>
+    ensures { IsPlaceOf W.event_of event queue.now.items result }
+{
+    let len = queue.len();
+    for near in 0..len - len / 2 {
+        let far = len - 1 - near;
+        if queue[far].event() == event {
+            return Some(far);
+        }
+        if queue[near].event() == event {
+            return Some(near);
+        }
+    }
+    None
+}
+
 /// Takes what waits for an event out of a queue. The answer is whether it stood there.
 pub(crate) fn leave_queue<W: Waits>(queue: &mut VecDeque<W>, event: EventId) -> bool
+    requires apart { AllDiffer (map W.event_of queue.old.items) }
     ensures waited { result ≡ list_any (λ w. is_same (W.event_of w) event) queue.old.items }
     ensures besides { queue.new.items ≡ besides W.event_of event queue.old.items }
     ensures same { IsFalse result → queue.new.items ≡ queue.old.items }
@@ -87,11 +107,11 @@ pub(crate) fn leave_queue<W: Waits>(queue: &mut VecDeque<W>, event: EventId) -> 
     ensures len { deque_len queue.new ≤ deque_len queue.old }
     ensures capacity { deque_capacity queue.new ≡ deque_capacity queue.old }
 {
-    let before = queue.len();
-    queue.retain(
-        |waiter: &W| -> bool
-            ensures { result ≡ not (is_same (W.event_of waiter.now) event) }
-        { waiter.event() != event },
-    );
-    queue.len() != before
+    match place_of(queue, event) {
+        Some(place) => {
+            queue.remove(place);
+            true
+        }
+        None => false,
+    }
 }

@@ -1,20 +1,17 @@
-use Rattle.std.proofs.Common.{rules, not, ◌∙◌, ap, sym, length}
-use Rattle.std.proofs.lemmas.Fn.{filter_same}
+use Rattle.std.proofs.Common.{rules, ◌≡◌, sym, ◌∙◌, subst, true}
+use Rattle.std.specs.List.{remove}
 use Rattle.sim_machine.specs.Events.{is_same}
-use Rattle.sim_stores.proofs.Leaving.{length_tells, all_stay}
+use Rattle.sim_stores.proofs.Leaving.{all_stay, removed_at}
 use Rattle.sim_stores.proofs.waiting.leave_queue.Goals as goal
 
-pub returns-clause-besides : goal.returns-clause-besides
-returns-clause-besides g c =
-    filter_same _ (λ w. not (is_same (g.W.Waits.event_of w) c.args.event)) _ (λ x b f t. search rules) _ _ c.retain.ensures.filtered
+pub returns-in-Some-clause-besides : goal.returns-in-Some-clause-besides
+returns-in-Some-clause-besides g c =
+    let ws = c.args.queue.now.items in
+    let at = c.in-Some.ensures in
+    let taken : c.remove.new.self.items ≡ remove ws c.in-Some.place = search rules in
+    taken ∙ removed_at g.W.Waits.event_of c.args.event ws c.in-Some.place at.waiter at.within
+    (subst (λ w. is_same (g.W.Waits.event_of w) c.args.event ≡ true) at.there at.same) c.requires.apart
 
-pub returns-clause-waited : goal.returns-clause-waited
-returns-clause-waited g c =
-    let left = filter_same _ (λ w. not (is_same (g.W.Waits.event_of w) c.args.event)) _ (λ x b f t. search rules) _ _ c.retain.ensures.filtered in
-    length_tells (λ w. is_same (g.W.Waits.event_of w) c.args.event) c.args.queue.now.items _ _ (search (rules, ap length left)) (search rules)
-
-pub returns-clause-same : goal.returns-clause-same
-returns-clause-same g c = λ h.
-    let left = filter_same _ (λ w. not (is_same (g.W.Waits.event_of w) c.args.event)) _ (λ x b f t. search rules) _ _ c.retain.ensures.filtered in
-    let waited = length_tells (λ w. is_same (g.W.Waits.event_of w) c.args.event) c.args.queue.now.items c.len.result c.len-before.result (search (rules, ap length left)) (search rules) in
-    left ∙ all_stay (λ w. is_same (g.W.Waits.event_of w) c.args.event) c.args.queue.now.items (sym waited ∙ h)
+pub returns-in-None-clause-besides : goal.returns-in-None-clause-besides
+returns-in-None-clause-besides g c =
+    sym (all_stay (λ w. is_same (g.W.Waits.event_of w) c.args.event) c.args.queue.now.items c.in-None.ensures)

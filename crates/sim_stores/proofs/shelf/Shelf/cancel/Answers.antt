@@ -1,7 +1,16 @@
-use Rattle.std.proofs.Common.{sym, arith}
+use Rattle.std.proofs.Common.{map, sym, arith}
 use Rattle.sim_stores.proofs.Storing.{sound_cancel}
+use Rattle.sim_stores.proofs.Apart.{differ_left, differ_right}
 use Rattle.sim_stores.proofs.Leaving.{among_both}
 use Rattle.sim_stores.proofs.shelf.Shelf.cancel.Goals as goal
+
+pub leave_queue-put-requires : goal.leave_queue-put-requires
+leave_queue-put-requires c =
+    record { apart = differ_left (map (λ w. w.event) c.self.inside.puts.items) (map (λ w. w.event) c.self.inside.gets.items) c.self.invariant.0.differ }
+
+pub leave_queue-get-requires : goal.leave_queue-get-requires
+leave_queue-get-requires c =
+    record { apart = differ_right (map (λ w. w.event) c.self.inside.puts.items) (map (λ w. w.event) c.self.inside.gets.items) c.self.invariant.0.differ }
 
 pub invariant_of-self : goal.invariant_of-self
 invariant_of-self c =
