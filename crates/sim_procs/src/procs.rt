@@ -1,4 +1,4 @@
-ghost use Rattle.std.specs.Prelude.{◌≡◌, ℕ, ◌+◌, ◌<◌, ◌≤◌, ◌==◌, List, [], ◌∷◌, ◌++◌, length, IfOk, OnOk, IsOk, IfSome, IsSome, IsNone, MatchOption, IsSomeAnd, Some, None, ◌-◌, ◌^◌, is_some, option_and_then, slice_index_or};
+ghost use Rattle.std.specs.Prelude.{◌≡◌, ◌↔◌, ℕ, ◌+◌, ◌<◌, ◌≤◌, ◌==◌, List, [], ◌∷◌, ◌++◌, length, IfOk, OnOk, IsOk, IfSome, IsSome, IsNone, MatchOption, IsSomeAnd, IsTrue, Some, None, ◌-◌, ◌^◌, is_some, option_and_then, slice_index_or};
 ghost use Rattle.std.specs.Option.{option_map};
 ghost use Rattle.std.specs.List.Sorted.{IsPermutation};
 ghost use Rattle.sim_machine.specs.MayAsk.{most_scopes};
@@ -44,6 +44,13 @@ impl<B> Procs<B> {
             records: Vec::new(alloc),
             index: Index::new(alloc),
         })
+    }
+
+    /// Whether there is room for one more.
+    pub fn has_room(&self) -> bool
+        ensures { IsTrue result ↔ 1 ≤ self.now.spare }
+    {
+        self.records.len() < self.records.capacity() && 0 < self.index.spare()
     }
 
     /// Makes room for one more.

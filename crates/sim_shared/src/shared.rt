@@ -1,5 +1,5 @@
 //! Time, what happens in it, and the resources.
-ghost use Rattle.std.specs.Prelude.{◌≡◌, ◌≤◌, ◌<◌, [], ◌∷◌, length, slice_get, Some, None, IfOk, IsOk, OnOk};
+ghost use Rattle.std.specs.Prelude.{◌≡◌, ◌↔◌, ◌≤◌, ◌<◌, [], ◌∷◌, length, slice_get, Some, None, IfOk, IsOk, IsTrue, OnOk};
 ghost use Rattle.std.specs.List.{AllPass};
 ghost use Rattle.sim_types.specs.Setups.{resource_fits};
 ghost use Rattle.sim_machine.specs.State.{Facilities};
@@ -104,6 +104,16 @@ impl Shared {
             self.used = None;
         }
         Ok(())
+    }
+
+    /// Whether there is room for all that one unit may take, as `reserve` makes it.
+    pub fn is_ready(&self) -> bool
+        ensures { IsTrue result ↔ ((self.now.used ≡ None)
+            × (40 ≤ self.now.happen.spare.events)
+            × (64 ≤ self.now.happen.spare.callbacks)
+            × (40 ≤ self.now.happen.spare.conditions)) }
+    {
+        self.used.is_none() && self.happen.has_room(EVENTS, CALLBACKS)
     }
 
     /// Makes room for all that one unit may take: 40 events, each of which may be a condition, 64 callbacks, and a

@@ -50,6 +50,7 @@ impl<B: Body> Parts<B> {
     }
 
     /// The running process makes a condition of these members, unless it would weigh too much.
+    #[inline(never)]
     pub(crate) fn make_condition(
         &mut self,
         event: EventId,
@@ -73,6 +74,7 @@ impl<B: Body> Parts<B> {
     }
 
     /// The running process asks whether an event stands in the value of a condition.
+    #[inline(never)]
     pub(crate) fn has(
         &mut self,
         event: EventId,
@@ -91,6 +93,7 @@ impl<B: Body> Parts<B> {
     }
 
     /// An event is checked, which is a member of a condition.
+    #[inline(never)]
     pub(crate) fn check(&mut self, condition: EventId, event: EventId)
         requires kept { IsKept self.old.shared.happen.events event }
         requires checks { ChecksMember condition event self.old.shared.happen.events }
@@ -100,6 +103,7 @@ impl<B: Body> Parts<B> {
     }
 
     /// A condition that is processed is built.
+    #[inline(never)]
     pub(crate) fn build(&mut self, condition: EventId)
         requires builds { BuildsCondition condition self.old.shared.happen.events }
         ensures becomes { Becomes (on_events (conditions.build condition)) self.old self.new }

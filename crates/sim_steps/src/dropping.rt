@@ -88,6 +88,7 @@ impl<B: Body> Parts<B> {
 
     /// The running process has another one end at once, which is told nothing, unless that has ended or is itself. The
     /// event of that process succeeds with this value.
+    #[inline(never)]
     pub(crate) fn drop_process(
         &mut self,
         event: EventId,

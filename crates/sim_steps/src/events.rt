@@ -98,6 +98,7 @@ impl<B: Body> Parts<B> {
     }
 
     /// The running process triggers an event, and is told whether it had its outcome already.
+    #[inline(never)]
     pub(crate) fn trigger_by(
         &mut self,
         event: EventId,
@@ -156,6 +157,7 @@ impl<B: Body> Parts<B> {
 
     /// The running process chains two events: once the first is processed, it passes its outcome on to the other. A
     /// processed one does so at once.
+    #[inline(never)]
     pub(crate) fn chain(&mut self, event: EventId, process: ProcId, source: EventId, other: EventId)
         requires running { IsRunningIn event process self.old.control }
         requires source { IsKept self.old.shared.happen.events source }
@@ -176,6 +178,7 @@ impl<B: Body> Parts<B> {
     }
 
     /// The event passes its outcome on to another.
+    #[inline(never)]
     pub(crate) fn call_trigger(&mut self, event: EventId, other: EventId)
         requires calling { IsCalling event self.old.control }
         requires kept { IsKept self.old.shared.happen.events event }

@@ -67,6 +67,7 @@ impl<B: Body> Parts<B> {
     }
 
     /// The running process makes another one, and is told its event.
+    #[inline(never)]
     pub(crate) fn spawn(
         &mut self,
         code: &B::Code,
@@ -91,6 +92,7 @@ impl<B: Body> Parts<B> {
     }
 
     /// The running process interrupts another one, unless that has ended or is itself.
+    #[inline(never)]
     pub(crate) fn interrupt(&mut self, event: EventId, process: ProcId, other: ProcId, cause: i64)
         requires running { IsRunningIn event process self.old.control }
         requires room { HasUnitRoom self.old }
@@ -115,6 +117,7 @@ impl<B: Body> Parts<B> {
 
     /// An interruption comes: its process waits no longer for its target, and is thrown the interruption. Where it has
     /// ended, nothing happens.
+    #[inline(never)]
     pub(crate) fn strike(&mut self, event: EventId, process: ProcId)
         requires calling { IsCalling event self.old.control }
         requires kept { IsKept self.old.shared.happen.events event }
@@ -133,6 +136,7 @@ impl<B: Body> Parts<B> {
     }
 
     /// The running process ends: its event gets this outcome.
+    #[inline(never)]
     pub(crate) fn end(&mut self, event: EventId, process: ProcId, outcome: Outcome)
         requires running { IsRunningIn event process self.old.control }
         requires alive { IsSomeAnd (record_of process self.old.live) (λ r. r.scopes ≡ []) }

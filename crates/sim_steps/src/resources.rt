@@ -44,6 +44,7 @@ impl<B: Body> Parts<B> {
     }
 
     /// The running process is told how much of a resource is in use, or stands in it.
+    #[inline(never)]
     pub(crate) fn count(&mut self, event: EventId, process: ProcId, res: u32)
         requires running { IsRunningIn event process self.old.control }
         requires within { res < length self.old.setup.resources }
@@ -111,6 +112,7 @@ impl<B: Body> Parts<B> {
     }
 
     /// The running process is told a put that is made.
+    #[inline(never)]
     pub(crate) fn put(
         &mut self,
         event: EventId,
@@ -133,6 +135,7 @@ impl<B: Body> Parts<B> {
     }
 
     /// The running process waits for a put that is made.
+    #[inline(never)]
     pub(crate) fn put_wait(
         &mut self,
         event: EventId,
@@ -156,6 +159,7 @@ impl<B: Body> Parts<B> {
     }
 
     /// The running process is told a get that is made.
+    #[inline(never)]
     pub(crate) fn get(
         &mut self,
         event: EventId,
@@ -178,6 +182,7 @@ impl<B: Body> Parts<B> {
     }
 
     /// The running process waits for a get that is made.
+    #[inline(never)]
     pub(crate) fn get_wait(
         &mut self,
         event: EventId,
@@ -201,6 +206,7 @@ impl<B: Body> Parts<B> {
     }
 
     /// An event that waits at a resource is cancelled, and stays kept. Of what does not wait nothing is done.
+    #[inline(never)]
     pub(crate) fn cancel(&mut self, event: EventId, process: ProcId, cancelled: EventId)
         requires running { IsRunningIn event process self.old.control }
         requires kept { IsKept self.old.shared.happen.events cancelled }
@@ -217,6 +223,7 @@ impl<B: Body> Parts<B> {
 
     /// The running process is told a request that is made, and whose scope is open from now on. One that would preempt the
     /// process itself is not made.
+    #[inline(never)]
     pub(crate) fn enter(
         &mut self,
         event: EventId,
@@ -245,6 +252,7 @@ impl<B: Body> Parts<B> {
 
     /// The innermost open scope of the running process is left: its request is cancelled where it waits, stays kept, and
     /// is released in any case.
+    #[inline(never)]
     pub(crate) fn leave(&mut self, event: EventId, process: ProcId)
         requires running { IsRunningIn event process self.old.control }
         requires scope { IsSomeAnd
@@ -264,6 +272,7 @@ impl<B: Body> Parts<B> {
     }
 
     /// A request in an open scope of the running process is released early. Its scope stays open.
+    #[inline(never)]
     pub(crate) fn release(&mut self, event: EventId, process: ProcId, request: EventId)
         requires running { IsRunningIn event process self.old.control }
         requires scope { IsSomeAnd
