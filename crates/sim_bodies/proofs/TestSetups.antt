@@ -37,6 +37,23 @@ land_fits until starts fits few pass =
       starts = pass;
     }
 
+-- a setup with one start and one port, by which travellers of kind 3 set out
+pub land_with_port_fits : (start : Start) → IsTrue (start_fits traveller_facts start) →
+    FitsCode traveller_facts (record { until = until.Never; events = 0; resources = []; ports = 3 ∷ []; starts = start ∷ [] })
+land_with_port_fits start fits =
+    record {
+      until = refl;
+      events = refl;
+      few_events = lit≤ tt;
+      resources = refl;
+      few_resources = lit≤ tt;
+      capacities = All-nil (λ r. IsTrue (resource_fits r));
+      few_ports = lit≤ tt;
+      ports = All-cons (λ k. IsTrue (port_fits traveller_facts k)) 3 [] refl (All-nil (λ k. IsTrue (port_fits traveller_facts k)));
+      few_starts = lit≤ tt;
+      starts = All-cons (λ x. IsTrue (start_fits traveller_facts x)) start [] fits (All-nil (λ x. IsTrue (start_fits traveller_facts x)));
+    }
+
 -- a setup with one clock
 pub clock_start_fits :
     FitsCode clock_facts (record { until = until.Never; events = 0; resources = []; ports = []; starts = record { kind = 0; args = [] } ∷ [] })

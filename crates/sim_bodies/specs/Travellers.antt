@@ -23,10 +23,10 @@ pub record TravellerOf : Type 0 where
 abbrev pub two_numbers : List Class
 two_numbers = class.Number ∷ class.Number ∷ []
 
--- three kinds, each of which is given two numbers
+-- three kinds, each of which is given two numbers, and one that is given one
 abbrev pub traveller_facts : CodeFacts
 traveller_facts = record {
-  params = two_numbers ∷ two_numbers ∷ two_numbers ∷ [];
+  params = two_numbers ∷ two_numbers ∷ two_numbers ∷ (class.Number ∷ []) ∷ [];
   named = 0;
   resources = [];
 }
@@ -53,9 +53,9 @@ heard _ = pos 0
 
 -- what a kind does first
 abbrev pub sets_out : ℕ → ℤ → ℤ → Op
-sets_out zero first second = op.Pause first second
 sets_out (suc zero) first second = op.Draw first second
-sets_out _ first second = op.Nop
+sets_out (suc (suc zero)) first second = op.Nop
+sets_out _ first second = op.Pause first second
 
 -- how a kind ends
 abbrev pub arrives : ℕ → ℤ → Op
@@ -88,8 +88,8 @@ traveller_body = record {
 -- ---- the law
 
 sets_out_plain : (kind : ℕ) (first second : ℤ) → is_plain (sets_out kind first second) ≡ true
-sets_out_plain zero first second = refl
 sets_out_plain (suc zero) first second = refl
+sets_out_plain (suc (suc zero)) first second = refl
 sets_out_plain _ first second = refl
 
 arrives_plain : (kind : ℕ) (second : ℤ) → is_plain (arrives kind second) ≡ true

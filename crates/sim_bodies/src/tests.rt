@@ -1,8 +1,9 @@
-ghost use Rattle.std.specs.Prelude.{◌≡◌, ◌<◌, ◌≤◌, [], ◌∷◌, IfOk, IsTrue, length, pos};
+ghost use Rattle.std.specs.Prelude.{◌≡◌, ◌<◌, ◌≤◌, [], ◌∷◌, IfOk, IfSome, IsTrue, length, pos};
 ghost use Rattle.std.specs.List.{AllPass};
 ghost use Rattle.sim_machine.specs.Bodies.{start_of};
 ghost use Rattle.sim_machine.specs.NumberBounds.{most_events};
 ghost use Rattle.sim_machine.specs.Setups.{FitsCode, start_fits, until_fits};
+ghost use Rattle.sim_steps_model.specs.Resting.{can_arrive};
 ghost use Rattle.sim_procs.specs.Premises.{CanBegin, CanBeTold};
 ghost use Rattle.sim_bodies.specs.Travellers.{traveller_facts};
 
@@ -44,6 +45,47 @@ fn lines_of_units<B: Body>(
     Ok(lines)
 }
 
+// The value that comes in next, where it is due: nothing is being done, and so many events were processed or none is to come.
+fn due_value(next: Option<&(u64, i64)>, rest: Rest, processed: u64) -> Option<i64>
+    ensures { IfSome result (λ _. IsTrue (can_arrive rest)) }
+{
+    match (next, rest) {
+        (Some((_, value)), Rest::Empty) => Some(*value),
+        (Some((after, value)), Rest::Idle) if *after <= processed => Some(*value),
+        _ => None,
+    }
+}
+
+// Makes units as above, while these values come in by the first port, each as soon as it is due.
+fn lines_with_arrivals<B: Body>(
+    alloc: Global,
+    kernel: &mut Kernel<B>,
+    code: &B::Code,
+    journal: &[(u64, i64)],
+    limit: u32,
+) -> Result<Vec<Line>, AllocError>
+    requires code { code.now ≡ kernel.old.parts.code }
+    requires port { 0 < length kernel.old.parts.setup.ports }
+    requires units { kernel.old.units ≡ 0 }
+{
+    let mut lines = Vec::new(alloc);
+    let mut came = 0;
+    for _unit in 0..limit {
+        let rest = kernel.rest();
+        if let Some(value) = due_value(journal.get(came), rest, kernel.processed()) {
+            lines.push(kernel.arrive(code, 0, value)?)?;
+            came += 1;
+        } else if matches!(rest, Rest::Busy | Rest::Idle) {
+            if let Unit::Line(line) = kernel.unit(code)? {
+                lines.push(line)?;
+            }
+        } else {
+            break;
+        }
+    }
+    Ok(lines)
+}
+
 // How the run has ended.
 fn end_of<B: Body>(kernel: &Kernel<B>) -> End {
     match kernel.rest() {
@@ -51,6 +93,22 @@ fn end_of<B: Body>(kernel: &Kernel<B>) -> End {
         Rest::Over(why) => why,
         Rest::Busy | Rest::Idle => End::Limit,
     }
+}
+
+// The lines of a run, and one on its end.
+fn ended<B: Body>(
+    kernel: Kernel<B>,
+    lines: Result<Vec<Line>, AllocError>,
+) -> Result<Vec<Line>, AllocError> {
+    let end = end_of(&kernel);
+    let (time, processed) = kernel.finish();
+    let mut lines = lines?;
+    lines.push(Line::Finish {
+        end,
+        time,
+        processed,
+    })?;
+    Ok(lines)
 }
 
 // The lines of a run of so many units at most, and one on its end.
@@ -65,15 +123,7 @@ fn lines_of_run<B: Body>(
 {
     let mut kernel = Kernel::<B>::new(alloc, code, setup, seed)?;
     let lines = lines_of_units(alloc, &mut kernel, code, limit);
-    let end = end_of(&kernel);
-    let (time, processed) = kernel.finish();
-    let mut lines = lines?;
-    lines.push(Line::Finish {
-        end,
-        time,
-        processed,
-    })?;
-    Ok(lines)
+    ended(kernel, lines)
 }
 
 // Two numbers as arguments.
@@ -135,6 +185,26 @@ fn land_run(
         starts,
     };
     lines_of_run::<Traveller>(alloc, &Land {}, &setup, 7, 100)
+}
+
+// The lines of a run of one traveller, and of those that set out as these values come in, of 100 units at most.
+#[tactic(auto, using(crate::proofs::TestSetups::land_with_port_fits))]
+fn arrivals_run(alloc: Global, journal: &[(u64, i64)]) -> Result<Vec<Line>, AllocError> {
+    let mut ports = List::new(alloc);
+    ports.push(3)?;
+    let mut starts = List::new(alloc);
+    starts.push(traveller_start(0, 5, 7))?;
+    let setup = Setup {
+        until: Until::Never,
+        events: 0,
+        resources: List::new(alloc),
+        ports,
+        starts,
+    };
+    let land = Land {};
+    let mut kernel = Kernel::<Traveller>::new(alloc, &land, &setup, 7)?;
+    let lines = lines_with_arrivals(alloc, &mut kernel, &land, journal, 100);
+    ended(kernel, lines)
 }
 
 // Whether these are the lines of a run of these travellers.
@@ -257,6 +327,14 @@ fn log(time: i64, process: u64, value: i64) -> Line {
     Line::Log {
         time,
         process: ProcId(process),
+        value,
+    }
+}
+
+fn arrive(after: u64, value: i64) -> Line {
+    Line::Arrive {
+        after,
+        port: 0,
         value,
     }
 }
@@ -391,6 +469,38 @@ fn numbers_are_drawn_by_the_words_of_the_generator(rt: HostRuntime) {
         end(End::Empty, 0, 2),
     ];
     assert!(rt; land_runs_so(&rt, rt.alloc(), Until::Never, &[(1, 1, 6)], &want));
+}
+
+// A value that comes in makes a process, whose event and init event have the next numbers, and whose init event is due now:
+// before all else, once two events were processed, and as soon as nothing is left to process.
+#[test]
+fn what_arrives_begins_a_process(rt: HostRuntime) {
+    let want = [
+        arrive(0, 2),
+        init(0, 2),
+        init(1, 4),
+        arrive(2, 1),
+        init(4, 8),
+        timeout(1, 5, 9, 0),
+        log(1, 7, 0),
+        finished(1, 6, 7, 0),
+        timeout(2, 3, 6, 0),
+        log(2, 3, 0),
+        finished(2, 7, 3, 0),
+        timeout(5, 2, 5, 7),
+        log(5, 1, 7),
+        finished(5, 8, 1, 7),
+        arrive(9, 4),
+        line(5, 0, 9, EventKind::Init, 11, Outcome::Ok(0)),
+        timeout(9, 10, 12, 0),
+        log(9, 10, 0),
+        finished(9, 11, 10, 0),
+        end(End::Empty, 9, 12),
+    ];
+    match arrivals_run(rt.alloc(), &[(0, 2), (2, 1), (100, 4)]) {
+        Ok(lines) => assert!(rt; lines.as_slice() == want.as_slice()),
+        Err(AllocError) => assert!(rt; false),
+    }
 }
 
 // Five units make a turn of the clock: an event is popped, its callback is called, the clock logs, pauses, and the event

@@ -1,4 +1,4 @@
-//! Travellers: a body of three kinds, which ends.
+//! Travellers: a body of four kinds, which ends.
 ghost use Rattle.std.specs.Prelude.{◌≡◌, [], ◌∷◌, IsTrue, pos, slice_index_or};
 ghost use Rattle.sim_machine_law.proofs.PlainBodies.{is_plain};
 ghost use Rattle.sim_bodies.specs.Travellers.{heard};
@@ -14,8 +14,9 @@ use std::marker::Model;
 pub struct Land {}
 
 /// It is given two numbers. One of kind 0 pauses for the first of them and is told the second; one of kind 1 draws a number
-/// from the first to the second; one of kind 2 does nothing. Then it logs the number that it was told, and ends: with the
-/// second number as its value, or of kind 2 by a throw of kind 1 with that value.
+/// from the first to the second; one of kind 2 does nothing. One of kind 3 is given the first alone, and pauses for it; its
+/// second is 0. Then it logs the number that it was told, and ends: with the second number as its value, or of kind 2 by a
+/// throw of kind 1 with that value.
 #[derive(Drop)]
 pub struct Traveller {
     own: ProcId,
@@ -104,9 +105,9 @@ impl Traveller {
     {
         match &self.last {
             None => match self.kind {
-                0 => Op::Pause(self.first, self.second),
                 1 => Op::Draw(self.first, self.second),
-                _ => Op::Nop,
+                2 => Op::Nop,
+                _ => Op::Pause(self.first, self.second),
             },
             Some(Op::Log(_)) => match self.kind {
                 2 => Op::Die(Throw {

@@ -4,3 +4,4 @@ pub mod Stopping
 pub mod OpeningHolds
 -- the units
 pub mod Units
+pub mod Arrivals

@@ -20,12 +20,12 @@ use Rattle.sim_steps_law.proofs.Running.{KeepsLaw}
 -- ---- the state after a unit is lawful, since the machine keeps what is lawful
 
 -- a state that is lawful for what a kernel was opened with stays so where that is the same
-opened_lawful : {B Code : Type 0} (body : BodyOf B Code) (old new : PartsOf B Code) (s : State B) → IsOpenedAs old new → LawfulOf body old s →
+pub opened_lawful : {B Code : Type 0} (body : BodyOf B Code) (old new : PartsOf B Code) (s : State B) → IsOpenedAs old new → LawfulOf body old s →
     LawfulOf body new s
 opened_lawful body old new s opened h = rw (opened.code, opened.setup, opened.seed) h
 
 -- so it is where room was made before
-opened_through : {B Code : Type 0} (old mid new : PartsOf B Code) → KeepsButRoom old mid → IsOpenedAs mid new → IsOpenedAs old new
+pub opened_through : {B Code : Type 0} (old mid new : PartsOf B Code) → KeepsButRoom old mid → IsOpenedAs mid new → IsOpenedAs old new
 opened_through old mid new room opened =
     opened_then old mid new (record { code = rw room.others refl; setup = rw room.others refl; seed = rw room.others refl }) opened
 
@@ -58,7 +58,7 @@ module _ {B Code : Type 0} (body : BodyOf B Code) (old : PartsOf B Code) (fits :
 -- ---- what else holds of every kernel
 
 -- one unit makes few events, and processes at most one
-unit_bounded : {B Code : Type 0} (units : ℕ) (old new : PartsOf B Code) (s t : State B) → StandsFor old s → StandsFor new t → MakesFew s t →
+pub unit_bounded : {B Code : Type 0} (units : ℕ) (old new : PartsOf B Code) (s t : State B) → StandsFor old s → StandsFor new t → MakesFew s t →
     IsBounded units old → IsBounded (units + 1) new
 unit_bounded units old new s t before after a h =
     record {

@@ -2,3 +2,4 @@ pub mod KernelOf
 pub mod Opening
 pub mod Holding
 pub mod Stepping
+pub mod Arriving

@@ -1,16 +1,17 @@
 //! A kernel stands for a lawful state of the machine, and makes one unit of it at a time.
-ghost use Rattle.std.specs.Prelude.{◌≡◌, ◌+◌, ◌<◌, ◌^◌, IfOk, OnOk, OnErr};
+ghost use Rattle.std.specs.Prelude.{◌≡◌, ◌+◌, ◌<◌, ◌^◌, length, IfOk, OnOk, OnErr};
 ghost use Rattle.sim_machine.specs.Setups.{FitsCode};
 ghost use Rattle.sim_steps_model.specs.PartsOf.{IsOpenedAs};
-ghost use Rattle.sim_steps_model.specs.Resting.{CanStep, rest_in};
+ghost use Rattle.sim_steps_model.specs.Resting.{CanArrive, CanStep, rest_in};
 ghost use Rattle.sim_steps_model.specs.StandsFor.{IsLawfulOpening, StandsForOpening};
+ghost use Rattle.sim_kernel.specs.Arriving.{MakesArrival};
 ghost use Rattle.sim_kernel.specs.KernelOf.{IsAsBefore};
 ghost use Rattle.sim_kernel.specs.Stepping.{MakesStep};
 
 use crate::opening::open;
 use sim_procs::Body;
 use sim_steps::{Parts, Rest, Unit};
-use sim_types::Setup;
+use sim_types::{Line, Setup};
 use std::alloc::{AllocError, Global};
 use std::marker::Model;
 
@@ -83,6 +84,28 @@ impl<B: Body> Kernel<B> {
         let unit = self.parts.unit(code);
         self.units += 1;
         Ok(unit)
+    }
+
+    /// A value comes in by a port: a process of the port's kind is made, which begins with it. This is a unit too. All
+    /// memory is taken first.
+    pub fn arrive(&mut self, code: &B::Code, port: u32, value: i64) -> Result<Line, AllocError>
+        requires code { code.now ≡ self.old.parts.code }
+        requires idle { CanArrive self.old.parts }
+        requires port { port < length self.old.parts.setup.ports }
+        requires units { self.old.units < 2 ^ 32 }
+        // From each lawful state that it stood for, and by the invariant there is one.
+        ensures arrives { IfOk result
+            (λ line. MakesArrival B.body port value self.old.parts line self.new.parts) }
+
+        ensures opened { OnOk result (IsOpenedAs self.old.parts self.new.parts) }
+        ensures units { OnOk result (self.new.units ≡ self.old.units + 1) }
+        ensures err { OnErr result (IsAsBefore self.old self.new) }
+    {
+        let parts = &mut self.parts;
+        parts.reserve(code)?;
+        let line = parts.arrive(code, port, value);
+        self.units += 1;
+        Ok(line)
     }
 
     /// How many events were processed.

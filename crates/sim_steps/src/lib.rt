@@ -2,6 +2,7 @@
 //! polled.
 #![tactic(auto)]
 
+mod arriving;
 mod calling;
 mod conditions;
 mod draw;

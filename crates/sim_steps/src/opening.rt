@@ -39,6 +39,7 @@ impl<B: Body> Parts<B> {
         let mut shared = Shared::new(alloc, &setup.resources)?;
         make_named(shared.happen_mut(), setup.events)?;
         let generator = Pcg64::seed_from_u64(seed);
+        let ports = Vec::from_slice(alloc, setup.ports.as_slice())?;
         let processes = Procs::new(alloc)?;
         Ok(Parts {
             shared,
@@ -47,6 +48,7 @@ impl<B: Body> Parts<B> {
             processes,
             ready: None,
             mode: Mode::Idle,
+            ports,
             code: Memo::of(code),
             setup: Memo::of(setup),
             seed: Memo::of(&seed),
@@ -95,6 +97,7 @@ impl<B: Body> Parts<B> {
             processes,
             ready: _,
             mode: _,
+            ports: _,
             code: _,
             setup: _,
             seed: _,

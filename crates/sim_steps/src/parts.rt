@@ -25,6 +25,8 @@ pub struct Parts<B: Body> {
     /// The body of the process that is made next, yet to be filled.
     pub(crate) ready: Option<B>,
     pub(crate) mode: Mode,
+    /// The process kind that each port starts.
+    pub(crate) ports: Vec<u32>,
     pub(crate) code: Memo<B::Code>,
     pub(crate) setup: Memo<Setup>,
     pub(crate) seed: Memo<u64>,
@@ -48,7 +50,7 @@ impl<B: Body> Model for Parts<B> {
       spare = room_with a.ready a.processes.spare;
     } };
 
-    ghost invariant = { λ a. AreSoundParts a.mode a.shared a.setup.value };
+    ghost invariant = { λ a. AreSoundParts a.mode a.shared a.ports.items a.setup.value };
 }
 
 impl<B: Body> Parts<B> {

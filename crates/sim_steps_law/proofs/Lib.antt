@@ -33,3 +33,4 @@ pub mod Starting
 pub mod Beginning
 -- processes that are made
 pub mod SpawnedProcesses
+pub mod Arrivals

@@ -30,10 +30,12 @@ NoneLeftIdle (mode.Active event process told) left = Unit {0}
 NoneLeftIdle (mode.Over why event) left = Unit {0}
 
 -- what holds of the parts of every kernel: where nothing is being done no callbacks are left to call, and the resources
--- are those of its setup
-pub record AreSoundParts (mode : Mode) (shared : SharedOf) (setup : Setup) : Type 0 where
+-- and the kinds that the ports start are those of its setup
+pub record AreSoundParts
+    (mode : Mode) (shared : SharedOf) (kinds : List ℕ) (setup : Setup) : Type 0 where
   pub none_left : NoneLeftIdle mode shared.happen.left
   pub resources : shared.setup ≡ setup.resources
+  pub ports : kinds ≡ setup.ports
 
 -- for how many more processes there is room, by whether the body of the next one is there, yet to be filled
 abbrev pub room_with : {B : Type 0} → Option B → ℕ → ℕ

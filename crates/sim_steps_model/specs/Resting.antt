@@ -27,3 +27,13 @@ rest_in parts = rest_of parts.control parts.shared.happen.agenda
 -- a kernel in which a unit can be made
 abbrev pub CanStep : {B Code : Type 0} → PartsOf B Code → Type 0
 CanStep parts = IsTrue (can_step (rest_in parts))
+
+-- whether nothing is being done, so that something may arrive
+abbrev pub can_arrive : Rest → Bool
+can_arrive rest.Idle = true
+can_arrive rest.Empty = true
+can_arrive _ = false
+
+-- a kernel in which something may arrive
+abbrev pub CanArrive : {B Code : Type 0} → PartsOf B Code → Type 0
+CanArrive parts = IsTrue (can_arrive (rest_in parts))

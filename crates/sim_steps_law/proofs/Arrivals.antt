@@ -1,0 +1,58 @@
+-- A process that is made where something arrives is the one that the machine makes.
+use Rattle.std.proofs.Common.{◌≡◌, ℕ, ◌<◌, ◌≤ℤ◌, ◌^◌, ℤ, pos, true, List, [], ◌∷◌, length, refl}
+use Rattle.std.specs.Prelude.{IsTrue, None, slice_index_or}
+use Rattle.std.proofs.lemmas.Bool.{and_parts, false≢true}
+use Rattle.sim_types.specs.declared.line.Line.TheVariants as line
+use Rattle.sim_types.specs.declared.setup.Class.{Class}
+use Rattle.sim_types.specs.declared.setup.Setup.{Setup}
+use Rattle.sim_machine.specs.State.{State}
+use Rattle.sim_machine.specs.Bodies.{BodyOf, start_of}
+use Rattle.sim_machine.specs.NumberBounds.{arguments_within_bound}
+use Rattle.sim_machine.specs.Processes.{make_process, write_line}
+use Rattle.sim_machine.specs.Setups.{FitsCode, port_fits, takes_one_number}
+use Rattle.sim_machine.specs.Tellings.{CodeFacts}
+use Rattle.sim_machine.specs.Units.{arrive}
+use Rattle.sim_machine_law.proofs.OpeningLaws.{port_fits_starts}
+use Rattle.sim_procs.specs.Premises.{CanBegin}
+use Rattle.sim_procs.specs.RecordOf.{record_of}
+use Rattle.sim_steps_model.specs.PartsOf.{PartsOf, plan_of}
+use Rattle.sim_steps_model.specs.StandsFor.{StandsForSome}
+use Rattle.sim_steps_model.specs.Becoming.{Becomes}
+use Rattle.sim_steps_model.specs.Opening.{next_process, Begins}
+use Rattle.sim_steps_law.proofs.Becoming.{becomes_then, becomes_written}
+use Rattle.sim_steps_law.proofs.SpawnedProcesses.{begun_becomes}
+
+-- ---- what is known where something arrives
+
+one_number_within : (cs : List Class) (v : ℤ) → takes_one_number cs ≡ true → arguments_within_bound cs (v ∷ []) ≡ true
+one_number_within [] v h = refl
+one_number_within (c ∷ []) v h = rw h refl
+one_number_within (c ∷ d ∷ cs) v h = absurd (false≢true h)
+
+-- a process of the port's kind may begin with any number
+pub port_can_begin : (f : CodeFacts) (setup : Setup) (port : ℕ) (value : ℤ) → FitsCode f setup → port < length setup.ports →
+    CanBegin f (slice_index_or setup.ports port 0) (value ∷ [])
+port_can_begin f setup port value fits below =
+    let k = slice_index_or setup.ports port 0 in
+    let here : IsTrue (port_fits f k) = fits.ports port 0 below in
+    record {
+      fits = port_fits_starts f k value here;
+      bound = one_number_within (slice_index_or f.params k []) value (and_parts _ _ here).1;
+    }
+
+-- it is a time of the machine
+pub time_in_limit : {B Code : Type 0} (body : BodyOf B Code) (parts : PartsOf B Code) → StandsForSome body parts →
+    parts.shared.happen.time ≤ℤ pos (2 ^ 62)
+time_in_limit body parts h = rw h.stands.facilities.calendar.time h.lawful.times.in_limit
+
+-- ---- what becomes of the kernel
+
+pub arrived_becomes : {B Code : Type 0} (body : BodyOf B Code) (old new : PartsOf B Code) (port : ℕ) (value : ℤ) →
+    record_of (next_process old.shared.happen) old.live ≡ None →
+    Begins (start_of body old.code (slice_index_or old.setup.ports port 0) (value ∷ []) (next_process old.shared.happen)) old new →
+    Becomes (arrive (plan_of body old) port value) old new
+arrived_becomes {B} body old new port value none begins =
+    let k = slice_index_or old.setup.ports port 0 in
+    let makes : State B → State B = make_process (plan_of body old) k (value ∷ []) in
+    let writes : State B → State B = λ s. write_line (line.Arrive s.processed port value) s in
+    becomes_then makes writes old new new (begun_becomes body old new k (value ∷ []) none begins) (becomes_written (λ s. line.Arrive s.processed port value) new)
