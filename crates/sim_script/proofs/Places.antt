@@ -1,5 +1,5 @@
 -- The event in a place of a script.
-use Rattle.std.proofs.Common.{◌≡◌, ℕ, zero, suc, ℤ, pos, Bool, true, false, List, [], ◌∷◌, get_or, map, refl, ◌⊎◌, inl, inr}
+use Rattle.std.proofs.Common.{◌≡◌, ℕ, zero, suc, ℤ, pos, Bool, true, false, List, [], ◌∷◌, get_or, map, refl}
 use Rattle.std.specs.Prelude.{nat_abs, if◌then◌else◌, slice_index_or}
 use Rattle.sim_types.specs.declared.event.EventId.{EventId}
 use Rattle.sim_types.specs.declared.setup.Class.{Class}
@@ -30,22 +30,11 @@ event_held (c ∷ cs) (v ∷ vs) zero = refl
 event_held (c ∷ cs) (v ∷ vs) (suc at) = event_held cs vs at
 
 -- the place of a number holds no event
-pub number_holds_none : (cs : List Class) (vs : List ℤ) (at : ℕ) → get_or cs at class.Number ≡ class.Number → record { 0 = 0 } ≡ event_at cs vs at
+pub number_holds_none : (cs : List Class) (vs : List ℤ) (at : ℕ) → is_class (get_or cs at class.Number) class.Number ≡ true
+    → record { 0 = 0 } ≡ event_at cs vs at
 number_holds_none cs vs at number = rw (event_held cs vs at, number) refl
 
-abbrev pub OtherThanNumber : Class → Type 0
-OtherThanNumber c = (c ≡ class.Event) ⊎ ((c ≡ class.Cond) ⊎ ((c ≡ class.Proc) ⊎ ((c ≡ class.Request) ⊎ (c ≡ class.Move))))
-
-is_no_number : (c : Class) → OtherThanNumber c → is_class c class.Number ≡ false
-is_no_number c (inl e) = rw e refl
-is_no_number c (inr (inl e)) = rw e refl
-is_no_number c (inr (inr (inl e))) = rw e refl
-is_no_number c (inr (inr (inr (inl e)))) = rw e refl
-is_no_number c (inr (inr (inr (inr e)))) = rw e refl
-
 -- any other place holds the event whose number stands in the variable
-pub other_holds : (cs : List Class) (vs : List ℤ) (at : ℕ) (c : Class) → c ≡ get_or cs at class.Number → OtherThanNumber c
+pub other_holds : (cs : List Class) (vs : List ℤ) (at : ℕ) → is_class (get_or cs at class.Number) class.Number ≡ false
     → (n : ℕ) → n ≡ nat_abs (get_or vs at (pos 0)) → record { 0 = n } ≡ event_at cs vs at
-other_holds cs vs at c is other n number =
-    let none : is_class c class.Number ≡ false = is_no_number c other in
-    rw (event_held cs vs at, ← is, none, number) refl
+other_holds cs vs at other n is = rw (event_held cs vs at, other, is) refl

@@ -1,7 +1,11 @@
 -- What a script keeps, as it is seen.
-use Rattle.std.specs.Prelude.{ℕ, ◌-◌, ℤ, pos, List, [], ◌∷◌, ◌++◌, length, replicate, Option, Some, None, Result, Ok, Err}
+use Rattle.std.specs.Prelude.{◌≡◌, ℕ, ◌-◌, ◌<◌, ◌≤◌, ℤ, pos, List, [], ◌∷◌, ◌++◌, length, replicate, slice_index_or, if◌then◌else◌, Option, Some, None, Result, Ok, Err}
+use Rattle.std.specs.Int.{bit_at}
 use Rattle.sim_types.specs.declared.op.Op.{Op}
+use Rattle.sim_types.specs.declared.setup.Class.{Class}
+use Rattle.sim_types.specs.declared.setup.Class.TheVariants as class
 use Rattle.sim_types.specs.declared.script.Kind.{Kind}
+use Rattle.sim_machine.specs.Tellings.{is_class}
 use Rattle.sim_memo.specs.declared.Memo.{Memo}
 use Rattle.sim_script_model.specs.Scripts as scripts
 use Rattle.sim_script_model.specs.Arithmetic as arithmetic
@@ -14,7 +18,7 @@ abbrev pub frame_of : Frame → scripts.Frame
 frame_of (frame.InScope request) = scripts.InScope request
 frame_of (frame.InTry catch) = scripts.InTry catch
 frame_of (frame.InLoop past) = scripts.InLoop past
-frame_of (frame.InRepeat count past) = scripts.InRepeat count past
+frame_of (frame.InRepeat past count) = scripts.InRepeat count past
 
 abbrev pub mode_of : Mode → scripts.Mode
 mode_of mode.Running = scripts.Running
@@ -45,3 +49,8 @@ script_of_kind kind declared args =
       mode = scripts.Running;
       asked = None;
     }
+
+-- the bits of the first n variables are set where these are numbers, and no other bit is
+pub record MarksNumbers (n bits : ℕ) (classes : List Class) : Type 0 where
+  pub marked : (i : ℕ) → i < n → bit_at bits i ≡ (if is_class (slice_index_or classes i class.Number) class.Number then 1 else 0)
+  pub rest : (i : ℕ) → n ≤ i → bit_at bits i ≡ 0

@@ -27,8 +27,8 @@ impl Body for Script {
 
     ghost few_places = { script_has_few_places };
 
-    fn blank(_alloc: Global, _code: &Scenario) -> Result<Script, AllocError> {
-        Ok(Script::new())
+    fn blank(alloc: Global, _code: &Scenario) -> Result<Script, AllocError> {
+        Script::new(alloc)
     }
 
     fn fill(&mut self, code: &Scenario, kind: u32, args: Args) {

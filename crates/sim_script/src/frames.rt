@@ -1,9 +1,10 @@
 //! The blocks that a script stands in.
-ghost use Rattle.std.specs.Prelude.{◌≡◌, ◌<◌, [], ◌∷◌, length, MatchOption};
+ghost use Rattle.std.specs.Prelude.{◌≡◌, ◌<◌, [], ◌∷◌, length, IfOk, MatchOption};
 ghost use Rattle.sim_script_model.specs.Scripts.{tail_of};
 ghost use Rattle.sim_script.specs.Kept.{frame_of};
 
 use sim_types::EventId;
+use std::alloc::{AllocError, Global};
 use std::marker::Model;
 
 /// A block that a script stands in.
@@ -15,37 +16,42 @@ pub(crate) enum Frame {
     InTry(u32),
     /// A loop, with the place behind its `end`.
     InLoop(u32),
-    /// A repeat, with the turns that are left, the present one among them, and the place behind its `end`.
-    InRepeat(i64, u32),
+    /// A repeat, with the place behind its `end`, and the turns that are left, the present one among them.
+    InRepeat(u32, i64),
 }
 
-/// At most 32 blocks, in place. They are kept from the outermost to the innermost.
+/// At most 32 blocks, for which memory is taken at once. They are kept from the outermost to the innermost.
 #[derive(Drop)]
 pub(crate) struct Frames {
-    values: [Frame; 32],
-    len: usize,
+    values: Vec<Frame>,
 }
 
 impl Model for Frames {
-    ghost use Rattle.std.specs.Prelude.{List, map, take, reverse, ◌≤◌};
+    ghost use Rattle.std.specs.Prelude.{◌≡◌, List, map, reverse, vec_capacity};
     ghost use Rattle.sim_script_model.specs.Scripts.{Frame};
     ghost use Rattle.sim_script.specs.Kept.{frame_of};
 
     ghost Value = { List Frame };
 
-    ghost view = { λ a. reverse (map frame_of (take a.len a.values)) };
+    ghost view = { λ a. reverse (map frame_of a.values.items) };
 
-    ghost invariant = { λ a. a.len ≤ 32 };
+    ghost invariant = { λ a. vec_capacity a.values ≡ 32 };
 }
 
 impl Frames {
-    pub(crate) fn new() -> Frames
-        ensures { result ≡ [] }
+    pub(crate) fn new(alloc: Global) -> Result<Frames, AllocError>
+        ensures { IfOk result (λ frames. frames ≡ []) }
     {
-        Frames {
-            values: [Frame::InTry(0); 32],
-            len: 0,
-        }
+        Ok(Frames {
+            values: Vec::with_capacity(alloc, 32)?,
+        })
+    }
+
+    /// Leaves all blocks.
+    pub(crate) fn clear(&mut self)
+        ensures { self.new ≡ [] }
+    {
+        self.values.clear();
     }
 
     /// The innermost block.
@@ -53,11 +59,7 @@ impl Frames {
         ensures { MatchOption result (self.now ≡ [])
             (λ frame. self.now ≡ frame_of frame ∷ tail_of self.now) }
     {
-        if self.len == 0 {
-            None
-        } else {
-            Some(self.values[self.len - 1])
-        }
+        self.values.last().copied()
     }
 
     /// Enters a block.
@@ -65,8 +67,7 @@ impl Frames {
         requires { length self.old < 32 }
         ensures { self.new ≡ frame_of frame ∷ self.old }
     {
-        self.values[self.len] = frame;
-        self.len += 1;
+        self.values.push_reserved(frame);
     }
 
     /// Leaves the innermost block, where there is one.
@@ -74,6 +75,6 @@ impl Frames {
         ensures rest { self.new ≡ tail_of self.old }
         ensures room { length self.new < 32 }
     {
-        self.len = self.len.saturating_sub(1);
+        let _ = self.values.pop();
     }
 }

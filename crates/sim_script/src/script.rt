@@ -1,11 +1,11 @@
 //! The state of a script.
-ghost use Rattle.std.specs.Prelude.{◌≡◌, ◌+◌, ◌-◌, ◌^◌, ◌<◌, ◌≤◌, pos, [], ◌∷◌, ◌++◌, length, replicate, slice_index_or, IsTrue, MatchOption};
+ghost use Rattle.std.specs.Prelude.{◌≡◌, ◌+◌, ◌-◌, ◌^◌, ◌<◌, ◌≤◌, pos, [], ◌∷◌, ◌++◌, length, replicate, slice_index_or, vec_len, IsTrue, MatchOption};
 ghost use Rattle.sim_types.specs.Throws.{error};
 ghost use Rattle.sim_script_model.specs.Scripts.{Throwing, set_variable, set_place, set_mode, tail_of, push_frame, pop_frame, stmt_at, value_of_num, value_of_arg, event_in, event_of_ref, process_of_ref};
 ghost use Rattle.sim_script_model.specs.Polls.{store, given_by, last_stmt, open_with, catch_by, leave_try, leave_loop, end_by_mode, do_stmt, take_in, unwind, ask_in_mode, script_turn};
 ghost use Rattle.sim_script_law.specs.Ready.{is_variable, has_variable, refers_within, argument_within, event_is_small, variables_within, has_room, scope_finds_room, can_take, can_do, can_leave, can_ask};
 ghost use Rattle.sim_script_law.specs.ScriptMembers.{script_holds};
-ghost use Rattle.sim_script.specs.Kept.{frame_of, mode_of, script_of_kind};
+ghost use Rattle.sim_script.specs.Kept.{frame_of, mode_of, script_of_kind, MarksNumbers};
 
 use crate::frames::{Frame, Frames};
 use crate::mode::Mode;
@@ -13,59 +13,65 @@ use sim_memo::Memo;
 use sim_types::{
     Class, Classes, ERROR, EventId, Kind, Num, Op, ProcId, Ref, Signal, SpawnArg, Stmt, Throw,
 };
+use std::alloc::{AllocError, Global};
 use std::marker::Model;
 
 /// A process that does the statements of its kind.
 #[derive(Drop)]
 pub struct Script {
-    me: ProcId,
-    kind: u32,
-    /// The classes of its variables.
-    classes: Classes,
     /// The statement that comes next.
     place: usize,
-    /// `val`, then the parameters, then the others. An event is held by its number.
-    variables: [i64; 64],
-    frames: Frames,
     mode: Mode,
+    /// 64 of them: `val`, then the parameters, then the others. An event is held by its number.
+    variables: Vec<i64>,
+    frames: Frames,
+    /// Which variables are numbers, by their bits.
+    numbers: u64,
+    me: ProcId,
+    kind: u32,
+    /// The classes of its variables, which contracts alone see.
+    classes: Memo<Classes>,
     /// What it asked for last, which contracts alone see.
     asked: Option<Memo<Op>>,
 }
 
 impl Model for Script {
-    ghost use Rattle.std.specs.Prelude.{◌<◌, ◌^◌};
+    ghost use Rattle.std.specs.Prelude.{◌≡◌, ◌<◌, ◌^◌, vec_len};
     ghost use Rattle.sim_script_model.specs.Scripts.{Script};
-    ghost use Rattle.sim_script.specs.Kept.{mode_of, asked_of};
+    ghost use Rattle.sim_script.specs.Kept.{mode_of, asked_of, MarksNumbers};
 
     ghost Value = { Script };
 
     ghost view = { λ a. record {
       me = a.me;
       kind = a.kind;
-      classes = a.classes;
+      classes = a.classes.value;
       place = a.place;
-      variables = a.variables;
+      variables = a.variables.items;
       frames = a.frames;
       mode = mode_of a.mode;
       asked = asked_of a.asked;
     } };
 
-    ghost invariant = { λ a. a.me.0 < 2 ^ 63 };
+    ghost invariant = { λ a. (a.me.0 < 2 ^ 63) × (vec_len a.variables ≡ 64)
+        × MarksNumbers 64 a.numbers a.classes.value };
 }
 
 impl Script {
-    /// A script of no process kind.
-    pub(crate) fn new() -> Script {
-        Script {
+    /// A script of no process kind. All memory that it will need is taken here.
+    pub(crate) fn new(alloc: Global) -> Result<Script, AllocError> {
+        let classes = Classes::new();
+        Ok(Script {
+            place: 0,
+            mode: Mode::Running,
+            variables: Vec::from_slice(alloc, &[0; 64])?,
+            frames: Frames::new(alloc)?,
+            numbers: numbers_of(&classes),
             me: ProcId(0),
             kind: 0,
-            classes: Classes::new(),
-            place: 0,
-            variables: [0; 64],
-            frames: Frames::new(),
-            mode: Mode::Running,
+            classes: Memo::of(&classes),
             asked: None,
-        }
+        })
     }
 
     /// Stands at the begin of a process of a kind, which has not been told its number.
@@ -73,13 +79,14 @@ impl Script {
         requires { length args.now ≤ 63 }
         ensures { self.new ≡ script_of_kind kind declared.now args.now }
     {
+        self.place = declared.first as usize;
+        self.mode = Mode::Running;
+        begin_variables(&mut self.variables, args);
+        self.frames.clear();
+        self.numbers = numbers_of(&declared.classes);
         self.me = ProcId(0);
         self.kind = kind;
-        self.classes = declared.classes.copied();
-        self.place = declared.first as usize;
-        self.variables = variables_of(args);
-        self.frames = Frames::new();
-        self.mode = Mode::Running;
+        self.classes = Memo::of(&declared.classes);
         self.asked = None;
     }
 
@@ -96,11 +103,10 @@ impl Script {
         requires { at < 64 }
         ensures { result ≡ slice_index_or (script_holds self.now) at (record { 0 = 0 }) }
     {
-        match self.classes.get(usize::from(at)) {
-            Class::Number => EventId(0),
-            Class::Event | Class::Cond | Class::Proc | Class::Request | Class::Move => {
-                self.event_in(at)
-            }
+        if (self.numbers >> at) & 1 == 1 {
+            EventId(0)
+        } else {
+            self.event_in(at)
         }
     }
 
@@ -305,7 +311,7 @@ impl Script {
                 self.leave_try(code, catch);
                 Op::Nop
             }
-            Some(Frame::InLoop(past) | Frame::InRepeat(_, past)) => {
+            Some(Frame::InLoop(past) | Frame::InRepeat(past, _)) => {
                 self.leave();
                 self.leave_loop(past);
                 Op::Nop
@@ -377,13 +383,26 @@ fn given_by(statement: &Stmt) -> Option<u8>
 }
 
 /// The variables of a process that begins: `val`, its arguments, and 0 in all others.
-fn variables_of(args: &[i64]) -> [i64; 64]
-    requires { length args.now ≤ 63 }
-    ensures { result ≡ pos 0 ∷ args.now ++ replicate (63 - length args.now) (pos 0) }
+fn begin_variables(variables: &mut Vec<i64>, args: &[i64])
+    requires long { vec_len variables.old ≡ 64 }
+    requires few { length args.now ≤ 63 }
+    ensures { variables.new.items ≡ pos 0 ∷ args.now ++ replicate (63 - length args.now) (pos 0) }
 {
-    let mut variables = [0; 64];
+    variables.fill(0);
     for (at, value) in args.iter().enumerate() {
         variables[at + 1] = *value;
     }
-    variables
+}
+
+/// Which variables of these classes are numbers, by their bits.
+fn numbers_of(classes: &Classes) -> u64
+    ensures { MarksNumbers 64 result classes.now }
+{
+    let mut numbers = 0;
+    for at in 0..64 {
+        if let Class::Number = classes.get(at) {
+            numbers |= 1 << at;
+        }
+    }
+    numbers
 }

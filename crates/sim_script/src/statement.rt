@@ -133,7 +133,7 @@ impl Script {
                 if times < 1 {
                     self.go_to(*past);
                 } else {
-                    self.enter(Frame::InRepeat(times, *past));
+                    self.enter(Frame::InRepeat(*past, times));
                 }
             }
             Stmt::Try { catch } => self.enter(Frame::InTry(*catch)),
@@ -151,10 +151,10 @@ impl Script {
     fn end_repeat(&mut self, first: u32)
         ensures { self.new ≡ end_repeat first self.old.frames self.old }
     {
-        if let Some(Frame::InRepeat(count, past)) = self.innermost() {
+        if let Some(Frame::InRepeat(past, count)) = self.innermost() {
             self.leave();
             if 1 < count {
-                self.enter(Frame::InRepeat(count - 1, past));
+                self.enter(Frame::InRepeat(past, count - 1));
                 self.go_to(first);
             }
         }

@@ -1,28 +1,28 @@
 -- The blocks but the last are, the other way round, the blocks but the innermost.
-use Rattle.std.proofs.Common.{◌≡◌, ℕ, zero, suc, ◌+◌, ◌-◌, ◌≤◌, ◌<◌, List, [], ◌∷◌, ◌++◌, length, get_or, take, map, refl, arith}
+use Rattle.std.proofs.Common.{◌≡◌, ℕ, zero, suc, ◌-◌, List, [], ◌∷◌, ◌++◌, length, get_or, take, map, refl, arith, rules, vec_len}
 use Rattle.std.specs.Prelude.{reverse}
-use Rattle.std.proofs.lemmas.List.{take_more, map-append, reverse-append}
+use Rattle.std.proofs.lemmas.List.{map-append, reverse-append}
 use Rattle.sim_script_model.specs.Scripts.{tail_of}
 use Rattle.sim_script.specs.declared.frames.Frame.{Frame}
 use Rattle.sim_script.specs.declared.frames.Frame.TheVariants as frame
 use Rattle.sim_script.specs.Kept.{frame_of}
 use Rattle.sim_script.proofs.frames.Frames.pop.Goals as goal
 
-none : (xs : List Frame) (n : ℕ) → n ≡ 0 → take n xs ≡ []
-none xs n e = rw e refl
+without_last : (xs ys : List Frame) (x : Frame) → xs ≡ ys ++ x ∷ [] → reverse (map frame_of ys) ≡ tail_of (reverse (map frame_of xs))
+without_last xs ys x e = rw (e, map-append frame_of ys (x ∷ []), reverse-append (map frame_of ys) (frame_of x ∷ [])) refl
 
-without_last : (xs : List Frame) (m n : ℕ) → n ≡ m + 1 → n ≤ length xs → reverse (map frame_of (take m xs)) ≡ tail_of (reverse (map frame_of (take n xs)))
-without_last xs m n e le =
-    let lt : m < length xs = omega arith in
-    let x = get_or xs m (frame.InTry 0) in
-    let more : map frame_of (take n xs) ≡ map frame_of (take m xs) ++ frame_of x ∷ [] = rw (e, take_more xs m (frame.InTry 0) lt) (map-append frame_of (take m xs) (x ∷ [])) in
-    rw (more, reverse-append (map frame_of (take m xs)) (frame_of x ∷ [])) refl
+whole : (xs : List Frame) (n : ℕ) → length xs ≡ suc n → xs ≡ take n xs ++ get_or xs n (frame.InTry 0) ∷ []
+whole (x ∷ []) zero e = refl
+whole (x ∷ y ∷ xs) (suc n) e = rw (← whole (y ∷ xs) n (omega (arith, e))) refl
+whole _ _ e = absurd (omega (arith, e))
 
-popped : (xs : List Frame) (m n : ℕ) → m ≡ n - 1 → n ≤ length xs → reverse (map frame_of (take m xs)) ≡ tail_of (reverse (map frame_of (take n xs)))
-popped xs m zero e le = rw e refl
-popped xs m (suc k) e le = without_last xs m (suc k) (omega (arith, e)) le
+popped : (xs : List Frame) (n : ℕ) → length xs ≡ n → reverse (map frame_of (take (n - 1) xs)) ≡ tail_of (reverse (map frame_of xs))
+popped [] n e = rw (← e) refl
+popped (x ∷ xs) n e =
+    let at : n - 1 ≡ length xs = omega (arith, e) in
+    rw at (without_last (x ∷ xs) (take (length xs) (x ∷ xs)) _ (whole (x ∷ xs) (length xs) refl))
 
 pub returns-clause-rest : goal.returns-clause-rest
 returns-clause-rest c =
-    let le : c.self.inside.len ≤ length c.self.inside.values = omega arith in
-    rw (← c.self.view_is) (popped c.self.inside.values c.saturating_sub-self-inside.result c.self.inside.len c.saturating_sub-self-inside.ensures le)
+    let long : length c.self.inside.values.items ≡ vec_len c.self.inside.values = search rules in
+    rw (← c.self.view_is, c.pop.ensures.rest) (popped c.self.inside.values.items (vec_len c.self.inside.values) long)

@@ -1,11 +1,17 @@
-use Rattle.std.proofs.Common.{sym, ◌∙◌, refl}
+use Rattle.std.proofs.Common.{refl, sym, ◌∙◌}
+use Rattle.std.proofs.lemmas.Nat.Bits.{shr_and_one}
+use Rattle.sim_script.proofs.Marks.{marks_true, marks_false}
 use Rattle.sim_script.proofs.Places.{number_holds_none, other_holds}
 use Rattle.sim_script.proofs.script.Script.held.Goals as goal
 
-pub returns-in-Number : goal.returns-in-Number
-returns-in-Number c =
-    rw (← c.self.view_is, ← c.from.ensures) (number_holds_none c.self.inside.classes c.self.inside.variables c.from.result (sym c.get.ensures ∙ c.in-Number.is))
+pub returns-then-self-at-eq1 : goal.returns-then-self-at-eq1
+returns-then-self-at-eq1 c =
+    let bit = shr_and_one c.self.inside.numbers c.args.at in
+    let marked = c.self.invariant.2.marked c.args.at c.requires in
+    rw (← c.self.view_is) (number_holds_none c.self.inside.classes.value c.self.inside.variables.items c.args.at (marks_true _ _ marked (sym bit ∙ c.if-self-at-eq1.true)))
 
-pub returns-in-Event : goal.returns-in-Event
-returns-in-Event c =
-    rw (c.event_in.ensures, ← c.self.view_is, ← c.from.ensures) (other_holds c.self.inside.classes c.self.inside.variables c.from.result c.get.result c.get.ensures c.in-Event.is _ refl)
+pub returns-else-self-at-eq1 : goal.returns-else-self-at-eq1
+returns-else-self-at-eq1 c =
+    let bit = shr_and_one c.self.inside.numbers c.args.at in
+    let marked = c.self.invariant.2.marked c.args.at c.requires in
+    rw (c.event_in.ensures, ← c.self.view_is) (other_holds c.self.inside.classes.value c.self.inside.variables.items c.args.at (marks_false _ _ marked (λ one. c.if-self-at-eq1.false (bit ∙ one))) _ refl)

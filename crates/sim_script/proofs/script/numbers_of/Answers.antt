@@ -1,0 +1,11 @@
+use Rattle.std.proofs.Common.{sym, ◌∙◌}
+use Rattle.sim_script.proofs.Marks.{number_marked, other_passed, is_no_number}
+use Rattle.sim_script.proofs.script.numbers_of.Goals as goal
+use Rattle.sim_script.proofs.script.numbers_of.Goals.{in-Number, in_default}
+
+pub loop-at-preserved : goal.loop-at-preserved
+loop-at-preserved c =
+    elim c.match-get.branch [
+      | in-Number w ↦ rw w.numbers-is (number_marked c.loop-at.at c.loop-at.numbers c.args.classes.now c.loop-at-test.true c.loop-at.invariant (sym c.get.ensures ∙ w.in-Number.is))
+      | in_default w ↦ rw w.numbers-is (other_passed c.loop-at.at c.loop-at.numbers c.args.classes.now c.loop-at-test.true c.loop-at.invariant (is_no_number _ (λ e. w.in_default.not-Number (c.get.ensures ∙ e))))
+    ]
