@@ -1,8 +1,9 @@
 -- The bits that say which variables are numbers.
-use Rattle.std.proofs.Common.{◌≡◌, ◌≢◌, ℕ, ◌+◌, ◌*◌, ◌%◌, ◌^◌, ◌<◌, ◌⊎◌, inl, inr, Bool, true, false, List, refl, ◌∙◌, arith, w64}
-use Rattle.std.specs.Prelude.{slice_index_or, if◌then◌else◌, bit_or}
+use Rattle.std.proofs.Common.{◌≡◌, ◌≢◌, ℕ, ◌+◌, ◌-◌, ◌*◌, ◌%◌, ◌^◌, ◌<◌, ◌⊎◌, inl, inr, Bool, true, false, List, refl, ◌∙◌, arith, w64}
+use Rattle.std.specs.Prelude.{slice_index_or, replicate, if◌then◌else◌, bit_or}
 use Rattle.std.specs.Int.{bit_at}
-use Rattle.std.proofs.lemmas.Nat.Bits.{bit_at-zero, bit_at_set_same, bit_at_set_other}
+use Rattle.std.proofs.lemmas.Nat.Bits.{bit_at-zero, bit_at_set_same, bit_at_set_other, bit_at_ones, bit_at_ones_above}
+use Rattle.std.proofs.lemmas.List.{get_or-replicate}
 use Rattle.std.proofs.Math.Nat.{eq-or-lt_of_le}
 use Rattle.sim_types.specs.declared.setup.Class.{Class}
 use Rattle.sim_types.specs.declared.setup.Class.TheVariants as class
@@ -14,6 +15,13 @@ number_at cs i = is_class (slice_index_or cs i class.Number) class.Number
 
 pub none_marked : (cs : List Class) → MarksNumbers 0 0 cs
 none_marked cs = record { marked = λ i lt. absurd (omega (arith, lt)); rest = λ i le. bit_at-zero i }
+
+pub all_marked : (cs : List Class) → cs ≡ replicate 64 class.Number → MarksNumbers 64 (2 ^ 64 - 1) cs
+all_marked cs all =
+    record {
+      marked = λ i lt. rw (all, get_or-replicate 64 i class.Number class.Number lt) (bit_at_ones 64 i lt);
+      rest = λ i le. bit_at_ones_above 64 i le;
+    }
 
 module _ (n bits : ℕ) (cs : List Class) (within : n < 64) (h : MarksNumbers n bits cs) where
   pub number_marked : slice_index_or cs n class.Number ≡ class.Number → MarksNumbers (n + 1) (bit_or bits (1 * 2 ^ n % 2 ^ 64)) cs

@@ -60,16 +60,15 @@ impl Model for Script {
 impl Script {
     /// A script of no process kind. All memory that it will need is taken here.
     pub(crate) fn new(alloc: Global) -> Result<Script, AllocError> {
-        let classes = Classes::new();
         Ok(Script {
             place: 0,
             mode: Mode::Running,
             variables: Vec::from_slice(alloc, &[0; 64])?,
             frames: Frames::new(alloc)?,
-            numbers: numbers_of(&classes),
+            numbers: u64::MAX,
             me: ProcId(0),
             kind: 0,
-            classes: Memo::of(&classes),
+            classes: Memo::of(&Classes::new()),
             asked: None,
         })
     }
