@@ -60,3 +60,8 @@ is_of_resources other = false
 -- those that ask for an operation and change nothing themselves
 abbrev pub is_of_operations : Stmt → Bool
 is_of_operations s = is_of_processes s || is_of_resources s || is_of_events s
+
+-- those that ask for an operation
+abbrev pub asks_for_something : Stmt → Bool
+asks_for_something stmt.EndWith = true
+asks_for_something s = is_of_operations s

@@ -1,6 +1,7 @@
 //! The state of a script.
-ghost use Rattle.std.specs.Prelude.{◌≡◌, ◌+◌, ◌-◌, ◌^◌, ◌<◌, ◌≤◌, pos, [], ◌∷◌, ◌++◌, length, replicate, slice_index_or, vec_len, IsTrue, MatchOption};
+ghost use Rattle.std.specs.Prelude.{◌≡◌, ◌+◌, ◌-◌, ◌^◌, ◌<◌, ◌≤◌, pos, [], ◌∷◌, ◌++◌, length, replicate, slice_index_or, vec_len, IsFalse, IsTrue, MatchOption};
 ghost use Rattle.sim_types.specs.Throws.{error};
+ghost use Rattle.sim_types.specs.declared.op.Op.TheVariants as op;
 ghost use Rattle.sim_script_model.specs.Scripts.{Throwing, set_variable, set_place, set_mode, tail_of, push_frame, pop_frame, stmt_at, value_of_num, value_of_arg, event_in, event_of_ref, process_of_ref};
 ghost use Rattle.sim_script_model.specs.Polls.{store, given_by, last_stmt, open_with, catch_by, leave_try, leave_loop, end_by_mode, do_stmt, take_in, unwind, ask_in_mode, script_turn};
 ghost use Rattle.sim_script_law.specs.Ready.{is_variable, has_variable, refers_within, argument_within, event_is_small, variables_within, has_room, scope_finds_room, can_take, can_do, can_leave, can_ask};
@@ -227,6 +228,11 @@ impl Script {
         ensures { (result, self.new) ≡ script_turn code.now self.old time signal }
     {
         self.take_in(code, signal);
+        // Most statements ask for nothing. That is told before an operation, which is large, is made and handed on.
+        if self.go_quietly(code, time) {
+            self.asked = Some(Memo::of(&Op::Nop));
+            return Op::Nop;
+        }
         let op = self.ask(code, time);
         self.asked = Some(Memo::of(&op));
         op
@@ -272,7 +278,27 @@ impl Script {
         }
     }
 
+    // Does the statement at its place, where that is one that asks for nothing. Whether it did: else nothing changes.
+    fn go_quietly(&mut self, code: &[Stmt], time: i64) -> bool
+        requires { IsTrue (can_ask code.now self.old) }
+        ensures done { IsTrue result → (op.Nop, self.new) ≡ ask_in_mode code.now time self.old }
+        ensures kept { IsFalse result → self.new ≡ self.old }
+    {
+        let Mode::Running = self.mode else {
+            return false;
+        };
+        let place = self.place;
+        let statement = &code[place];
+        self.place = place + 1;
+        let done = self.do_quietly(statement, time);
+        if !done {
+            self.place = place;
+        }
+        done
+    }
+
     // Does the statement at its place, or leaves a block.
+    #[inline(never)]
     fn ask(&mut self, code: &[Stmt], time: i64) -> Op
         requires { IsTrue (can_ask code.now self.old) }
         ensures { (result, self.new) ≡ ask_in_mode code.now time self.old }

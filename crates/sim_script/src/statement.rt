@@ -1,12 +1,12 @@
 //! How a script does a statement.
-ghost use Rattle.std.specs.Prelude.{◌≡◌, IsTrue, map};
+ghost use Rattle.std.specs.Prelude.{◌≡◌, IsFalse, IsTrue, map};
 ghost use Rattle.std.specs.List.{list_all};
 ghost use Rattle.sim_types.specs.declared.op.Op.TheVariants as op;
 ghost use Rattle.sim_script_model.specs.Scripts.{event_of_ref, value_of_arg};
 ghost use Rattle.sim_script_model.specs.Polls.{answer_to, do_stmt, end_repeat};
 ghost use Rattle.sim_script_law.specs.Ready.{is_variable, refers_within, argument_within, event_is_small, events_are_small, enters_room, variables_within};
 ghost use Rattle.sim_script.specs.Kept.{answer_of};
-ghost use Rattle.sim_script.specs.StatementGroups.{is_of_changes, is_of_blocks, is_of_events, is_of_processes, is_of_resources, is_of_operations};
+ghost use Rattle.sim_script.specs.StatementGroups.{is_of_changes, is_of_blocks, is_of_events, is_of_processes, is_of_resources, is_of_operations, asks_for_something};
 
 use crate::arithmetic::compute;
 use crate::frames::Frame;
@@ -22,6 +22,26 @@ impl Script {
         requires room { IsTrue (enters_room self.old.frames statement.now) }
         ensures { (result, self.new) ≡ do_stmt time self.old statement.now }
     {
+        if self.do_quietly(statement, time) {
+            return Op::Nop;
+        }
+        match statement {
+            Stmt::EndWith => {
+                self.leave();
+                Op::Leave
+            }
+            _ => self.operation(statement, time),
+        }
+    }
+
+    /// Does a statement that asks for nothing. The answer is whether it is one: else nothing changes.
+    pub(crate) fn do_quietly(&mut self, statement: &Stmt, time: i64) -> bool
+        requires variables { IsTrue (variables_within statement.now) }
+        requires room { IsTrue (enters_room self.old.frames statement.now) }
+        ensures done { IsTrue result → (op.Nop, self.new) ≡ do_stmt time self.old statement.now }
+        ensures kept { IsFalse result → self.new ≡ self.old }
+        ensures asks { IsFalse result → IsTrue (asks_for_something statement.now) }
+    {
         match statement {
             Stmt::Let { .. }
             | Stmt::Raise { .. }
@@ -30,7 +50,7 @@ impl Script {
             | Stmt::Else { .. }
             | Stmt::Break => {
                 self.change(statement, time);
-                Op::Nop
+                true
             }
             Stmt::Loop { .. }
             | Stmt::Repeat { .. }
@@ -39,14 +59,10 @@ impl Script {
             | Stmt::EndLoop { .. }
             | Stmt::EndRepeat { .. } => {
                 self.change_blocks(statement, time);
-                Op::Nop
+                true
             }
-            Stmt::EndWith => {
-                self.leave();
-                Op::Leave
-            }
-            Stmt::EndPlain => Op::Nop,
-            _ => self.operation(statement, time),
+            Stmt::EndPlain => true,
+            _ => false,
         }
     }
 

@@ -12,7 +12,8 @@ remembered r asked s t e h = rw (← e, h) refl
 
 pub returns : goal.returns
 returns c =
-    let asks : ◌≡◌ {A = Op × Script} (c.ask-op.result, c.ask-op.new.self) (ask_in_mode c.args.code.now (to_z w64 (of_z w64 c.args.time)) c.take_in.new.self) = c.ask-op.ensures in
-    let at_this_time = ap (λ time. ask_in_mode c.args.code.now time c.take_in.new.self) (to_z-of_z w64 c.args.time c.ranges.time) in
-    let taken = ap (ask_in_mode c.args.code.now c.args.time) c.take_in.ensures in
-    remembered _ c.ask-op.result c.ask-op.new.self _ (asks ∙ at_this_time ∙ taken) (rw (← c.self.view_is, c.of.ensures) refl)
+    let asks : ◌≡◌ {A = Op × Script} (c.ask-op.result, c.ask-op.new.self) (ask_in_mode c.args.code.now (to_z w64 (of_z w64 c.args.time)) c.go_quietly.new.self) = c.ask-op.ensures in
+    let at_this_time = ap (λ time. ask_in_mode c.args.code.now time c.go_quietly.new.self) (to_z-of_z w64 c.args.time c.ranges.time) in
+    let kept : c.go_quietly.new.self ≡ c.take_in.new.self = c.go_quietly.ensures.kept c.if-go_quietly.false in
+    let taken = ap (ask_in_mode c.args.code.now c.args.time) (kept ∙ c.take_in.ensures) in
+    remembered _ c.ask-op.result c.ask-op.new.self _ (asks ∙ at_this_time ∙ taken) (rw (← c.self-2.view_is, c.of-2.ensures) refl)
