@@ -1,0 +1,13 @@
+pub mod Counts
+pub mod NamedEvents
+pub mod GivenBack
+pub mod ShownUnheld
+pub mod KeptExactly
+pub mod Trading
+pub mod StateChanges
+pub mod CalendarChanges
+pub mod FacilityChanges
+pub mod Quiet
+pub mod Balancing
+pub mod ConditionsMade
+pub mod KeepingHolders
