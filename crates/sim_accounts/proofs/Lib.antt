@@ -3,6 +3,7 @@ pub mod NamedEvents
 pub mod GivenBack
 pub mod ShownUnheld
 pub mod KeptExactly
+pub mod NumberPlaces
 pub mod Trading
 pub mod StateChanges
 pub mod CalendarChanges

@@ -12,7 +12,7 @@ use Rattle.sim_machine.specs.Standing.{one_if, left_of}
 use Rattle.sim_machine.specs.KeptEvents.{is_closed, is_in_process, is_in_body, triggers, is_to_be_triggered, is_kept_alone}
 use Rattle.sim_machine.specs.Tellings.{Place, Telling, is_class}
 use Rattle.sim_machine_law.proofs.CallbackLaws.{count_by-cons, count_by-map, counts_one}
-use Rattle.sim_accounts.specs.Naming.{events_in_places, held_by_process, times_named, held_alone}
+use Rattle.sim_accounts.specs.Naming.{named_in_places, held_by_process, times_named, held_alone}
 use Rattle.sim_accounts.proofs.Counts.{is_same-swap, one_if_pos, one_pos, count_any, any_count, sum_any, any_sum, count_same, count_filter}
 
 -- event 0 is held for good
@@ -29,14 +29,14 @@ module _ {B : Type 0} (tell : Telling B) (e : EventId) (x : ProcessOf B) where
   abbrev holds : Place → Bool
   holds y = not (is_class y.class class.Number) && is_same y.event e
 
-  places_count : count_by (is_same e) (events_in_places tell x.body) ≡ count_by holds (tell.places x.body)
+  places_count : count_by (is_same e) (named_in_places tell x.body) ≡ count_by holds (tell.places x.body)
   places_count =
       let keep : Place → Bool = λ y. not (is_class y.class class.Number) in
       count_by-map (is_same e) (λ (y : Place). y.event) (filter keep (tell.places x.body))
       ∙ (count_filter (λ y. is_same e y.event) keep (tell.places x.body) ∙ count_same (λ y. keep y && is_same e y.event) holds (λ y. ap (λ b. keep y && b) (is_same-swap e y.event)) (tell.places x.body))
 
   held_count : held_by_process tell e x ≡ one_if (is_same x.target e) + count_by holds (tell.places x.body)
-  held_count = omega (arith, count_by-cons (is_same e) x.target (events_in_places tell x.body), ap one_if (is_same-swap e x.target), places_count)
+  held_count = omega (arith, count_by-cons (is_same e) x.target (named_in_places tell x.body), ap one_if (is_same-swap e x.target), places_count)
 
   body_holds : 0 < held_by_process tell e x → is_in_body tell e x ≡ true
   body_holds h =

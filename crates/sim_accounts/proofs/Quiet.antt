@@ -28,7 +28,7 @@ use Rattle.sim_machine.specs.Tellings.{Telling}
 use Rattle.sim_machine_law.proofs.CallbackLaws.{count_by-cons, count_by-one, left_of-told, left_of-rest}
 use Rattle.sim_machine_law.proofs.KeptTimesCases.{if_cases}
 use Rattle.sim_machine_law.proofs.TakenOut.{count-apart}
-use Rattle.sim_accounts.specs.Naming.{events_in_places, events_held, triggered_by, held_alone}
+use Rattle.sim_accounts.specs.Naming.{named_in_places, named_by_process, triggered_by, held_alone}
 use Rattle.sim_accounts.specs.Changes.{StatesTrade, IsOnlyProcess, HasOnlyScope}
 use Rattle.sim_accounts.proofs.Counts.{is_same-swap}
 use Rattle.sim_accounts.proofs.Trading.{trades_then}
@@ -129,13 +129,13 @@ module _ {B : Type 0} (named : ℕ) (tell : Telling B) where
       (λ not_yet. absurd (false≢true (sym not_yet ∙ processed)))
 
   pub made_trade : (g : Plan B) (k : ℕ) (args : List ℤ) (s : State B)
-      → StatesTrade named tell (next_event (make kind.Process (calendar s)) ∷ events_in_places tell (g.start k args (record { 0 = (next_event (calendar s)).0 }))) [] s (make_process g k args s)
+      → StatesTrade named tell (next_event (make kind.Process (calendar s)) ∷ named_in_places tell (g.start k args (record { 0 = (next_event (calendar s)).0 }))) [] s (make_process g k args s)
   made_trade g k args s =
       let p : ProcId = record { 0 = (next_event (calendar s)).0 } in
       joined_trade named tell s (record { id = p; body = g.start k args p; target = next_event (make kind.Process (calendar s)) }) (on_calendar make_events_of_process s.facilities) (plainly_process (calendar s)).quietly.triggers
 
   pub over_trade : (s : State B) (p : ProcId) (x : ProcessOf B) (o : Outcome) → IsOnlyProcess p x s
-      → StatesTrade named tell [] (events_held tell x) s (end_process p o s)
+      → StatesTrade named tell [] (named_by_process tell x) s (end_process p o s)
   over_trade s p x o only =
       ended_trade named tell s p x (on_calendar (trigger (event_of p) o) s.facilities) only (plainly_scheduled (event_of p) o normal (pos 0) (calendar s)).quietly.triggers
 

@@ -21,7 +21,7 @@ use Rattle.sim_machine.specs.Tellings.{Telling}
 use Rattle.sim_machine_law.proofs.EventLaws.{is_same-yes, same_event}
 use Rattle.sim_machine_law.proofs.CallbackLaws.{count_by-cons, count_by-append, count_by-one, callbacks_in_all-popped}
 use Rattle.sim_machine_law.proofs.KeptProcessesParts.{same_process}
-use Rattle.sim_accounts.specs.Naming.{events_in_places, events_held, held_by_process, triggered_by, times_named}
+use Rattle.sim_accounts.specs.Naming.{named_in_places, named_by_process, held_by_process, triggered_by, times_named}
 use Rattle.sim_accounts.specs.Changes.{StatesTrade, IsOnlyProcess, HasOnlyScope}
 use Rattle.sim_accounts.proofs.Counts.{is_same-swap}
 use Rattle.sim_accounts.proofs.Trading.{states_trade, sum_without, sum_changed}
@@ -53,31 +53,31 @@ module _ {B : Type 0} (named : ℕ) (tell : Telling B) where
   waits_trade s p x e only =
       let t : State B = change_process p (λ y. record y { target = e }) s in
       states_trade named tell (e ∷ []) (x.target ∷ []) s t
-      (λ f. omega (arith, changed p (λ y. record y { target = e }) s x f only, count_by-cons (is_same f) x.target (events_in_places tell x.body), count_by-cons (is_same f) e (events_in_places tell x.body), count_by-one (is_same f) e, count_by-one (is_same f) x.target))
+      (λ f. omega (arith, changed p (λ y. record y { target = e }) s x f only, count_by-cons (is_same f) x.target (named_in_places tell x.body), count_by-cons (is_same f) e (named_in_places tell x.body), count_by-one (is_same f) e, count_by-one (is_same f) x.target))
 
   pub body_trade : (s : State B) (p : ProcId) (x : ProcessOf B) (b : B) → IsOnlyProcess p x s
-      → StatesTrade named tell (events_in_places tell b) (events_in_places tell x.body) s (with_body p b s)
+      → StatesTrade named tell (named_in_places tell b) (named_in_places tell x.body) s (with_body p b s)
   body_trade s p x b only =
       let t : State B = with_body p b s in
-      states_trade named tell (events_in_places tell b) (events_in_places tell x.body) s t
-      (λ f. omega (arith, changed p (λ y. record y { body = b }) s x f only, count_by-cons (is_same f) x.target (events_in_places tell x.body), count_by-cons (is_same f) x.target (events_in_places tell b)))
+      states_trade named tell (named_in_places tell b) (named_in_places tell x.body) s t
+      (λ f. omega (arith, changed p (λ y. record y { body = b }) s x f only, count_by-cons (is_same f) x.target (named_in_places tell x.body), count_by-cons (is_same f) x.target (named_in_places tell b)))
 
   -- the calendar may change besides, where the callbacks that pass outcomes on stay
   abbrev SameTriggers : Calendar → Calendar → Type 0
   SameTriggers c d = (e : EventId) → count_by (λ r. triggers e r.callback) d.registered ≡ count_by (λ r. triggers e r.callback) c.registered
 
   pub joined_trade : (s : State B) (x : ProcessOf B) (f : Facilities) → SameTriggers s.facilities.calendar f.calendar
-      → StatesTrade named tell (events_held tell x) [] s (record s { facilities = f; processes = s.processes ++ x ∷ [] })
+      → StatesTrade named tell (named_by_process tell x) [] s (record s { facilities = f; processes = s.processes ++ x ∷ [] })
   joined_trade s x f same =
       let t : State B = record s { facilities = f; processes = s.processes ++ x ∷ [] } in
-      states_trade named tell (events_held tell x) [] s t
+      states_trade named tell (named_by_process tell x) [] s t
       (λ e. omega (arith, same e, sum_by-append (held_by_process tell e) s.processes (x ∷ []), sum_by-cons (held_by_process tell e) x []))
 
   pub ended_trade : (s : State B) (p : ProcId) (x : ProcessOf B) (f : Facilities) → IsOnlyProcess p x s → SameTriggers s.facilities.calendar f.calendar
-      → StatesTrade named tell [] (events_held tell x) s (record s { facilities = f; processes = filter (λ y. not (is_process y.id p)) s.processes })
+      → StatesTrade named tell [] (named_by_process tell x) s (record s { facilities = f; processes = filter (λ y. not (is_process y.id p)) s.processes })
   ended_trade s p x f only same =
       let t : State B = record s { facilities = f; processes = filter (λ y. not (is_process y.id p)) s.processes } in
-      states_trade named tell [] (events_held tell x) s t
+      states_trade named tell [] (named_by_process tell x) s t
       (λ e. omega (arith, same e, sum_without (λ (y : ProcessOf B). y.id.0) p.0 (held_by_process tell e) s.processes x (apart_numbers s only.distinct) only.found))
 
   -- ---- scopes

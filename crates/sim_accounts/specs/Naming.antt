@@ -11,17 +11,17 @@ use Rattle.sim_machine.specs.Standing.{one_if, callbacks_in_all}
 use Rattle.sim_machine.specs.KeptEvents.{is_in_process, triggers}
 use Rattle.sim_machine.specs.Tellings.{Telling, is_class}
 
--- the events that a body holds in its places; in a place for a number no event stands
-abbrev pub events_in_places : {B : Type 0} → Telling B → B → List EventId
-events_in_places tell b = map (λ y. y.event) (filter (λ y. not (is_class y.class class.Number)) (tell.places b))
+-- the events that a body names in its places; in a place for a number no event stands
+abbrev pub named_in_places : {B : Type 0} → Telling B → B → List EventId
+named_in_places tell b = map (λ y. y.event) (filter (λ y. not (is_class y.class class.Number)) (tell.places b))
 
--- the events that a live process holds: the one that it waits for, or waited for last, and those in its places
-abbrev pub events_held : {B : Type 0} → Telling B → ProcessOf B → List EventId
-events_held tell x = x.target ∷ events_in_places tell x.body
+-- the events that a live process names: the one that it waits for, or waited for last, and those in its places
+abbrev pub named_by_process : {B : Type 0} → Telling B → ProcessOf B → List EventId
+named_by_process tell x = x.target ∷ named_in_places tell x.body
 
--- how often a live process holds e
+-- how often a live process names e
 abbrev pub held_by_process : {B : Type 0} → Telling B → EventId → ProcessOf B → ℕ
-held_by_process tell e x = count_by (is_same e) (events_held tell x)
+held_by_process tell e x = count_by (is_same e) (named_by_process tell x)
 
 -- the event that a callback passes an outcome on to, if it does so
 abbrev pub triggered_by : Callback → List EventId

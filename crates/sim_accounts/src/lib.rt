@@ -17,6 +17,6 @@ pub use happenings::{
 };
 pub use holders::{traded_balanced, unheld_balanced, unheld_shown};
 pub use naming::{
-    blank_states, events_in_process, living_processes, open_scopes, quiet_changes,
-    waiting_processes,
+    blank_states, events_in_process, living_processes, open_scopes, places_of_numbers,
+    quiet_changes, waiting_processes,
 };

@@ -1,5 +1,6 @@
 //! What each change of the machine's state does to who holds which event: who has a holder more, and who one fewer.
-ghost use Rattle.std.specs.Prelude.{◌≡◌, ◌+◌, ◌∷◌, [], false, true, ℕ, ℤ, nat_le, List};
+ghost use Rattle.std.specs.Prelude.{◌≡◌, ◌+◌, ◌∷◌, [], false, true, ℕ, ℤ, map, nat_le, List};
+ghost use Rattle.std.specs.List.{list_all};
 ghost use Rattle.sim_types.specs.declared.event.Callback.{Callback};
 ghost use Rattle.sim_types.specs.declared.event.Entry.{Entry};
 ghost use Rattle.sim_types.specs.declared.event.EventId.{EventId};
@@ -9,18 +10,19 @@ ghost use Rattle.sim_types.specs.declared.event.ProcId.{ProcId};
 ghost use Rattle.sim_types.specs.declared.event.Signal.{Signal};
 ghost use Rattle.sim_types.specs.declared.line.End.{End};
 ghost use Rattle.sim_types.specs.declared.line.Line.{Line};
-ghost use Rattle.sim_machine.specs.State.{Active, Calling, Facilities, Idle, OpenScope, Over, Plan, ProcessOf, State};
+ghost use Rattle.sim_machine.specs.State.{Active, Calendar, Calling, Facilities, Idle, OpenScope, Over, Plan, ProcessOf, State};
 ghost use Rattle.sim_machine.specs.Effect.{calendar};
 ghost use Rattle.sim_machine.specs.Events.{is_processed, next_event, register};
 ghost use Rattle.sim_machine.specs.Triggering.{make};
 ghost use Rattle.sim_machine.specs.Processes.{end_process, make_process, stop_waiting, strip_resume, wait, with_body, write_line};
 ghost use Rattle.sim_machine.specs.Processes as processes;
+ghost use Rattle.sim_machine.specs.LawfulBodies.{place_fits};
 ghost use Rattle.sim_machine.specs.Runs.{blank_state};
 ghost use Rattle.sim_machine.specs.Scopes.{close_scope, on_events, on_facilities, open_scope};
 ghost use Rattle.sim_machine.specs.Standing.{one_if};
 ghost use Rattle.sim_machine.specs.Steps.{control_to, pop_entry, settle};
 ghost use Rattle.sim_machine.specs.Tellings.{Telling};
-ghost use Rattle.sim_accounts.specs.Naming.{events_held, events_in_places, held_alone, triggered_by};
+ghost use Rattle.sim_accounts.specs.Naming.{but_zero, held_alone, named_by_process, named_in_places, triggered_by};
 ghost use Rattle.sim_accounts.specs.Changes.{ComesQuietly, HasOnlyScope, IsOnlyProcess, StatesTrade};
 
 /// A process that waits for an event holds it in place of the one that it waited for; one that goes on at once holds what it
@@ -45,15 +47,22 @@ pub fn living_processes<B>()
     ensures made { (n : ℕ) (tell : Telling B) (g : Plan B) (k : ℕ) (args : List ℤ) (s : State B) →
         let first = next_event (calendar s) in
         let init = next_event (make kind.Process (calendar s)) in
-        let places = events_in_places tell (g.start k args (record { 0 = first.0 })) in
+        let places = named_in_places tell (g.start k args (record { 0 = first.0 })) in
         StatesTrade n tell (init ∷ places) [] s (make_process g k args s) }
     ensures ended { (n : ℕ) (tell : Telling B) (s : State B) (p : ProcId) (x : ProcessOf B)
         (outcome : Outcome) → IsOnlyProcess p x s →
-        StatesTrade n tell [] (events_held tell x) s (end_process p outcome s) }
+        StatesTrade n tell [] (named_by_process tell x) s (end_process p outcome s) }
     ensures body { (n : ℕ) (tell : Telling B) (s : State B) (p : ProcId) (x : ProcessOf B) (b : B) →
         IsOnlyProcess p x s →
-        StatesTrade n tell (events_in_places tell b) (events_in_places tell x.body) s
+        StatesTrade n tell (named_in_places tell b) (named_in_places tell x.body) s
         (with_body p b s) }
+{}
+
+/// In a lawful state a place for a number has event 0, so all places may be read alike.
+pub fn places_of_numbers<B>()
+    ensures same { (tell : Telling B) (c : Calendar) (b : B) →
+        list_all (place_fits c) (tell.places b) ≡ true → but_zero (named_in_places tell b)
+        ≡ but_zero (map (λ y. y.event) (tell.places b)) }
 {}
 
 /// An open scope holds its request.
