@@ -24,6 +24,11 @@ owed_kept alone e todo es b =
 pub owed_own : (alone : EventId → ℕ) (e : EventId) (todo : List EventId) (es : List (Option Kept)) → Balanced alone (e ∷ todo) es → HasOwnHolder es e
 owed_own alone e todo es b = omega (arith, b.each e, count_by-cons (is_same e) e todo, counts_one (is_same e e) (is_same-self e))
 
+-- and so is one that is held, or of which a holder is to be given back
+pub held_kept : (alone : EventId → ℕ) (e : EventId) (todo : List EventId) (es : List (Option Kept)) → Balanced alone todo es
+    → 0 < alone e + count_by (is_same e) todo → IsKept es e
+held_kept alone e todo es b h = kept_if_held (slice_index_or es e.0 None) (omega (arith, b.each e, h))
+
 -- how often another event stands in a list with one more in front
 pub other_counts : (e f : EventId) (todo : List EventId) → f.0 ≢ e.0 → count_by (is_same f) (e ∷ todo) ≡ count_by (is_same f) todo
 other_counts e f todo differ = omega (arith, count_by-cons (is_same f) e todo, counts_none (is_same f e) (ne_eqb f.0 e.0 differ))

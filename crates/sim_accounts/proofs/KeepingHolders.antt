@@ -9,9 +9,13 @@ use Rattle.sim_machine.specs.State.{Calendar}
 use Rattle.sim_machine.specs.Conditions.{members_of}
 use Rattle.sim_machine.specs.KeptEvents.{is_closed}
 use Rattle.sim_machine_law.proofs.EventLaws.{same_event}
-use Rattle.sim_happen_model.specs.HappenOf.{unheld_event, none_if_unheld, gone_if_unheld}
+use Rattle.sim_happen_model.specs.HappenOf.{HappenOf, held, unheld_event, none_if_unheld, gone_if_unheld}
 use Rattle.sim_happen_law.proofs.KeptPlaces.{at_end, at_before}
+use Rattle.sim_machine.specs.Events.{is_same}
+use Rattle.std.specs.Prelude.{count_by, slice_set}
+use Rattle.sim_accounts.specs.Accounts.{Balanced}
 use Rattle.sim_accounts.specs.Changes.{GoesUnheld, KeepsHolders}
+use Rattle.sim_accounts.proofs.Balancing.{holders_told, number_of}
 
 abbrev read_at : List (Option ℕ) → EventId → Option ℕ
 read_at hs e = slice_index_or hs e.0 None
@@ -61,3 +65,16 @@ keeps_gone d e hs gs below closed plain k =
     may_go None was is = inl is
     may_go (Some zero) was is = inr (record { unheld = was; gone = is; closed = closed; plain = plain })
     may_go (Some (suc n)) was is = inl (is ∙ rw (ne_eqb (suc n) 0 (λ same. omega (arith, same))) refl)
+
+-- what is held does not go
+held_stay : (hs : List (Option ℕ)) (i : ℕ) → (slice_index_or hs i None ≡ Some 0 → ⊥) → slice_set hs i (none_if_unheld (slice_index_or hs i None)) ≡ hs
+held_stay [] i h = refl
+held_stay (None ∷ hs) zero h = refl
+held_stay (Some zero ∷ hs) zero h = absurd (h refl)
+held_stay (Some (suc n) ∷ hs) zero h = ap (λ o. o ∷ hs) (rw (ne_eqb (suc n) 0 (λ same. omega (arith, same))) refl)
+held_stay (o ∷ hs) (suc i) h = ap (λ gs. o ∷ gs) (held_stay hs i h)
+
+pub held_stays : (alone : EventId → ℕ) (e : EventId) (todo : List EventId) (h : HappenOf) → Balanced alone todo h.events
+    → 0 < alone e + count_by (is_same e) todo → gone_if_unheld e (held h) ≡ held h
+held_stays alone e todo h b some =
+    held_stay (held h) e.0 (λ (none : slice_index_or (held h) e.0 None ≡ Some 0). omega (arith, some, b.each e, holders_told h e, ap number_of none))

@@ -125,27 +125,38 @@ module _ {B : Type 0} (named : ℕ) (tell : Telling B) (s : State B) (e : EventI
       open_is : (a b c d e f g : Bool) → a ≡ true → (a || b || c || d || e || (f || g)) ≡ true
       open_is a b c d e f g h = grind arith
 
-  -- and the other way round, where it is closed
-  abbrev Held : Type 0
-  Held = (is_closed c e ≡ false) ⊎ (0 < times_named named tell s e)
+  -- ---- and each reason counts
 
-  named_if_kept : is_kept_alone named tell s e ≡ true → Held
-  named_if_kept h =
+  named_held : 0 < times_named named tell s e → 0 < held_alone named tell s e
+  named_held h =
+      ⊎_elim (λ zero. omega (arith, zero_alone named tell s e zero)) (λ other. omega (arith, h, other_alone named tell s e other)) (cases_eq e.0 0)
+
+  pub held_for_good : nat_le e.0 named ≡ true → 0 < held_alone named tell s e
+  held_for_good h = named_held (omega (arith, counts_one (nat_le e.0 named) h))
+
+  pub held_in_process : in_process ≡ true → 0 < held_alone named tell s e
+  held_in_process h = named_held (omega (arith, counts_one in_process h))
+
+  pub held_in_body : in_body ≡ true → 0 < held_alone named tell s e
+  held_in_body h = named_held (omega (arith, any_sum (is_in_body tell e) (held_by_process tell e) (body_held tell e) s.processes h))
+
+  pub held_in_scope : in_scope ≡ true → 0 < held_alone named tell s e
+  held_in_scope h = named_held (omega (arith, scopes_count, any_count (λ x. is_same x.request e) s.scopes h))
+
+  pub held_triggered : is_to_be_triggered e s ≡ true → 0 < held_alone named tell s e
+  held_triggered h =
+      ⊎_elim (λ q. named_held (omega (arith, any_count (λ r. triggers e r.callback) c.registered q))) (λ q. named_held (omega (arith, any_count (triggers e) (left_of s.control) q)))
+      (or_cases is_awaited is_left h)
+
+  -- so what is kept but for conditions is open, or held but for conditions
+  pub held_if_alone : is_kept_alone named tell s e ≡ true → (is_closed c e ≡ false) ⊎ (0 < held_alone named tell s e)
+  held_if_alone h =
       let a : Bool = not (is_closed c e) in
       let b : Bool = nat_le e.0 named in
       let p2 : Bool = a || b in
       let p3 : Bool = p2 || in_process in
       let p4 : Bool = p3 || in_body in
       let p5 : Bool = p4 || in_scope in
-      ⊎_elim (λ q. ⊎_elim (λ q. ⊎_elim (λ q. ⊎_elim (λ q. ⊎_elim (λ q. inl (not-true (is_closed c e) q))
-      (λ q. inr (omega (arith, counts_one b q))) (or_cases a b q))
-      (λ q. inr (omega (arith, counts_one in_process q))) (or_cases p2 in_process q))
-      (λ q. inr (omega (arith, any_sum (is_in_body tell e) (held_by_process tell e) (body_held tell e) s.processes q))) (or_cases p3 in_body q))
-      (λ q. inr (omega (arith, scopes_count, any_count (λ x. is_same x.request e) s.scopes q))) (or_cases p4 in_scope q))
-      (λ q. ⊎_elim (λ q. inr (omega (arith, any_count (λ r. triggers e r.callback) c.registered q))) (λ q. inr (omega (arith, any_count (triggers e) (left_of s.control) q))) (or_cases is_awaited is_left q))
-      (or_cases p5 (is_to_be_triggered e s) h)
-
-  pub held_if_alone : is_kept_alone named tell s e ≡ true → (is_closed c e ≡ false) ⊎ (0 < held_alone named tell s e)
-  held_if_alone h =
-      ⊎_elim (λ zero. inr (omega (arith, zero_alone named tell s e zero)))
-      (λ other. ⊎_elim (λ q. inl q) (λ q. inr (omega (arith, q, other_alone named tell s e other))) (named_if_kept h)) (cases_eq e.0 0)
+      ⊎_elim (λ q. ⊎_elim (λ q. ⊎_elim (λ q. ⊎_elim (λ q. ⊎_elim (λ q. inl (not-true (is_closed c e) q)) (λ q. inr (held_for_good q)) (or_cases a b q))
+      (λ q. inr (held_in_process q)) (or_cases p2 in_process q)) (λ q. inr (held_in_body q)) (or_cases p3 in_body q)) (λ q. inr (held_in_scope q)) (or_cases p4 in_scope q))
+      (λ q. inr (held_triggered q)) (or_cases p5 (is_to_be_triggered e s) h)

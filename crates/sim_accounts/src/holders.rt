@@ -1,12 +1,16 @@
 //! How holders are given back, and how counts of holders change into one another.
-ghost use Rattle.std.specs.Prelude.{◌≡◌, ◌∷◌, ◌++◌, List, Option, ℕ};
+ghost use Rattle.std.specs.Prelude.{◌≡◌, ◌∷◌, ◌++◌, ◌+◌, ◌<◌, true, List, Option, ℕ, count_by, nat_le};
+ghost use Rattle.std.specs.List.{list_any};
 ghost use Rattle.sim_types.specs.declared.event.EventId.{EventId};
-ghost use Rattle.sim_machine.specs.State.{Calendar};
+ghost use Rattle.sim_machine.specs.State.{Calendar, State};
+ghost use Rattle.sim_machine.specs.Events.{is_same};
+ghost use Rattle.sim_machine.specs.KeptEvents.{is_in_body, is_in_process, is_to_be_triggered};
+ghost use Rattle.sim_machine.specs.Tellings.{Telling};
 ghost use Rattle.sim_events.specs.TableOf.{IsKept, Kept};
-ghost use Rattle.sim_happen_model.specs.HappenOf.{HappenOf};
+ghost use Rattle.sim_happen_model.specs.HappenOf.{HappenOf, gone_if_unheld, held};
 ghost use Rattle.sim_happen_model.specs.Holders.{HasOwnHolder, unheld};
 ghost use Rattle.sim_happen_model.specs.Shows.{Shows};
-ghost use Rattle.sim_accounts.specs.Naming.{but_zero};
+ghost use Rattle.sim_accounts.specs.Naming.{but_zero, held_alone};
 ghost use Rattle.sim_accounts.specs.Accounts.{AreGoneClosed, Balanced};
 ghost use Rattle.sim_accounts.specs.Changes.{Trades};
 
@@ -48,4 +52,29 @@ pub fn traded_balanced()
         (lost_then : List EventId) (old : EventId → ℕ) (now : EventId → ℕ) (new : EventId → ℕ) →
         Trades gained lost old now → Trades gained_then lost_then now new →
         Trades (gained ++ gained_then) (lost ++ lost_then) old new }
+{}
+
+/// What is held is kept, and does not go where it is cancelled.
+pub fn held_events()
+    ensures kept { (alone : EventId → ℕ) (e : EventId) (todo : List EventId)
+        (events : List (Option Kept)) → Balanced alone todo events →
+        0 < alone e + count_by (is_same e) todo → IsKept events e }
+    ensures stays { (alone : EventId → ℕ) (e : EventId) (todo : List EventId) (h : HappenOf) →
+        Balanced alone todo h.events → 0 < alone e + count_by (is_same e) todo →
+        gone_if_unheld e (held h) ≡ held h }
+{}
+
+/// Each reason to keep an event, but for conditions, is a holder: it is named for good, is being processed, is the target of a
+/// live process or stands in one of its places, has an open scope, or is to get an outcome from another event.
+pub fn reasons<B>()
+    ensures named { (n : ℕ) (tell : Telling B) (s : State B) (e : EventId) →
+        nat_le e.0 n ≡ true → 0 < held_alone n tell s e }
+    ensures processed { (n : ℕ) (tell : Telling B) (s : State B) (e : EventId) →
+        is_in_process s.control e ≡ true → 0 < held_alone n tell s e }
+    ensures body { (n : ℕ) (tell : Telling B) (s : State B) (e : EventId) →
+        list_any (is_in_body tell e) s.processes ≡ true → 0 < held_alone n tell s e }
+    ensures scope { (n : ℕ) (tell : Telling B) (s : State B) (e : EventId) →
+        list_any (λ x. is_same x.request e) s.scopes ≡ true → 0 < held_alone n tell s e }
+    ensures triggered { (n : ℕ) (tell : Telling B) (s : State B) (e : EventId) →
+        is_to_be_triggered e s ≡ true → 0 < held_alone n tell s e }
 {}
