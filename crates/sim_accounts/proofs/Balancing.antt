@@ -21,7 +21,6 @@ use Rattle.sim_happen_law.proofs.Soundness.{past_is}
 use Rattle.sim_happen_law.proofs.Held.{holders_at, held_at}
 use Rattle.sim_accounts.specs.Accounts.{Balanced, AreGoneClosed}
 use Rattle.sim_accounts.specs.Changes.{Trades, ComesAfter, MakesNoCondition, KeepsHolders}
-use Rattle.sim_accounts.specs.Naming.{but_zero}
 use Rattle.sim_accounts.proofs.GivenBack.{same_counts, other_counts}
 use Rattle.sim_machine_law.proofs.CallbackLaws.{count_by-append}
 
@@ -29,9 +28,9 @@ use Rattle.sim_machine_law.proofs.CallbackLaws.{count_by-append}
 
 -- what was held beforehand is held now, and what is held no more is to be given back
 pub trades_balanced : (gained lost todo : List EventId) (old new : EventId → ℕ) (es : List (Option Kept)) → Trades gained lost old new
-    → Balanced old (but_zero gained ++ todo) es → Balanced new (but_zero lost ++ todo) es
+    → Balanced old (gained ++ todo) es → Balanced new (lost ++ todo) es
 trades_balanced gained lost todo old new es t b = record {
-  each = λ e. omega (arith, b.each e, t.each e, count_by-append (is_same e) (but_zero gained) todo, count_by-append (is_same e) (but_zero lost) todo);
+  each = λ e. omega (arith, b.each e, t.each e, count_by-append (is_same e) gained todo, count_by-append (is_same e) lost todo);
   older = b.older;
 }
 

@@ -8,19 +8,24 @@ use Rattle.sim_types.specs.declared.event.EventId.{EventId}
 use Rattle.sim_types.specs.declared.setup.Class.TheVariants as class
 use Rattle.sim_machine.specs.State.{ProcessOf, Calendar, State}
 use Rattle.sim_machine.specs.Events.{is_same}
-use Rattle.sim_machine.specs.Standing.{one_if, left_of}
+use Rattle.sim_machine.specs.Standing.{callbacks_in_all, one_if, left_of}
 use Rattle.sim_machine.specs.KeptEvents.{is_closed, is_in_process, is_in_body, triggers, is_to_be_triggered, is_kept_alone}
 use Rattle.sim_machine.specs.Tellings.{Place, Telling, is_class}
 use Rattle.sim_machine_law.proofs.CallbackLaws.{count_by-cons, count_by-map, counts_one}
 use Rattle.sim_accounts.specs.Naming.{named_in_places, held_by_process, times_named, held_alone}
 use Rattle.sim_accounts.proofs.Counts.{is_same-swap, one_if_pos, one_pos, count_any, any_count, sum_any, any_sum, count_same, count_filter}
 
+-- who passes an outcome on to e
+abbrev pub awaiting : {B : Type 0} → State B → EventId → ℕ
+awaiting s e = callbacks_in_all (triggers e) s.facilities.calendar s.control
+
 -- event 0 is held for good
-pub zero_alone : {B : Type 0} (named : ℕ) (tell : Telling B) (s : State B) (e : EventId) → e.0 ≡ 0 → held_alone named tell s e ≡ 1
+pub zero_alone : {B : Type 0} (named : ℕ) (tell : Telling B) (s : State B) (e : EventId) → e.0 ≡ 0 → held_alone named tell s e ≡ 1 + awaiting s e
 zero_alone named tell s e h = rw h refl
 
 -- any other is held where it is named
-pub other_alone : {B : Type 0} (named : ℕ) (tell : Telling B) (s : State B) (e : EventId) → e.0 ≢ 0 → held_alone named tell s e ≡ times_named named tell s e
+pub other_alone : {B : Type 0} (named : ℕ) (tell : Telling B) (s : State B) (e : EventId) → e.0 ≢ 0
+    → held_alone named tell s e ≡ times_named named tell s e + awaiting s e
 other_alone named tell s e h = rw (ne_eqb e.0 0 h) refl
 
 -- ---- one process
@@ -92,7 +97,7 @@ module _ {B : Type 0} (named : ℕ) (tell : Telling B) (s : State B) (e : EventI
   abbrev Reasons : Type 0
   Reasons = (nat_le e.0 named ≡ true) ⊎ ((in_process ≡ true) ⊎ ((in_body ≡ true) ⊎ ((in_scope ≡ true) ⊎ ((is_awaited ≡ true) ⊎ (is_left ≡ true)))))
 
-  named_for : 0 < times_named named tell s e → Reasons
+  named_for : 0 < times_named named tell s e + awaiting s e → Reasons
   named_for h =
       let n1 : ℕ = one_if (nat_le e.0 named) in
       let n2 : ℕ = one_if in_process in
@@ -127,7 +132,7 @@ module _ {B : Type 0} (named : ℕ) (tell : Telling B) (s : State B) (e : EventI
 
   -- ---- and each reason counts
 
-  named_held : 0 < times_named named tell s e → 0 < held_alone named tell s e
+  named_held : 0 < times_named named tell s e + awaiting s e → 0 < held_alone named tell s e
   named_held h =
       ⊎_elim (λ zero. omega (arith, zero_alone named tell s e zero)) (λ other. omega (arith, h, other_alone named tell s e other)) (cases_eq e.0 0)
 

@@ -1,5 +1,5 @@
 -- What is done without a holder more or fewer, and what is done with a control.
-use Rattle.std.proofs.Common.{◌≡◌, ℕ, ℤ, ◌+◌, Bool, true, false, List, [], ◌∷◌, refl, sym, ap, ◌∙◌, arith}
+use Rattle.std.proofs.Common.{◌≡◌, ℕ, ℤ, ◌+◌, Bool, true, false, List, [], ◌∷◌, ◌++◌, refl, sym, ap, ◌∙◌, arith}
 use Rattle.std.specs.Prelude.{count_by, nat_le, pos, ◌==◌}
 use Rattle.std.proofs.lemmas.Bool.{false≢true}
 use Rattle.std.proofs.lemmas.Bool.Decides.{nat_tests}
@@ -28,11 +28,11 @@ use Rattle.sim_machine.specs.Tellings.{Telling}
 use Rattle.sim_machine_law.proofs.CallbackLaws.{count_by-cons, count_by-one, left_of-told, left_of-rest}
 use Rattle.sim_machine_law.proofs.KeptTimesCases.{if_cases}
 use Rattle.sim_machine_law.proofs.TakenOut.{count-apart}
-use Rattle.sim_accounts.specs.Naming.{named_in_places, named_by_process, triggered_by, held_alone}
+use Rattle.sim_accounts.specs.Naming.{but_zero, held_alone, named_by_process, named_in_places, triggered_by}
 use Rattle.sim_accounts.specs.Changes.{StatesTrade, IsOnlyProcess, HasOnlyScope}
 use Rattle.sim_accounts.proofs.Counts.{is_same-swap}
-use Rattle.sim_accounts.proofs.Trading.{trades_then}
-use Rattle.sim_accounts.proofs.StateChanges.{triggers_counted, waits_trade, joined_trade, ended_trade, closed_trade, quiet_trade, registered_trade, controlled_trade}
+use Rattle.sim_accounts.proofs.Trading.{trades_quietly, trades_then}
+use Rattle.sim_accounts.proofs.StateChanges.{triggers_counted, waits_trade, joined_trade, ended_trade, closed_trade, quiet_trade, registered_trade, controlled_trade, processed_trade}
 use Rattle.sim_accounts.proofs.CalendarChanges.{plainly_defused_failed, plainly_process, plainly_scheduled, plainly_unregistered}
 use Rattle.sim_accounts.proofs.FacilityChanges.{plainly_left}
 
@@ -67,55 +67,63 @@ stripped_left p (Active f left q y) e = count-apart (triggers e) (is_resume_of p
 stripped_left p (Over why f left) e = refl
 
 module _ {B : Type 0} (named : ℕ) (tell : Telling B) where
+  -- the control changes, but neither the event that is processed nor the callbacks that pass outcomes on
+  same_control : (s : State B) (k : Control) → ((e : EventId) → is_in_process k e ≡ is_in_process s.control e)
+      → ((e : EventId) → count_by (triggers e) (left_of k) ≡ count_by (triggers e) (left_of s.control)) → StatesTrade named tell [] [] s (record s { control = k })
+  same_control s k processed left =
+      processed_trade named tell s k [] [] (λ e. omega (arith, ap one_if (processed e))) (λ e. omega (arith, left e))
+
   pub told_trade : (x : Signal) (s : State B) → StatesTrade named tell [] [] s (told x s)
-  told_trade x s =
-      controlled_trade named tell [] [] s (told_more x s.control)
-      (λ e. omega (arith, ap one_if (told_in_process x s.control e), ap (count_by (triggers e)) (left_of-told x s.control)))
+  told_trade x s = same_control s (told_more x s.control) (told_in_process x s.control) (λ e. ap (count_by (triggers e)) (left_of-told x s.control))
 
   pub rest_trade : (s : State B) → StatesTrade named tell [] [] s (rest s)
-  rest_trade s =
-      controlled_trade named tell [] [] s (not_active s.control)
-      (λ e. omega (arith, ap one_if (rest_in_process s.control e), ap (count_by (triggers e)) (left_of-rest s.control)))
+  rest_trade s = same_control s (not_active s.control) (rest_in_process s.control) (λ e. ap (count_by (triggers e)) (left_of-rest s.control))
 
   pub stripped_trade : (p : ProcId) (s : State B) → StatesTrade named tell [] [] s (record s { control = strip_resume p s.control })
-  stripped_trade p s =
-      controlled_trade named tell [] [] s (strip_resume p s.control) (λ e. omega (arith, ap one_if (stripped_in_process p s.control e), stripped_left p s.control e))
+  stripped_trade p s = same_control s (strip_resume p s.control) (stripped_in_process p s.control) (stripped_left p s.control)
 
   module _ (s : State B) (e : EventId) (x : Callback) (left : List Callback) (calling : s.control ≡ Calling e (x ∷ left)) where
-    before_call : (f : EventId) → one_if (is_in_process s.control f) + count_by (triggers f) (left_of s.control)
-        ≡ one_if (is_same e f) + count_by (triggers f) left + count_by (is_same f) (triggered_by x)
-    before_call f = rw calling (omega (arith, count_by-cons (triggers f) x left, triggers_counted f x))
+    processed_before : (f : EventId) → one_if (is_in_process s.control f) ≡ one_if (is_same e f)
+    processed_before f = rw calling refl
+
+    left_before : (f : EventId) → count_by (triggers f) (left_of s.control) ≡ count_by (triggers f) left + count_by (is_same f) (triggered_by x)
+    left_before f = rw calling (omega (arith, count_by-cons (triggers f) x left, triggers_counted f x))
 
     pub called_trade : StatesTrade named tell [] (triggered_by x) s (control_to (Calling e left) s)
-    called_trade = controlled_trade named tell [] (triggered_by x) s (Calling e left) (λ f. omega (arith, before_call f))
+    called_trade =
+        controlled_trade named tell s (Calling e left) [] [] (triggered_by x) (λ f. omega (arith, processed_before f)) (λ f. omega (arith, left_before f))
 
     pub run_trade : (p : ProcId) (y : Signal) → StatesTrade named tell [] (triggered_by x) s (control_to (Active e left p y) s)
-    run_trade p y = controlled_trade named tell [] (triggered_by x) s (Active e left p y) (λ f. omega (arith, before_call f))
+    run_trade p y =
+        controlled_trade named tell s (Active e left p y) [] [] (triggered_by x) (λ f. omega (arith, processed_before f)) (λ f. omega (arith, left_before f))
 
-    pub stopped_trade : (why : End) → StatesTrade named tell [] (e ∷ triggered_by x) s (control_to (Over why e left) s)
+    pub stopped_trade : (why : End) → StatesTrade named tell [] (but_zero (e ∷ []) ++ triggered_by x) s (control_to (Over why e left) s)
     stopped_trade why =
-        controlled_trade named tell [] (e ∷ triggered_by x) s (Over why e left)
-        (λ f. omega (arith, before_call f, count_by-cons (is_same f) e (triggered_by x), ap one_if (is_same-swap f e)))
+        controlled_trade named tell s (Over why e left) [] (e ∷ []) (triggered_by x)
+        (λ f. omega (arith, processed_before f, count_by-one (is_same f) e, ap one_if (is_same-swap f e))) (λ f. omega (arith, left_before f))
 
-  pub settled_trade : (s : State B) (e : EventId) → s.control ≡ Calling e [] → StatesTrade named tell [] (e ∷ []) s (settle e s)
+  pub settled_trade : (s : State B) (e : EventId) → s.control ≡ Calling e [] → StatesTrade named tell [] (but_zero (e ∷ [])) s (settle e s)
   settled_trade s e calling =
-      if_cases (λ k. StatesTrade named tell [] (e ∷ []) s (record s { control = k })) (is_crash e s) (Over end.Crash e []) Idle (λ crash. done (Over end.Crash e []) (λ f. refl) refl) (λ over. done Idle (λ f. refl) refl)
+      if_cases (λ k. StatesTrade named tell [] (but_zero (e ∷ [])) s (record s { control = k })) (is_crash e s) (Over end.Crash e []) Idle
+      (λ crash. done (Over end.Crash e []) (λ f. refl) refl) (λ over. done Idle (λ f. refl) refl)
     where
-      done : (k : Control) → ((f : EventId) → is_in_process k f ≡ false) → left_of k ≡ [] → StatesTrade named tell [] (e ∷ []) s (record s { control = k })
+      done : (k : Control) → ((f : EventId) → is_in_process k f ≡ false) → left_of k ≡ []
+          → StatesTrade named tell [] (but_zero (e ∷ [])) s (record s { control = k })
       done k none left =
-          controlled_trade named tell [] (e ∷ []) s k
-          (λ f. rw calling (omega (arith, ap one_if (none f), ap (count_by (triggers f)) left, count_by-one (is_same f) e, ap one_if (is_same-swap f e))))
+          processed_trade named tell s k [] (e ∷ [])
+          (λ f. rw calling (omega (arith, ap one_if (none f), count_by-one (is_same f) e, ap one_if (is_same-swap f e))))
+          (λ f. rw calling (omega (arith, ap (count_by (triggers f)) left)))
 
   -- ---- processes
 
   pub waited_trade : (s : State B) (p : ProcId) (x : ProcessOf B) (e : EventId) → IsOnlyProcess p x s → is_processed (calendar s) e ≡ false
-      → StatesTrade named tell (e ∷ []) (x.target ∷ []) s (wait e p s)
+      → StatesTrade named tell (but_zero (e ∷ [])) (but_zero (x.target ∷ [])) s (wait e p s)
   waited_trade s p x e only waits =
       let r : State B = on_events (register e (callback.Resume p)) s in
       let t : State B = change_process p (λ y. record y { target = e }) r in
-      if_cases (StatesTrade named tell (e ∷ []) (x.target ∷ []) s) (is_processed (calendar s) e) _ (rest t) (λ processed. absurd (false≢true (sym waits ∙ processed)))
-      (λ not_yet. trades_then (e ∷ []) (x.target ∷ []) [] [] (held_alone named tell s) (held_alone named tell t) (held_alone named tell (rest t))
-      (trades_then [] [] (e ∷ []) (x.target ∷ []) (held_alone named tell s) (held_alone named tell r) (held_alone named tell t)
+      if_cases (StatesTrade named tell (but_zero (e ∷ [])) (but_zero (x.target ∷ [])) s) (is_processed (calendar s) e) _ (rest t) (λ processed. absurd (false≢true (sym waits ∙ processed)))
+      (λ not_yet. trades_quietly (but_zero (e ∷ [])) (but_zero (x.target ∷ [])) (held_alone named tell s) (held_alone named tell t) (held_alone named tell (rest t))
+      (trades_then [] [] (but_zero (e ∷ [])) (but_zero (x.target ∷ [])) (held_alone named tell s) (held_alone named tell r) (held_alone named tell t)
       (registered_trade named tell s e (callback.Resume p)) (waits_trade named tell r p x e (record { found = only.found; distinct = only.distinct })))
       (rest_trade t))
 
@@ -129,13 +137,13 @@ module _ {B : Type 0} (named : ℕ) (tell : Telling B) where
       (λ not_yet. absurd (false≢true (sym not_yet ∙ processed)))
 
   pub made_trade : (g : Plan B) (k : ℕ) (args : List ℤ) (s : State B)
-      → StatesTrade named tell (next_event (make kind.Process (calendar s)) ∷ named_in_places tell (g.start k args (record { 0 = (next_event (calendar s)).0 }))) [] s (make_process g k args s)
+      → StatesTrade named tell (but_zero (next_event (make kind.Process (calendar s)) ∷ named_in_places tell (g.start k args (record { 0 = (next_event (calendar s)).0 })))) [] s (make_process g k args s)
   made_trade g k args s =
       let p : ProcId = record { 0 = (next_event (calendar s)).0 } in
       joined_trade named tell s (record { id = p; body = g.start k args p; target = next_event (make kind.Process (calendar s)) }) (on_calendar make_events_of_process s.facilities) (plainly_process (calendar s)).quietly.triggers
 
   pub over_trade : (s : State B) (p : ProcId) (x : ProcessOf B) (o : Outcome) → IsOnlyProcess p x s
-      → StatesTrade named tell [] (named_by_process tell x) s (end_process p o s)
+      → StatesTrade named tell [] (but_zero (named_by_process tell x)) s (end_process p o s)
   over_trade s p x o only =
       ended_trade named tell s p x (on_calendar (trigger (event_of p) o) s.facilities) only (plainly_scheduled (event_of p) o normal (pos 0) (calendar s)).quietly.triggers
 
@@ -143,7 +151,7 @@ module _ {B : Type 0} (named : ℕ) (tell : Telling B) where
   unresumed_trade p s =
       quiet_trade named tell s (stop_waiting p s).facilities (plainly_unregistered (target_of p (process_at p s)) (is_resume_of p) (calendar s) (λ y. refl)).quietly.triggers
 
-  pub left_trade : (s : State B) (x : OpenScope) → HasOnlyScope x.request s → StatesTrade named tell [] (x.request ∷ []) s (close_scope s x)
+  pub left_trade : (s : State B) (x : OpenScope) → HasOnlyScope x.request s → StatesTrade named tell [] (but_zero (x.request ∷ [])) s (close_scope s x)
   left_trade s x only =
       closed_trade named tell s x.request (leave x.res x.request s.facilities) only (plainly_left x.res x.request s.facilities).quietly.triggers
 

@@ -5,7 +5,7 @@ use Rattle.std.specs.List.{sum_by}
 use Rattle.std.proofs.lemmas.Bool.{cases_eq, ne_eqb, eqb-true, false≢true}
 use Rattle.std.proofs.lemmas.Option.{none-some, same_Some}
 use Rattle.std.proofs.lemmas.List.Sums.{sum_by-cons}
-use Rattle.std.proofs.lemmas.List.Elements.{All-head, All-tail, filter-append}
+use Rattle.std.proofs.lemmas.List.Elements.{All-head, All-tail}
 use Rattle.sim_types.proofs.Permutations.{AllPairs-head, AllPairs-tail}
 use Rattle.sim_types.specs.declared.event.EventId.{EventId}
 use Rattle.sim_machine.specs.State.{State}
@@ -15,7 +15,7 @@ use Rattle.sim_machine_law.proofs.CallbackLaws.{count_by-cons, count_by-append, 
 use Rattle.sim_accounts.specs.Naming.{times_named, but_zero}
 use Rattle.sim_accounts.specs.Changes.{Trades, StatesTrade}
 use Rattle.sim_accounts.proofs.Counts.{count_same, count_filter}
-use Rattle.sim_accounts.proofs.NamedEvents.{zero_alone, other_alone}
+use Rattle.sim_accounts.proofs.NamedEvents.{awaiting, zero_alone, other_alone}
 
 -- ---- event 0 is not counted
 
@@ -43,29 +43,42 @@ pub other_counted : (e : EventId) (xs : List EventId) → e.0 ≢ 0 → count_by
 other_counted e xs other =
     count_filter (is_same e) (λ y. not (y.0 == 0)) xs ∙ count_same (λ y. not (y.0 == 0) && is_same e y) (is_same e) (λ y. other_alike e y (y.0 == 0) other refl) xs
 
--- where it is so for how often each event is named, it is so for how many hold it
-pub states_trade : {B : Type 0} (named : ℕ) (tell : Telling B) (gained lost : List EventId) (s t : State B)
+-- each event is named by these more, and by those fewer; and so do callbacks change that pass outcomes on
+pub states_trade : {B : Type 0} (named : ℕ) (tell : Telling B) (gained lost more less : List EventId) (s t : State B)
     → ((e : EventId) → times_named named tell t e + count_by (is_same e) lost ≡ times_named named tell s e + count_by (is_same e) gained)
-    → StatesTrade named tell gained lost s t
-states_trade named tell gained lost s t each = record {
+    → ((e : EventId) → awaiting t e + count_by (is_same e) less ≡ awaiting s e + count_by (is_same e) more)
+    → StatesTrade named tell (but_zero gained ++ more) (but_zero lost ++ less) s t
+states_trade named tell gained lost more less s t names calls = record {
   each = λ e. ⊎_elim
-      (λ zero. omega (arith, zero_alone named tell s e zero, zero_alone named tell t e zero, zero_uncounted e gained zero, zero_uncounted e lost zero))
-      (λ other. omega (arith, each e, other_alone named tell s e other, other_alone named tell t e other, other_counted e gained other, other_counted e lost other))
+      (λ zero. omega (arith, calls e, zero_alone named tell s e zero, zero_alone named tell t e zero, zero_uncounted e gained zero, zero_uncounted e lost zero, count_by-append (is_same e) (but_zero gained) more, count_by-append (is_same e) (but_zero lost) less))
+      (λ other. omega (arith, names e, calls e, other_alone named tell s e other, other_alone named tell t e other, other_counted e gained other, other_counted e lost other, count_by-append (is_same e) (but_zero gained) more, count_by-append (is_same e) (but_zero lost) less))
       (cases_eq e.0 0);
 }
 
+-- where callbacks stay
+pub names_trade : {B : Type 0} (named : ℕ) (tell : Telling B) (gained lost : List EventId) (s t : State B)
+    → ((e : EventId) → times_named named tell t e + count_by (is_same e) lost ≡ times_named named tell s e + count_by (is_same e) gained)
+    → ((e : EventId) → awaiting t e ≡ awaiting s e) → StatesTrade named tell (but_zero gained) (but_zero lost) s t
+names_trade named tell gained lost s t names calls =
+    let both : StatesTrade named tell (but_zero gained ++ []) (but_zero lost ++ []) s t = states_trade named tell gained lost [] [] s t names (λ e. omega (arith, calls e)) in
+    record { each = λ e. omega (arith, both.each e, count_by-append (is_same e) (but_zero gained) [], count_by-append (is_same e) (but_zero lost) []) }
+
+-- where names stay
+pub calls_trade : {B : Type 0} (named : ℕ) (tell : Telling B) (more less : List EventId) (s t : State B)
+    → ((e : EventId) → times_named named tell t e ≡ times_named named tell s e)
+    → ((e : EventId) → awaiting t e + count_by (is_same e) less ≡ awaiting s e + count_by (is_same e) more) → StatesTrade named tell more less s t
+calls_trade named tell more less s t names calls = states_trade named tell [] [] more less s t (λ e. omega (arith, names e)) calls
+
 -- ---- one change after another
-
-pub but_zero-append : (xs ys : List EventId) → but_zero (xs ++ ys) ≡ but_zero xs ++ but_zero ys
-but_zero-append xs ys = filter-append (λ e. not (e.0 == 0)) xs ys
-
-pub count_both : (e : EventId) (xs ys : List EventId)
-    → count_by (is_same e) (but_zero (xs ++ ys)) ≡ count_by (is_same e) (but_zero xs) + count_by (is_same e) (but_zero ys)
-count_both e xs ys = ap (count_by (is_same e)) (but_zero-append xs ys) ∙ count_by-append (is_same e) (but_zero xs) (but_zero ys)
 
 pub trades_then : (gained lost gained' lost' : List EventId) (old now new : EventId → ℕ) → Trades gained lost old now → Trades gained' lost' now new
     → Trades (gained ++ gained') (lost ++ lost') old new
-trades_then gained lost gained' lost' old now new h k = record { each = λ e. omega (arith, h.each e, k.each e, count_both e gained gained', count_both e lost lost') }
+trades_then gained lost gained' lost' old now new h k =
+    record { each = λ e. omega (arith, h.each e, k.each e, count_by-append (is_same e) gained gained', count_by-append (is_same e) lost lost') }
+
+-- and then nothing
+pub trades_quietly : (gained lost : List EventId) (old now new : EventId → ℕ) → Trades gained lost old now → Trades [] [] now new → Trades gained lost old new
+trades_quietly gained lost old now new h k = record { each = λ e. omega (arith, h.each e, k.each e) }
 
 pub trades_nothing : (old new : EventId → ℕ) → ((e : EventId) → new e ≡ old e) → Trades [] [] old new
 trades_nothing old new same = record { each = λ e. omega (arith, same e) }

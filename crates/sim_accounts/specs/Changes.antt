@@ -12,13 +12,12 @@ use Rattle.sim_machine.specs.KeptEvents.{is_closed, triggers}
 use Rattle.sim_machine.specs.Tellings.{Telling}
 use Rattle.sim_happen_model.specs.HappenOf.{HappenOf}
 use Rattle.sim_happen_model.specs.Shows.{Shows}
-use Rattle.sim_accounts.specs.Naming.{held_alone, but_zero}
+use Rattle.sim_accounts.specs.Naming.{held_alone}
 
 -- from one count of holders to another: each event has one more for each time that it stands in `gained`, and one fewer for
--- each time that it stands in `lost`; event 0 is held as before
+-- each time that it stands in `lost`
 pub record Trades (gained lost : List EventId) (old new : EventId → ℕ) : Type 0 where
-  pub each : (e : EventId) →
-      new e + count_by (is_same e) (but_zero lost) ≡ old e + count_by (is_same e) (but_zero gained)
+  pub each : (e : EventId) → new e + count_by (is_same e) lost ≡ old e + count_by (is_same e) gained
 
 -- so they change from one state to another
 abbrev pub StatesTrade : {B : Type 0} → ℕ → Telling B → List EventId → List EventId → State B → State B → Type 0

@@ -1,4 +1,5 @@
--- How often a state of the machine names an event: so many holders it has, but for the conditions that have it as a member.
+-- How many hold an event, but for the conditions that have it as a member: who names it in the machine's state, and who
+-- passes an outcome on to it.
 use Rattle.std.specs.Prelude.{◌==◌, not, ℕ, ◌+◌, List, [], ◌∷◌, map, filter, nat_le, count_by, if◌then◌else◌}
 use Rattle.std.specs.List.{sum_by}
 use Rattle.sim_types.specs.declared.event.EventId.{EventId}
@@ -29,21 +30,20 @@ triggered_by (callback.Trigger y) = y ∷ []
 triggered_by _ = []
 
 -- how often e is named: once for good, where the setup names it; where it is being processed; by each live process that
--- waits for it or has it in a place; by each scope that is open for it; and by each callback that is to pass an outcome on
--- to it
+-- waits for it or has it in a place; and by each scope that is open for it
 abbrev pub times_named : {B : Type 0} → ℕ → Telling B → State B → EventId → ℕ
 times_named named tell s e =
     one_if (nat_le e.0 named)
     + one_if (is_in_process s.control e)
     + sum_by (held_by_process tell e) s.processes
     + count_by (λ x. is_same e x.request) s.scopes
-    + callbacks_in_all (triggers e) s.facilities.calendar s.control
 
--- how many hold e, but for conditions. Event 0, which stands for none, is held once for good, and nobody holds it by
--- naming it: whoever needs no event names it
+-- how many hold e, but for conditions: it is named so often, and each callback that is to pass an outcome on to it holds it.
+-- Event 0 stands for none: it is held once for good, and nobody holds it by naming it
 abbrev pub held_alone : {B : Type 0} → ℕ → Telling B → State B → EventId → ℕ
-held_alone named tell s e = if e.0 == 0 then 1 else times_named named tell s e
+held_alone named tell s e =
+    (if e.0 == 0 then 1 else times_named named tell s e) + callbacks_in_all (triggers e) s.facilities.calendar s.control
 
--- those of these events that are held where they are named: all but event 0
+-- those of these events that are held by being named: all but event 0
 abbrev pub but_zero : List EventId → List EventId
 but_zero es = filter (λ e. not (e.0 == 0)) es

@@ -1,4 +1,5 @@
-//! What no change of a calendar touches.
+//! What no change of a calendar touches: members stay, what is closed stays closed, and but for registrations and pops as many
+//! callbacks pass outcomes on.
 ghost use Rattle.std.specs.Prelude.{◌≡◌, [], false, Bool, ℕ, ℤ, List, Option};
 ghost use Rattle.sim_types.specs.declared.event.Callback.{Callback};
 ghost use Rattle.sim_types.specs.declared.event.Callback.TheVariants as callback;
@@ -23,7 +24,7 @@ ghost use Rattle.sim_machine.specs.Trying.{try_get, try_put};
 ghost use Rattle.sim_accounts.specs.Naming.{triggered_by};
 ghost use Rattle.sim_accounts.specs.Changes.{ComesAfter, ComesPlainly, ComesQuietly, MakesNoCondition};
 
-/// One calendar after another.
+/// A calendar comes after itself, and after all that the one before it comes after.
 pub fn later_calendars()
     ensures itself { (c : Calendar) → ComesPlainly c c }
     ensures after { (c : Calendar) (d : Calendar) (e : Calendar) → ComesAfter c d → ComesAfter d e →
@@ -34,7 +35,7 @@ pub fn later_calendars()
         ComesPlainly d e → ComesPlainly c e }
 {}
 
-/// An event that is made, and one that gets its outcome, is defused, or is cancelled.
+/// The calendar in which an event is made, gets its outcome, is defused, or is cancelled comes plainly after the one before.
 pub fn changed_events()
     ensures made { (k : EventKind) (c : Calendar) → ComesPlainly c (make k c) }
     ensures scheduled { (e : EventId) (x : Outcome) (priority : ℕ) (delay : ℤ) (c : Calendar) →
@@ -52,7 +53,8 @@ pub fn changed_events()
     ensures stop { (u : Until) (c : Calendar) → ComesPlainly c (set_stop u c) }
 {}
 
-/// A callback that is registered or taken out. One that passes an outcome on holds an event, so it does not come quietly.
+/// So does the one in which a callback is registered or taken out, but for one that passes an outcome on, since that holds an
+/// event.
 pub fn changed_callbacks()
     ensures registered { (e : EventId) (x : Callback) (c : Calendar) →
         triggered_by x ≡ [] → ComesPlainly c (register e x c) }
@@ -64,7 +66,7 @@ pub fn changed_callbacks()
         MakesNoCondition c (register e x c) }
 {}
 
-/// Conditions that are made, checked and built, and the pop of an entry.
+/// A condition that is made has these members for good; checking and building it, and the pop of an entry, change no members.
 pub fn changed_conditions()
     ensures made { (sort : AllOrAny) (ms : List EventId) (c : Calendar) →
         ComesQuietly c (make_condition sort ms c) }
@@ -77,7 +79,7 @@ pub fn changed_conditions()
     ensures popped_none { (x : Entry) (c : Calendar) → MakesNoCondition c (popped x c) }
 {}
 
-/// Requests, puts and gets that are made, tried, cancelled, released and left.
+/// Requests, puts and gets that are made, tried, cancelled, released and left change no members, and open nothing again.
 pub fn changed_facilities()
     ensures requested { (rs : List Resource) (res : ℕ) (p : ProcId) (priority : ℤ) (preempts : Bool)
         (f : Facilities) →

@@ -47,8 +47,7 @@ pub fn balanced_with_holder()
 /// Where a condition is made, which holds its members, the accounts balance as before.
 pub fn balanced_with_condition()
     ensures balanced { (h : HappenOf) (n : HappenOf) (c : Calendar) (d : Calendar)
-        (ms : List EventId)
-        (alone : EventId → ℕ) (todo : List EventId) → ShowsLater h n c d →
+        (ms : List EventId) (alone : EventId → ℕ) (todo : List EventId) → ShowsLater h n c d →
         members_of d (next_event c) ≡ ms → All (IsKept h.events) ms → held n ≡ holding ms (held h) →
         Balanced alone todo h.events → Balanced alone todo n.events }
     ensures gone { (h : HappenOf) (n : HappenOf) (c : Calendar) (d : Calendar) (ms : List EventId) →

@@ -10,7 +10,7 @@ ghost use Rattle.sim_events.specs.TableOf.{IsKept, Kept};
 ghost use Rattle.sim_happen_model.specs.HappenOf.{HappenOf, gone_if_unheld, held};
 ghost use Rattle.sim_happen_model.specs.Holders.{HasOwnHolder, unheld};
 ghost use Rattle.sim_happen_model.specs.Shows.{Shows};
-ghost use Rattle.sim_accounts.specs.Naming.{but_zero, held_alone};
+ghost use Rattle.sim_accounts.specs.Naming.{held_alone};
 ghost use Rattle.sim_accounts.specs.Accounts.{AreGoneClosed, Balanced};
 ghost use Rattle.sim_accounts.specs.Changes.{Trades};
 
@@ -46,8 +46,8 @@ pub fn unheld_shown()
 pub fn traded_balanced()
     ensures balanced { (gained : List EventId) (lost : List EventId) (todo : List EventId)
         (old : EventId → ℕ) (new : EventId → ℕ) (events : List (Option Kept)) →
-        Trades gained lost old new → Balanced old (but_zero gained ++ todo) events →
-        Balanced new (but_zero lost ++ todo) events }
+        Trades gained lost old new → Balanced old (gained ++ todo) events →
+        Balanced new (lost ++ todo) events }
     ensures joined { (gained : List EventId) (lost : List EventId) (gained_then : List EventId)
         (lost_then : List EventId) (old : EventId → ℕ) (now : EventId → ℕ) (new : EventId → ℕ) →
         Trades gained lost old now → Trades gained_then lost_then now new →

@@ -1,5 +1,5 @@
 //! What each change of the machine's state does to who holds which event: who has a holder more, and who one fewer.
-ghost use Rattle.std.specs.Prelude.{◌≡◌, ◌+◌, ◌∷◌, [], false, true, ℕ, ℤ, map, nat_le, List};
+ghost use Rattle.std.specs.Prelude.{◌≡◌, ◌+◌, ◌++◌, ◌∷◌, [], false, true, ℕ, ℤ, map, nat_le, List};
 ghost use Rattle.std.specs.List.{list_all};
 ghost use Rattle.sim_types.specs.declared.event.Callback.{Callback};
 ghost use Rattle.sim_types.specs.declared.event.Entry.{Entry};
@@ -29,12 +29,12 @@ ghost use Rattle.sim_accounts.specs.Changes.{ComesQuietly, HasOnlyScope, IsOnlyP
 /// held. A process that is no longer resumed by its target still holds it.
 pub fn waiting_processes<B>()
     ensures waits { (n : ℕ) (tell : Telling B) (s : State B) (p : ProcId) (x : ProcessOf B)
-        (e : EventId) →
-        IsOnlyProcess p x s → is_processed (calendar s) e ≡ false →
-        StatesTrade n tell (e ∷ []) (x.target ∷ []) s (wait e p s) }
+        (e : EventId) → IsOnlyProcess p x s → is_processed (calendar s) e ≡ false →
+        StatesTrade n tell (but_zero (e ∷ [])) (but_zero (x.target ∷ [])) s (wait e p s) }
     ensures target { (n : ℕ) (tell : Telling B) (s : State B) (p : ProcId) (x : ProcessOf B)
-        (e : EventId) → IsOnlyProcess p x s → StatesTrade n tell (e ∷ []) (x.target ∷ []) s
-        (processes.change_process p (λ y. record y { target = e }) s) }
+        (e : EventId) → IsOnlyProcess p x s →
+        StatesTrade n tell (but_zero (e ∷ [])) (but_zero (x.target ∷ []))
+        s (processes.change_process p (λ y. record y { target = e }) s) }
     ensures goes_on { (n : ℕ) (tell : Telling B) (s : State B) (p : ProcId) (e : EventId) →
         is_processed (calendar s) e ≡ true → StatesTrade n tell [] [] s (wait e p s) }
     ensures stops { (n : ℕ) (tell : Telling B) (s : State B) (p : ProcId) →
@@ -48,14 +48,14 @@ pub fn living_processes<B>()
         let first = next_event (calendar s) in
         let init = next_event (make kind.Process (calendar s)) in
         let places = named_in_places tell (g.start k args (record { 0 = first.0 })) in
-        StatesTrade n tell (init ∷ places) [] s (make_process g k args s) }
+        StatesTrade n tell (but_zero (init ∷ places)) [] s (make_process g k args s) }
     ensures ended { (n : ℕ) (tell : Telling B) (s : State B) (p : ProcId) (x : ProcessOf B)
         (outcome : Outcome) → IsOnlyProcess p x s →
-        StatesTrade n tell [] (named_by_process tell x) s (end_process p outcome s) }
+        StatesTrade n tell [] (but_zero (named_by_process tell x)) s (end_process p outcome s) }
     ensures body { (n : ℕ) (tell : Telling B) (s : State B) (p : ProcId) (x : ProcessOf B) (b : B) →
         IsOnlyProcess p x s →
-        StatesTrade n tell (named_in_places tell b) (named_in_places tell x.body) s
-        (with_body p b s) }
+        StatesTrade n tell (but_zero (named_in_places tell b))
+        (but_zero (named_in_places tell x.body)) s (with_body p b s) }
 {}
 
 /// In a lawful state a place for a number has event 0, so all places may be read alike.
@@ -68,17 +68,17 @@ pub fn places_of_numbers<B>()
 /// An open scope holds its request.
 pub fn open_scopes<B>()
     ensures opened { (n : ℕ) (tell : Telling B) (s : State B) (p : ProcId) (request : EventId)
-        (res : ℕ) →
-        StatesTrade n tell (request ∷ []) [] s (open_scope p request res s) }
+        (res : ℕ) → StatesTrade n tell (but_zero (request ∷ [])) [] s (open_scope p request res s) }
     ensures closed { (n : ℕ) (tell : Telling B) (s : State B) (x : OpenScope) →
-        HasOnlyScope x.request s → StatesTrade n tell [] (x.request ∷ []) s (close_scope s x) }
+        HasOnlyScope x.request s →
+        StatesTrade n tell [] (but_zero (x.request ∷ [])) s (close_scope s x) }
 {}
 
 /// An event is held from its pop until it is settled or stops the run. A callback that passes an outcome on holds the event
 /// that it passes it on to, from its registration until it is called.
 pub fn events_in_process<B>()
     ensures popped { (n : ℕ) (tell : Telling B) (s : State B) (x : Entry) →
-        s.control ≡ Idle → StatesTrade n tell (x.event ∷ []) [] s (pop_entry x s) }
+        s.control ≡ Idle → StatesTrade n tell (but_zero (x.event ∷ [])) [] s (pop_entry x s) }
     ensures registered { (n : ℕ) (tell : Telling B) (s : State B) (e : EventId) (x : Callback) →
         StatesTrade n tell (triggered_by x) [] s (on_events (register e x) s) }
     ensures called { (n : ℕ) (tell : Telling B) (s : State B) (e : EventId) (x : Callback)
@@ -89,9 +89,10 @@ pub fn events_in_process<B>()
         StatesTrade n tell [] (triggered_by x) s (control_to (Active e left p told) s) }
     ensures stops { (n : ℕ) (tell : Telling B) (s : State B) (e : EventId) (x : Callback)
         (left : List Callback) (why : End) → s.control ≡ Calling e (x ∷ left) →
-        StatesTrade n tell [] (e ∷ triggered_by x) s (control_to (Over why e left) s) }
+        StatesTrade n tell [] (but_zero (e ∷ []) ++ triggered_by x)
+        s (control_to (Over why e left) s) }
     ensures settled { (n : ℕ) (tell : Telling B) (s : State B) (e : EventId) →
-        s.control ≡ Calling e [] → StatesTrade n tell [] (e ∷ []) s (settle e s) }
+        s.control ≡ Calling e [] → StatesTrade n tell [] (but_zero (e ∷ [])) s (settle e s) }
 {}
 
 /// Nobody holds an event more or fewer where a process is told something or comes to rest, where a resumption is taken out of
@@ -107,8 +108,8 @@ pub fn quiet_changes<B>()
         StatesTrade n tell [] [] s (write_line line s) }
     ensures drawn { (n : ℕ) (tell : Telling B) (s : State B) →
         StatesTrade n tell [] [] s (record s { drawn = s.drawn + 1 }) }
-    ensures facilities { (n : ℕ) (tell : Telling B) (s : State B) (change : Facilities →
-        Facilities) →
+    ensures facilities { (n : ℕ) (tell : Telling B) (s : State B)
+        (change : Facilities → Facilities) →
         ComesQuietly (calendar s) (change s.facilities).calendar →
         StatesTrade n tell [] [] s (on_facilities change s) }
 {}
