@@ -1,5 +1,5 @@
 -- A holder that is given back leaves all that is kept as it is shown, and what goes is closed.
-use Rattle.std.proofs.Common.{◌≡◌, ℕ, ◌<◌, true, ◌||◌, List, ◌∷◌, length, refl, sym, ap, subst, ◌∙◌, arith, ◌⊎◌, ⊎_elim, Option, Some, None}
+use Rattle.std.proofs.Common.{◌≡◌, ℕ, ◌<◌, true, false, ◌||◌, List, ◌∷◌, length, refl, sym, ap, subst, ◌∙◌, arith, ◌⊎◌, ⊎_elim, Option, Some, None}
 use Rattle.std.specs.Prelude.{IsSome, slice_set}
 use Rattle.std.proofs.lemmas.Bool.{false≢true, or_left, or_right}
 use Rattle.std.proofs.lemmas.Option.{none-some}
@@ -70,3 +70,36 @@ module _ (h n : HappenOf) (c : Calendar) (e : EventId) (alone : EventId → ℕ)
     kept = after.besides.kept;
     unmade = s.unmade;
   }
+
+-- ---- what is open stays
+
+-- f is kept, and is this event
+record StaysKept (f : EventId) (x : EventOf) (es : List (Option Kept)) : Type 0 where
+  kept : IsKept es f
+  event : (kept_at es f).event ≡ x
+
+module _ (f : EventId) (x : EventOf) (is_open : (x.processed || x.cancelled) ≡ false) where
+  placed_open : (e : EventId) (o : Option Kept) (es : List (Option Kept)) → IsKept es e → (f ≡ e → IsSome o × ((kept_or_new o).event ≡ x))
+      → StaysKept f x es → StaysKept f x (slice_set es e.0 o)
+  placed_open e o es kept here s =
+      let P : EventId → Option Kept → Type 0 = λ g p. f ≡ g → IsSome p × ((kept_or_new p).event ≡ x) in
+      let after = at_set P es e o (kept_made es e kept) here (λ g differ same. subst (λ n. IsKept es n × ((kept_at es n).event ≡ x)) same (s.kept, s.event)) f refl in
+      record { kept = after.0; event = after.1 }
+
+  shut_not : (k : Kept) → k.event ≡ x → (k.event.processed ≡ true) ⊎ (k.event.cancelled ≡ true) → ⊥
+  shut_not k same closed =
+      false≢true (sym is_open ∙ (sym (ap (λ (y : EventOf). y.processed || y.cancelled) same) ∙ ⊎_elim (λ p. or_left k.event.processed k.event.cancelled p) (λ p. or_right k.event.processed k.event.cancelled p) closed))
+
+  stays_open : StaysTrue (StaysKept f x)
+  stays_open = record {
+    fewer = λ e es kept s. placed_open e (Some (without_holder (kept_at es e))) es kept (λ same. (refl, subst (λ n. (kept_at es n).event ≡ x) same s.event)) s;
+    gone = λ e es kept off s. placed_open e None es kept
+        (λ same. absurd (shut_not (kept_at es e) (subst (λ n. (kept_at es n).event ≡ x) same s.event) (unneeded_is (without_holder (kept_at es e)) off).1)) s;
+  }
+
+pub open_stays : (alone : EventId → ℕ) (e f : EventId) (todo : List EventId) (es : List (Option Kept)) → Balanced alone (e ∷ todo) es → IsKept es f
+    → ((kept_at es f).event.processed || (kept_at es f).event.cancelled) ≡ false → IsKept (unheld e es) f × ((kept_at (unheld e es) f).event ≡ (kept_at es f).event)
+open_stays alone e f todo es b kept is_open =
+    let x : EventOf = (kept_at es f).event in
+    let after = (unheld_with (StaysKept f x) (stays_open f x is_open) alone e todo es (record { balanced = b; besides = record { kept = kept; event = refl } })).besides in
+    (after.kept, after.event)

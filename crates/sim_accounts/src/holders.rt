@@ -1,12 +1,12 @@
 //! How holders are given back, and how counts of holders change into one another.
-ghost use Rattle.std.specs.Prelude.{◌≡◌, ◌∷◌, ◌++◌, ◌+◌, ◌<◌, true, List, Option, ℕ, count_by, nat_le};
+ghost use Rattle.std.specs.Prelude.{◌≡◌, ◌∷◌, ◌++◌, ◌+◌, ◌<◌, ◌||◌, false, true, List, Option, ℕ, count_by, nat_le};
 ghost use Rattle.std.specs.List.{list_any};
 ghost use Rattle.sim_types.specs.declared.event.EventId.{EventId};
 ghost use Rattle.sim_machine.specs.State.{Calendar, State};
 ghost use Rattle.sim_machine.specs.Events.{is_same};
 ghost use Rattle.sim_machine.specs.KeptEvents.{is_in_body, is_in_process, is_to_be_triggered};
 ghost use Rattle.sim_machine.specs.Tellings.{Telling};
-ghost use Rattle.sim_events.specs.TableOf.{IsKept, Kept};
+ghost use Rattle.sim_events.specs.TableOf.{IsKept, Kept, kept_at};
 ghost use Rattle.sim_happen_model.specs.HappenOf.{HappenOf, gone_if_unheld, held};
 ghost use Rattle.sim_happen_model.specs.Holders.{HasOwnHolder, unheld};
 ghost use Rattle.sim_happen_model.specs.Shows.{Shows};
@@ -39,6 +39,18 @@ pub fn unheld_shown()
         (todo : List EventId) → Shows h c → AreGoneClosed h.events c →
         Balanced alone (e ∷ todo) h.events → n.events ≡ unheld e h.events →
         AreGoneClosed n.events c }
+{}
+
+/// Where a holder is given back, an event that is neither processed nor cancelled stays kept, and stays as it is.
+pub fn open_events()
+    ensures kept { (alone : EventId → ℕ) (e : EventId) (f : EventId) (todo : List EventId)
+        (events : List (Option Kept)) → Balanced alone (e ∷ todo) events → IsKept events f →
+        let x = (kept_at events f).event in (x.processed || x.cancelled) ≡ false →
+        IsKept (unheld e events) f }
+    ensures same { (alone : EventId → ℕ) (e : EventId) (f : EventId) (todo : List EventId)
+        (events : List (Option Kept)) → Balanced alone (e ∷ todo) events → IsKept events f →
+        let x = (kept_at events f).event in (x.processed || x.cancelled) ≡ false →
+        (kept_at (unheld e events) f).event ≡ x }
 {}
 
 /// Where a holder was taken beforehand for each event that gains one, the accounts balance with the holders that are lost,

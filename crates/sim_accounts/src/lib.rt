@@ -15,7 +15,9 @@ pub use calendars::{
 pub use happenings::{
     balanced_as_before, balanced_with_condition, balanced_with_holder, kept_holders,
 };
-pub use holders::{held_events, reasons, traded_balanced, unheld_balanced, unheld_shown};
+pub use holders::{
+    held_events, open_events, reasons, traded_balanced, unheld_balanced, unheld_shown,
+};
 pub use naming::{
     blank_states, events_in_process, living_processes, open_scopes, places_of_numbers,
     quiet_changes, waiting_processes,
