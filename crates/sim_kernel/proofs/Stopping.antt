@@ -1,16 +1,13 @@
 -- What the code sets to stop a run is what the machine sets.
-use Rattle.std.proofs.Common.{Some, ◌≡◌, ◌+◌, ◌<◌, ◌≤◌, ◌^◌, pos, ℤ, ◌≤ℤ◌, Bool, true, false, not, ◌&&◌, List, [], ◌∷◌, ◌++◌, length, refl, sym, ap, subst, ◌∙◌, arith}
-use Rattle.std.specs.Prelude.{All, fold, int_le, IsTrue}
-use Rattle.std.specs.List.{AllPass}
+use Rattle.std.proofs.Common.{Some, ◌≡◌, ◌+◌, ◌<◌, ◌≤◌, ◌^◌, pos, ℤ, ◌≤ℤ◌, Bool, true, false, not, ◌&&◌, length, refl, sym, ap, subst, ◌∙◌, arith}
+use Rattle.std.specs.Prelude.{int_le, IsTrue}
 use Rattle.std.proofs.lemmas.Bool.{and_parts, false≢true}
 use Rattle.std.proofs.lemmas.Int.{ints}
-use Rattle.std.proofs.lemmas.List.Elements.{All-cons, All-nil, All-append}
 use Rattle.sim_types.specs.declared.event.EventKind.TheVariants as kind
 use Rattle.sim_types.specs.declared.event.Outcome.TheVariants as outcome
-use Rattle.sim_types.specs.declared.setup.Start.{Start}
 use Rattle.sim_types.specs.declared.setup.Until.{Until}
 use Rattle.sim_types.specs.declared.setup.Until.TheVariants as until
-use Rattle.sim_machine.specs.State.{EventOf, Calendar, Facilities, Registration, State, Plan}
+use Rattle.sim_machine.specs.State.{EventOf, Calendar, Facilities, State, Plan}
 use Rattle.sim_machine.specs.Bodies.{BodyOf}
 use Rattle.sim_machine.specs.Events.{next_event, is_pending, is_processed}
 use Rattle.sim_machine.specs.Triggering.{make}
@@ -18,8 +15,7 @@ use Rattle.sim_machine.specs.Trying.{on_calendar}
 use Rattle.sim_machine.specs.Scopes.{on_events}
 use Rattle.sim_machine.specs.Setups.{FitsCode, until_fits}
 use Rattle.sim_machine.specs.Tellings.{CodeFacts}
-use Rattle.sim_machine.specs.Standing.{left_of}
-use Rattle.sim_machine.specs.Runs.{blank_state, start_process, set_stop, opening}
+use Rattle.sim_machine.specs.Runs.{set_stop, opening}
 use Rattle.sim_machine_law.proofs.EventLaws.{change_event-length, make-length}
 use Rattle.sim_machine_law.proofs.KeptRegistrations.{named_within}
 use Rattle.sim_machine_law.proofs.OpeningLaws.{Opens, starts_open}

@@ -1,5 +1,5 @@
 -- What an operation on a resource needs is known of the process that asked for it.
-use Rattle.std.proofs.Common.{◌≡◌, ℕ, ◌+◌, ◌<◌, ◌≤◌, ◌^◌, Bool, true, false, not, List, [], ◌∷◌, length, refl, sym, ap, subst, ◌∙◌, arith}
+use Rattle.std.proofs.Common.{◌≡◌, ℕ, ◌+◌, ◌<◌, ◌≤◌, ◌^◌, Bool, true, not, List, ◌∷◌, length, sym, ap, subst, ◌∙◌, arith}
 use Rattle.std.proofs.lemmas.Bool.{not-true}
 use Rattle.std.specs.List.{AllPass}
 use Rattle.std.proofs.lemmas.List.Elements.{All-head, All-weaker}
@@ -9,10 +9,10 @@ use Rattle.sim_types.specs.declared.event.Callback.{Callback}
 use Rattle.sim_types.specs.declared.event.Signal.{Signal}
 use Rattle.sim_types.specs.declared.op.Op.{Op}
 use Rattle.sim_types.specs.declared.setup.ResourceKind.{ResourceKind}
-use Rattle.sim_machine.specs.State.{Calendar, Control, Calling, State}
+use Rattle.sim_machine.specs.State.{Calendar, Control, Calling}
 use Rattle.sim_machine.specs.Users.{resource_at}
 use Rattle.sim_machine.specs.Bodies.{BodyOf}
-use Rattle.sim_machine.specs.BodyLaw.{IsLawfulPoll, scopes_told}
+use Rattle.sim_machine.specs.BodyLaw.{scopes_told}
 use Rattle.sim_machine.specs.MayAsk.{takes_requests, has_resource, may_ask}
 use Rattle.sim_machine.specs.Setups.{FitsCode}
 use Rattle.sim_machine.specs.Standing.{left_of}
@@ -29,7 +29,7 @@ use Rattle.sim_shared_model.specs.SharedOf.{SharedOf}
 use Rattle.sim_shared_model.specs.ShowsAll.{ShowsAll}
 use Rattle.sim_shared_model.specs.Making.{ShowsSome}
 use Rattle.sim_shared_model.specs.Waiting.{AreAllOpen}
-use Rattle.sim_steps_model.specs.PartsOf.{PartsOf, HasUnitRoom, IsRunning, with_happen}
+use Rattle.sim_steps_model.specs.PartsOf.{PartsOf, HasUnitRoom, IsRunning}
 use Rattle.sim_steps_model.specs.StandsFor.{StandsForSome}
 use Rattle.sim_steps_model.specs.Becoming.{AreAllKept, most_held}
 use Rattle.sim_steps_model.specs.Calling.{TakesCallback}

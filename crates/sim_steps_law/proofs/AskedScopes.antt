@@ -1,6 +1,6 @@
 -- What is known of the open scopes of the process that asked to enter one, to leave its innermost or to release a request.
-use Rattle.std.proofs.Common.{◌≡◌, ℕ, zero, ◌+◌, ◌<◌, ◌≤◌, ◌^◌, ℤ, Bool, true, false, ◌&&◌, ◌||◌, List, [], ◌∷◌, length, refl, sym, ap, subst, ◌∙◌, arith, map, filter, Option, Some, None, cond}
-use Rattle.std.specs.Prelude.{All, ◌==◌, nat_lt, find, reverse, IsSome, IsSomeAnd, option_and_then}
+use Rattle.std.proofs.Common.{◌≡◌, ℕ, ◌<◌, ◌^◌, ℤ, Bool, true, false, ◌&&◌, ◌||◌, List, [], ◌∷◌, length, refl, sym, ap, subst, ◌∙◌, arith, map, filter, Option, Some, None, cond}
+use Rattle.std.specs.Prelude.{All, ◌==◌, nat_lt, reverse, IsSome, IsSomeAnd, option_and_then}
 use Rattle.std.specs.Option.{option_map}
 use Rattle.std.specs.List.{list_any}
 use Rattle.std.proofs.lemmas.Bool.{and_parts, eqb-true, eq-eqb, false≢true, ltb-true}
@@ -12,7 +12,7 @@ use Rattle.sim_types.specs.declared.event.Scope.{Scope}
 use Rattle.sim_types.specs.declared.event.Signal.{Signal}
 use Rattle.sim_types.specs.declared.op.Op.{Op}
 use Rattle.sim_types.specs.declared.op.Op.TheVariants as op
-use Rattle.sim_machine.specs.State.{OpenScope, State}
+use Rattle.sim_machine.specs.State.{OpenScope}
 use Rattle.sim_machine.specs.Events.{is_process, is_same}
 use Rattle.sim_machine.specs.Processes.{process_at}
 use Rattle.sim_machine.specs.Bodies.{BodyOf}

@@ -1,22 +1,21 @@
 -- A scope more is open, or the innermost is left, in the record of a process as in the machine.
-use Rattle.std.proofs.Common.{◌≡◌, ◌≢◌, ℕ, ◌+◌, ◌<◌, ◌≤◌, Bool, true, false, not, List, [], ◌∷◌, ◌++◌, length, refl, sym, ap, subst, ◌∙◌, arith, map, filter, inl, inr, Option, Some, None, if◌then◌else◌}
+use Rattle.std.proofs.Common.{◌≡◌, ◌≢◌, ℕ, Bool, true, false, not, List, [], ◌∷◌, ◌++◌, refl, sym, ap, subst, ◌∙◌, map, filter, Some, if◌then◌else◌}
 use Rattle.std.specs.Prelude.{All, AllPairs, ◌==◌, reverse, IsSome}
 use Rattle.std.specs.Option.{option_map}
 use Rattle.std.specs.List.Sorted.{IsPermutation}
-use Rattle.std.proofs.lemmas.Bool.{cases_Bool, eqb-true, eqb-false, eq-eqb, false≢true, not_from_false, lt-ltb, ltb-true}
-use Rattle.std.proofs.lemmas.Option.{none-some, same_Some}
+use Rattle.std.proofs.lemmas.Bool.{eqb-true, eqb-false, eq-eqb}
 use Rattle.std.proofs.lemmas.List.{append-nil, map-append}
-use Rattle.std.proofs.lemmas.List.Elements.{All-append, All-cons, All-filter, All-head, All-nil, All-tail, All-weaker, filter-append, filter_passes}
+use Rattle.std.proofs.lemmas.List.Elements.{All-append, All-cons, All-filter, All-head, All-nil, All-tail, filter-append, filter_passes}
 use Rattle.std.proofs.lemmas.List.Kept.{AllPairs-filter}
 use Rattle.std.proofs.lemmas.List.Quantifiers.{all_pairs_push}
 use Rattle.sim_types.specs.declared.event.EventId.{EventId}
 use Rattle.sim_types.specs.declared.event.ProcId.{ProcId}
 use Rattle.sim_types.specs.declared.event.Scope.{Scope}
 use Rattle.sim_types.proofs.Permutations.{AllPairs-head, AllPairs-tail}
-use Rattle.sim_machine.specs.State.{Calendar, Facilities, OpenScope, ProcessOf, State}
+use Rattle.sim_machine.specs.State.{OpenScope, ProcessOf, State}
 use Rattle.sim_machine.specs.Events.{is_process, is_same}
-use Rattle.sim_machine.specs.Processes.{is_alive, process_at}
-use Rattle.sim_machine.specs.Scopes.{on_facilities, open_scope}
+use Rattle.sim_machine.specs.Processes.{is_alive}
+use Rattle.sim_machine.specs.Scopes.{open_scope}
 use Rattle.sim_machine.specs.Users.{first_of_list}
 use Rattle.sim_machine.specs.Effect.{calendar}
 use Rattle.sim_machine.specs.Standing.{was_made}

@@ -1,8 +1,7 @@
 -- A process enters a scope, leaves its innermost and releases a request early, as the machine has it.
-use Rattle.std.proofs.Common.{◌≡◌, ◌≢◌, ℕ, ◌+◌, ◌<◌, ◌≤◌, ℤ, Bool, true, false, ◌||◌, List, [], ◌∷◌, ◌++◌, length, refl, sym, ap, subst, ◌∙◌, arith, map, filter, inl, inr, Option, Some, None, cond, if◌then◌else◌}
+use Rattle.std.proofs.Common.{◌≡◌, ◌≢◌, ℕ, ◌+◌, ◌<◌, ℤ, Bool, true, false, List, [], ◌∷◌, ◌++◌, length, refl, sym, ap, subst, ◌∙◌, arith, map, filter, inl, inr, Option, Some, None, cond}
 use Rattle.std.specs.Prelude.{All, AllPairs, ◌==◌, ◌↔◌, find, reverse, option_and_then, IsSome, IsSomeAnd, not}
-use Rattle.std.specs.Option.{option_map}
-use Rattle.std.proofs.lemmas.Bool.{cases_Bool, false≢true, lt-ltb, ltb-true}
+use Rattle.std.proofs.lemmas.Bool.{false≢true, lt-ltb, ltb-true}
 use Rattle.std.proofs.lemmas.Option.{none-some, same_Some}
 use Rattle.std.proofs.lemmas.List.Elements.{All-weaker}
 use Rattle.sim_types.specs.declared.event.EventId.{EventId}
@@ -13,7 +12,7 @@ use Rattle.sim_types.specs.declared.event.Callback.TheVariants as callback
 use Rattle.sim_types.specs.declared.event.Signal.TheVariants as signal
 use Rattle.sim_types.specs.declared.setup.Resource.{Resource}
 use Rattle.sim_types.proofs.Permutations.{AllPairs-head, AllPairs-tail}
-use Rattle.sim_machine.specs.State.{Slot, Calendar, Control, Facilities, OpenScope, State, Plan}
+use Rattle.sim_machine.specs.State.{Slot, Control, Facilities, OpenScope, State, Plan}
 use Rattle.sim_machine.specs.Events.{is_process, is_same}
 use Rattle.sim_machine.specs.Processes.{tell, told_more}
 use Rattle.sim_machine.specs.Requests as requests
@@ -25,7 +24,7 @@ use Rattle.sim_machine.specs.Effect.{calendar, enter}
 use Rattle.sim_machine.specs.Standing.{was_made}
 use Rattle.sim_machine.specs.LawfulWaiting.{AreOfTwo}
 use Rattle.sim_machine_law.proofs.EventLaws.{is_same-yes}
-use Rattle.sim_machine_law.proofs.LeftScopes.{same_scope, one_of_filter}
+use Rattle.sim_machine_law.proofs.LeftScopes.{one_of_filter}
 use Rattle.sim_machine_law.proofs.MadeEvents.{put_made_more}
 use Rattle.sim_machine_law.proofs.TriedQueues.{IsOneOf, one_has}
 use Rattle.sim_procs.specs.RecordOf.{RecordOf, record_of, change_record, innermost, without_innermost, scope_of}

@@ -1,5 +1,5 @@
 -- What a try, a put, a get, a cancel and a count make of a kernel, as the machine has it.
-use Rattle.std.proofs.Common.{◌≡◌, ℕ, zero, suc, ◌+◌, ◌<◌, ◌≤◌, ◌^◌, ℤ, Bool, true, false, List, [], ◌∷◌, ◌++◌, length, refl, sym, ap, subst, ◌∙◌, arith, Option, Some, None, inl, inr, if◌then◌else◌}
+use Rattle.std.proofs.Common.{◌≡◌, ℕ, zero, suc, ◌+◌, ◌<◌, ◌≤◌, ℤ, Bool, true, false, List, [], ◌∷◌, ◌++◌, length, refl, sym, ap, subst, ◌∙◌, arith, Option, Some, None, inl, inr}
 use Rattle.std.specs.Prelude.{◌==◌, ◌↔◌, slice_index_or, slice_set, IsSome}
 use Rattle.std.specs.Option.{option_map}
 use Rattle.std.proofs.lemmas.Bool.{cases_Bool, eqb-true, false≢true}
@@ -9,11 +9,10 @@ use Rattle.sim_types.specs.declared.event.EventId.{EventId}
 use Rattle.sim_types.specs.declared.event.ProcId.{ProcId}
 use Rattle.sim_types.specs.declared.event.Callback.TheVariants as callback
 use Rattle.sim_types.specs.declared.event.EventKind.TheVariants as kind
-use Rattle.sim_types.specs.declared.event.Signal.{Signal}
 use Rattle.sim_types.specs.declared.event.Signal.TheVariants as signal
 use Rattle.sim_types.specs.declared.op.Op.TheVariants as op
 use Rattle.sim_types.specs.declared.setup.Resource.{Resource}
-use Rattle.sim_machine.specs.State.{Give, EventOf, Calendar, Facilities, State, Plan}
+use Rattle.sim_machine.specs.State.{Give, EventOf, Facilities, State, Plan}
 use Rattle.sim_machine.specs.Requests as requests
 use Rattle.sim_machine.specs.Bodies.{BodyOf}
 use Rattle.sim_machine.specs.Trying.{on_calendar, try_put, try_get}
@@ -22,10 +21,8 @@ use Rattle.sim_machine.specs.Processes.{tell, told_more}
 use Rattle.sim_machine.specs.Effect.{calendar, effect, with_move}
 use Rattle.sim_machine_law.proofs.MadeEvents.{put_made_more, get_made_more}
 use Rattle.sim_events.specs.TableOf.{Spare, IsKept, kept_at}
-use Rattle.sim_events.specs.Changes.{more_events, more_callbacks}
-use Rattle.sim_happen_model.specs.HappenOf.{HappenOf, IsOpen, held, one_more, none_if_unheld, gone_if_unheld}
+use Rattle.sim_happen_model.specs.HappenOf.{HappenOf, IsOpen, held, one_more, none_if_unheld}
 use Rattle.sim_happen_model.specs.Shows.{Turns}
-use Rattle.sim_happen_model.specs.Seen.{seen}
 use Rattle.sim_happen_law.proofs.KeptPlaces.{at_end}
 use Rattle.sim_happen_law.proofs.Held.{holders_at, held_at, kept_of, of_kept}
 use Rattle.sim_happen_law.proofs.Following.{event_then}
@@ -39,7 +36,7 @@ use Rattle.sim_shared_model.specs.Waiting.{AreAllOpen, gone_if_waits}
 use Rattle.sim_shared_law.proofs.FollowingFacilities.{turns_all_then, turns_on_calendar}
 use Rattle.sim_steps_model.specs.PartsOf.{PartsOf, IsCalling, plan_of}
 use Rattle.sim_steps_model.specs.Calling.{called}
-use Rattle.sim_steps_model.specs.Becoming.{Stands, Becomes, BecomesWith}
+use Rattle.sim_steps_model.specs.Becoming.{Becomes, BecomesWith}
 use Rattle.sim_steps_model.specs.Resources.{MakesMove, RefusesMove}
 use Rattle.sim_steps_law.proofs.Keeping.{AddsHolders, adds_one_more}
 use Rattle.sim_steps_law.proofs.Becoming.{becomes_then, becomes_as, becomes_within, becomes_told, becomes_on_facilities, becomes_made_all, becomes_turned_all}

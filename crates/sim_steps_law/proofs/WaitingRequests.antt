@@ -1,12 +1,11 @@
 -- What the resources of a kernel need is known of each lawful state.
-use Rattle.std.proofs.Common.{◌≡◌, ◌≢◌, ℕ, ◌+◌, ◌<◌, ◌≤◌, ◌^◌, Bool, true, false, ◌&&◌, not, List, [], ◌∷◌, length, refl, sym, ap, subst, ◌∙◌, arith, map, filter, slice_get, Option, Some, None}
-use Rattle.std.specs.Prelude.{is_none, All}
+use Rattle.std.proofs.Common.{◌≡◌, ℕ, ◌+◌, ◌<◌, ◌^◌, true, not, length, refl, sym, ap, subst, ◌∙◌, Option, Some, None}
+use Rattle.std.specs.Prelude.{is_none}
 use Rattle.std.proofs.lemmas.Bool.{false≢true, not-true, ltb-true}
 use Rattle.sim_types.specs.declared.event.EventId.{EventId}
 use Rattle.sim_types.specs.declared.event.Outcome.{Outcome}
-use Rattle.sim_machine.specs.State.{EventOf, Calendar, Waiter, Facilities, State}
+use Rattle.sim_machine.specs.State.{EventOf, Calendar, Waiter, Facilities}
 use Rattle.sim_machine.specs.Events.{event_at, is_pending, is_same}
-use Rattle.sim_machine.specs.Requests as requests
 use Rattle.sim_machine.specs.Bodies.{BodyOf}
 use Rattle.sim_machine.specs.Standing.{was_made, kind_at}
 use Rattle.sim_machine.specs.LawfulWaiting.{waits_well, may_wait_kind}
@@ -18,7 +17,6 @@ use Rattle.sim_happen_model.specs.HappenOf.{HappenOf, IsOpen, held}
 use Rattle.sim_happen_model.specs.Shows.{Shows}
 use Rattle.sim_happen_law.proofs.Following.{read_is}
 use Rattle.sim_shared_model.specs.Resources.{waiting_at}
-use Rattle.sim_shared_model.specs.Making.{ShowsSome}
 use Rattle.sim_shared_model.specs.Waiting.{AreAllOpen}
 use Rattle.sim_shared_law.proofs.CancelledEvents.{waits_there}
 use Rattle.sim_shared_law.proofs.JoinedEvents.{all_from_each}

@@ -1,9 +1,8 @@
-use Rattle.std.proofs.Common.{◌≡◌, ◌+◌, ◌≤◌, ◌<◌, ◌^◌, ◌++◌, ◌∙◌, [], ◌∷◌, List, length, sym, subst, ap, refl, arith}
+use Rattle.std.proofs.Common.{◌+◌, ◌^◌, ◌++◌, ◌∙◌, [], ◌∷◌, List, length, sym, subst, ap, refl, arith}
 use Rattle.std.specs.Prelude.{reverse}
 use Rattle.std.proofs.lemmas.List.{append-nil, append_assoc, length-append}
 use Rattle.sim_types.specs.declared.event.Scope.{Scope}
 use Rattle.sim_happen_model.specs.HappenOf.{held}
-use Rattle.sim_steps_model.specs.Becoming.{AreAllKept}
 use Rattle.sim_steps_model.specs.Dropping.{CanLeave, Leaves}
 use Rattle.sim_steps_law.proofs.Keeping.{all_kept_weaker}
 use Rattle.sim_steps_law.proofs.LeavingEach.{can_first, can_leave_next, innermost_first, innermost_within, leaves_then, none_innermost}

@@ -1,4 +1,4 @@
-use Rattle.std.proofs.Common.{◌≡◌, ◌+◌, ◌≤◌, ◌++◌, List, length, reverse}
+use Rattle.std.proofs.Common.{◌≡◌, ◌+◌, ◌++◌, List, length, reverse}
 use Rattle.sim_types.specs.declared.event.Scope.{Scope}
 use Rattle.sim_steps_model.specs.Dropping.{CanLeave, Leaves}
 use Rattle.sim_steps.proofs.dropping.leave_scopes.Given as goal

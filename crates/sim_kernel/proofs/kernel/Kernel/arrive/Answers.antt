@@ -1,4 +1,4 @@
-use Rattle.std.proofs.Common.{◌≡◌, FitsSigned, w64, rules}
+use Rattle.std.proofs.Common.{FitsSigned, w64, rules}
 use Rattle.std.proofs.lemmas.Int.{to_z-of_z}
 use Rattle.sim_steps_law.proofs.Rooms.{roomier_stands_for_some}
 use Rattle.sim_kernel.proofs.Arrivals.{makes_arrival, arrival_holds}

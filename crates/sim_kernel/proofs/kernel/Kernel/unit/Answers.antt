@@ -1,4 +1,3 @@
-use Rattle.std.proofs.Common.{◌≡◌, ◌∙◌, sym, ap, subst}
 use Rattle.sim_steps_law.proofs.Rooms.{roomier_stands_for_some}
 use Rattle.sim_kernel.proofs.Units.{unit_steps, unit_holds, roomier_holds}
 use Rattle.sim_kernel.proofs.kernel.Kernel.unit.Goals as goal

@@ -1,4 +1,4 @@
-use Rattle.std.proofs.Common.{[], refl, arith}
+use Rattle.std.proofs.Common.{[], arith}
 use Rattle.sim_steps_law.proofs.Keeping.{made_is_kept, none_is_few}
 use Rattle.sim_steps_law.proofs.Calls.{calling_made, called_moves, taken_moves, taken_names}
 use Rattle.sim_steps_law.proofs.CalledConditions.{condition_known, condition_taken}

@@ -1,16 +1,9 @@
-use Rattle.std.proofs.Common.{◌≡◌, ◌≢◌, ℕ, rules, refl, sym, subst, ap, ◌∙◌, w64, FitsSigned, Some, true, false, All}
-use Rattle.std.specs.Prelude.{reverse}
+use Rattle.std.proofs.Common.{rules, refl, sym, subst, ap, ◌∙◌, w64, FitsSigned}
 use Rattle.std.proofs.lemmas.Int.{to_z-of_z}
 use Rattle.std.proofs.lemmas.Option.{same_Some}
 use Rattle.sim_types.specs.declared.event.EventId.{EventId}
-use Rattle.sim_types.specs.declared.event.Scope.{Scope}
-use Rattle.sim_types.specs.declared.event.Signal.TheVariants as signal
-use Rattle.sim_machine.specs.Processes.{told_more}
-use Rattle.sim_machine_law.proofs.DroppedWaiting.{All-reverse}
-use Rattle.sim_happen_model.specs.HappenOf.{HappenOf, IsOpen}
 use Rattle.sim_steps_model.specs.PartsOf.{control_of, room_with}
-use Rattle.sim_steps_model.specs.Dropping.{CanBeDropped, StopsWaiting}
-use Rattle.sim_steps_law.proofs.Ending.{found_id}
+use Rattle.sim_steps_model.specs.Dropping.{StopsWaiting}
 use Rattle.sim_steps_law.proofs.Running.{mapped_is}
 use Rattle.sim_steps_law.proofs.DroppedProcesses.{can_stopped, known_dropped, none_not_some, open_dropped, other_dropped, stripped_is}
 use Rattle.sim_steps.proofs.parts.Parts.drop_other.Goals as goal

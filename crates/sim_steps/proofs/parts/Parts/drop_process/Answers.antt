@@ -1,4 +1,4 @@
-use Rattle.std.proofs.Common.{rules, refl, sym, ◌∙◌, w64, FitsSigned, eq-eqb, arith}
+use Rattle.std.proofs.Common.{rules, sym, ◌∙◌, w64, FitsSigned, eq-eqb, arith}
 use Rattle.std.proofs.lemmas.Int.{to_z-of_z}
 use Rattle.sim_machine.specs.MayAsk.{most_scopes}
 use Rattle.sim_machine.specs.Effect.{to_another}
