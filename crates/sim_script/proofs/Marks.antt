@@ -13,9 +13,11 @@ use Rattle.sim_script.specs.Kept.{MarksNumbers}
 abbrev number_at : List Class → ℕ → Bool
 number_at cs i = is_class (slice_index_or cs i class.Number) class.Number
 
+-- no variable is marked yet
 pub none_marked : (cs : List Class) → MarksNumbers 0 0 cs
 none_marked cs = record { marked = λ i lt. absurd (omega (arith, lt)); rest = λ i le. bit_at-zero i }
 
+-- all variables are numbers
 pub all_marked : (cs : List Class) → cs ≡ replicate 64 class.Number → MarksNumbers 64 (2 ^ 64 - 1) cs
 all_marked cs all =
     record {
@@ -24,6 +26,7 @@ all_marked cs all =
     }
 
 module _ (n bits : ℕ) (cs : List Class) (within : n < 64) (h : MarksNumbers n bits cs) where
+  -- one variable more: a number, whose bit is set
   pub number_marked : slice_index_or cs n class.Number ≡ class.Number → MarksNumbers (n + 1) (bit_or bits (1 * 2 ^ n % 2 ^ 64)) cs
   number_marked number =
       record {
@@ -35,12 +38,15 @@ module _ (n bits : ℕ) (cs : List Class) (within : n < 64) (h : MarksNumbers n 
       by i (inl e) = rw (e, number) (bit_at_set_same w64 bits n within)
       by i (inr lt) = bit_at_set_other w64 bits n within i (λ e. omega (arith, e, lt)) ∙ h.marked i lt
 
+  -- or another
   pub other_passed : number_at cs n ≡ false → MarksNumbers (n + 1) bits cs
   other_passed other = record { marked = λ i lt. by i (eq-or-lt_of_le {n = i} {m = n} (omega (arith, lt))); rest = λ i le. h.rest i (omega (arith, le)) }
     where
       by : (i : ℕ) → (i ≡ n) ⊎ (i < n) → bit_at bits i ≡ (if number_at cs i then 1 else 0)
       by i (inl e) = rw (e, other) (h.rest n (omega arith))
       by i (inr lt) = h.marked i lt
+
+-- ---- what a bit says
 
 pub marks_true : (b : Bool) (bit : ℕ) → bit ≡ (if b then 1 else 0) → bit ≡ 1 → b ≡ true
 marks_true true bit is one = refl

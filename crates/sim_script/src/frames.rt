@@ -16,11 +16,12 @@ pub(crate) enum Frame {
     InTry(u32),
     /// A loop, with the place behind its `end`.
     InLoop(u32),
-    /// A repeat, with the place behind its `end`, and the turns that are left, the present one among them.
+    /// A repeat, with the place behind its `end` and the turns that are left, the present one
+    /// among them.
     InRepeat(u32, i64),
 }
 
-/// At most 32 blocks, for which memory is taken at once. They are kept from the outermost to the innermost.
+/// At most 32 blocks, from the outermost to the innermost. Memory for all of them is taken at once.
 #[derive(Drop)]
 pub(crate) struct Frames {
     values: Vec<Frame>,

@@ -8,10 +8,12 @@ pub returns-then-self-at-eq1 : goal.returns-then-self-at-eq1
 returns-then-self-at-eq1 c =
     let bit = shr_and_one c.self.inside.numbers c.args.at in
     let marked = c.self.invariant.2.marked c.args.at c.requires in
-    rw (← c.self.view_is) (number_holds_none c.self.inside.classes.value c.self.inside.variables.items c.args.at (marks_true _ _ marked (sym bit ∙ c.if-self-at-eq1.true)))
+    let number = marks_true _ _ marked (sym bit ∙ c.if-self-at-eq1.true) in
+    rw (← c.self.view_is) (number_holds_none c.self.inside.classes.value c.self.inside.variables.items c.args.at number)
 
 pub returns-else-self-at-eq1 : goal.returns-else-self-at-eq1
 returns-else-self-at-eq1 c =
     let bit = shr_and_one c.self.inside.numbers c.args.at in
     let marked = c.self.invariant.2.marked c.args.at c.requires in
-    rw (c.event_in.ensures, ← c.self.view_is) (other_holds c.self.inside.classes.value c.self.inside.variables.items c.args.at (marks_false _ _ marked (λ one. c.if-self-at-eq1.false (bit ∙ one))) _ refl)
+    let other = marks_false _ _ marked (λ one. c.if-self-at-eq1.false (bit ∙ one)) in
+    rw (c.event_in.ensures, ← c.self.view_is) (other_holds c.self.inside.classes.value c.self.inside.variables.items c.args.at other _ refl)
