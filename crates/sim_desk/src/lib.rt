@@ -2,6 +2,7 @@
 #![tactic(auto)]
 
 mod fault;
+mod gathered;
 mod top;
 
 pub use top::desk;

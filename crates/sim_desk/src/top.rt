@@ -9,9 +9,10 @@ ghost use Rattle.sim_desk.specs.Headline.{answer_to, answer_of, status_of_end, s
 ghost use Rattle.sim_desk.specs.Answers.{is_whole, ReadsWhole, AnswersWhole, AnswersPrefix, IsWholeOrWanting};
 
 use crate::fault::fault_line;
+use crate::gathered::run_gathered;
 use sim_code::{ReadError, read};
 use sim_command::{Command, Status, Word, command};
-use sim_engine::{EngineFault, run_scenario};
+use sim_engine::EngineFault;
 use sim_outside::{Failed, Sink, Source, TakeFault, take_all, write_all};
 use sim_scenario::Scenario;
 use sim_types::{End, Fault, MOST_BYTES};
@@ -19,7 +20,8 @@ use std::alloc::Global;
 use std::thread::Threads;
 
 /// Carries out the command that the words say: reads from the source, and writes to the sink. The answer says how it
-/// ended. The first argument lends threads to commands that run on several; no command that is built needs them.
+/// ended. Lines of a trace are written many at a time, so where memory is wanting the last of them may not be written.
+/// The first argument lends threads to commands that run on several; no command that is built needs them.
 #[tactic(auto, using(crate::proofs::Telling::answers))]
 pub fn desk<S: Source, K: Sink, R: Threads + Sync>(
     _rt: &R,
@@ -129,7 +131,7 @@ fn carry_out<K: Sink>(
             Ok(Status::Ended)
         }
         Command::Run(limit) => {
-            let end = run_scenario(alloc, scenario, limit, out)?;
+            let end = run_gathered(alloc, scenario, limit, out)?;
             Ok(status_of_end(end))
         }
     }

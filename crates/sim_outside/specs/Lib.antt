@@ -1,4 +1,5 @@
 pub mod Causes
+pub mod Gathering
 pub mod Memory
 pub mod Reads
 pub mod Standard

@@ -4,6 +4,8 @@
 mod fault;
 mod fault_count;
 mod flushes;
+mod gathering;
+mod held;
 mod memory;
 mod null;
 mod sink;
@@ -12,6 +14,7 @@ mod standard;
 mod unread;
 
 pub use fault::{Failed, TakeFault};
+pub use gathering::{Gathering, LentSink, Loan};
 pub use memory::{MemSink, MemSource, SteadySource};
 pub use null::NullSink;
 pub use sink::{Sink, write_all};

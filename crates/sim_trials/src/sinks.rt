@@ -1,6 +1,10 @@
-//! What a sink takes.
-use sim_outside::{MemSink, NullSink, write_all};
+//! What a sink takes, and what one behind a sink that gathers takes.
+ghost use Rattle.std.specs.Prelude.{◌≡◌};
+ghost use Rattle.sim_outside.specs.Memory.{told_in_memory};
+
+use sim_outside::{Failed, Gathering, LentSink, Loan, MemSink, NullSink, Sink, write_all};
 use std::alloc::{AllocError, Global};
+use std::marker::Brand;
 
 const PIECE: &[u8] = b"@0 0 0 init";
 
@@ -22,4 +26,52 @@ fn writes_what_fits(rt: HostRuntime) {
         assert!(rt; takes_what_fits(rt.alloc(), room), "room {room}");
     }
     assert!(rt; write_all(&mut NullSink::new(), PIECE).is_ok());
+}
+
+/// How often the piece is written to a sink that gathers: 11,000 bytes, so they are passed on in two parts.
+const TIMES: usize = 1000;
+
+/// Writes the piece as often as that, or up to the first fault.
+fn write_often<K: Sink>(out: &mut K) -> Result<(), Failed> {
+    for _ in 0..TIMES {
+        write_all(out, PIECE)?;
+    }
+    Ok(())
+}
+
+/// Writes by way of a sink that gathers and flushes it twice. The answers tell what went well.
+fn gather<L: Loan>(lent: LentSink<'_, MemSink>) -> [bool; 3]
+    requires same_reference { lent.sink.ghost_name ≡ L.name }
+    requires taken { (told_in_memory lent.sink.now).taken ≡ L.taken }
+{
+    let mut gathering = Gathering::<MemSink, L>::new(lent);
+    [
+        write_often(&mut gathering).is_ok(),
+        gathering.flush().is_ok(),
+        gathering.flush().is_ok(),
+    ]
+}
+
+/// Whether a sink with so much room takes what fits of all that was gathered, and each flush fails where not all does.
+fn takes_what_was_gathered(alloc: Global, room: usize) -> bool {
+    let whole = TIMES * PIECE.len();
+    match MemSink::new(alloc, room as u64) {
+        Ok(mut sink) => {
+            let well = gather::<Brand>(LentSink::new(&mut sink));
+            well == [room >= 8192, room >= whole, room >= whole]
+                && sink.bytes().len() == room.min(whole)
+                && sink
+                    .bytes()
+                    .chunks(PIECE.len())
+                    .all(|part| PIECE.starts_with(part))
+        }
+        Err(AllocError) => false,
+    }
+}
+
+#[test]
+fn gathers_what_fits(rt: HostRuntime) {
+    for room in [0, 5, 8191, 8192, 9000, 10_999, 11_000, 12_000] {
+        assert!(rt; takes_what_was_gathered(rt.alloc(), room), "room {room}");
+    }
 }
