@@ -1,5 +1,5 @@
 //! Three bodies written by hand, a clock, a traveller and a car: examples for who writes one. With the first two the tests
-//! run the kernel; the car has a scope, which no kernel opens yet, and is polled alone. No crate stands on this one.
+//! run the kernel; the car has a scope, and is polled alone. No crate stands on this one.
 #![tactic(auto)]
 
 mod car;

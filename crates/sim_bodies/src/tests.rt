@@ -7,7 +7,10 @@ ghost use Rattle.sim_steps_model.specs.Resting.{can_arrive};
 ghost use Rattle.sim_procs.specs.Premises.{CanBegin, CanBeTold};
 ghost use Rattle.sim_bodies.specs.Travellers.{traveller_facts};
 
+mod lines;
+
 use crate::{Car, Clock, Land, Pace, Road, Traveller};
+use lines::{arrive, end, finished, init, line, log, timeout};
 use rand_core::SeedableRng;
 use rand_core::utils::NextWord;
 use rand_pcg::Pcg64;
@@ -275,76 +278,6 @@ fn polled<B: Body>(body: &mut B, code: &B::Code, signal: Signal) -> Op
     ensures { B.body.turn code.now body.old (pos 0) signal result body.new }
 {
     body.poll(code, 0, signal)
-}
-
-// ---- lines
-
-fn line(
-    time: i64,
-    priority: u8,
-    number: u64,
-    kind: EventKind,
-    event: u64,
-    outcome: Outcome,
-) -> Line {
-    Line::Event {
-        time,
-        priority,
-        number,
-        kind,
-        event: EventId(event),
-        outcome,
-    }
-}
-
-fn init(number: u64, event: u64) -> Line {
-    line(0, 0, number, EventKind::Init, event, Outcome::Ok(0))
-}
-
-fn timeout(time: i64, number: u64, event: u64, value: i64) -> Line {
-    line(
-        time,
-        1,
-        number,
-        EventKind::Timeout,
-        event,
-        Outcome::Ok(value),
-    )
-}
-
-fn finished(time: i64, number: u64, process: u64, value: i64) -> Line {
-    line(
-        time,
-        1,
-        number,
-        EventKind::Process,
-        process,
-        Outcome::Ok(value),
-    )
-}
-
-fn log(time: i64, process: u64, value: i64) -> Line {
-    Line::Log {
-        time,
-        process: ProcId(process),
-        value,
-    }
-}
-
-fn arrive(after: u64, value: i64) -> Line {
-    Line::Arrive {
-        after,
-        port: 0,
-        value,
-    }
-}
-
-fn end(end: End, time: i64, processed: u64) -> Line {
-    Line::Finish {
-        end,
-        time,
-        processed,
-    }
 }
 
 // ---- tests
