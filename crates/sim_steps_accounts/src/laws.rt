@@ -90,7 +90,8 @@ pub fn popped_events<B: LawfulBody>()
     ensures settled { (e : EventId) (a b : PartsOf B B.Code) →
         a.control ≡ Calling e [] → Becomes (settle e) a b → b.shared ≡ a.shared →
         BecomesOwing B.body [] (but_zero (e ∷ [])) (settle e) a b }
-    ensures popped { (a n : PartsOf B B.Code) (x : Entry) (line : Line) (y : HappenOf) (s : State B) →
+    ensures popped { (a n : PartsOf B B.Code) (x : Entry) (line : Line) (y : HappenOf)
+        (s : State B) →
         a.control ≡ Idle → PopsEntry x line a.shared.happen y →
         n ≡ record (with_happen y a) {
           processed = a.processed + 1;
