@@ -37,14 +37,26 @@ impl LawfulBody for Car {
 }
 
 impl Body for Car {
-    ghost use Rattle.std.specs.Prelude.{[], refl};
+    ghost use Rattle.std.specs.Prelude.{None, [], refl};
     ghost use Rattle.std.proofs.Common.{lit≤};
+    ghost use Rattle.std.proofs.lemmas.Option.{none-some};
 
     ghost events_held = { λ b. [] };
+
+    ghost told_place = { λ code b. None };
 
     ghost places = { λ code b sound. refl };
 
     ghost few_places = { λ code b sound. lit≤ tt };
+
+    ghost told_place_within = { λ code b e at can is. absurd (none-some at is) };
+
+    ghost other_places_stay = { λ code b time e asked d can turned. record {
+      length = refl;
+      each = λ i other. refl;
+    } };
+
+    ghost is_for = { λ code b. Unit {0} };
 
     fn blank(_alloc: Global, _code: &Road) -> Result<Car, AllocError> {
         Ok(Car {
@@ -87,5 +99,9 @@ impl Body for Car {
 
     fn place(&self, _at: u8) -> EventId {
         EventId(0)
+    }
+
+    fn place_told(&self, _code: &Road) -> Option<u8> {
+        None
     }
 }

@@ -48,14 +48,26 @@ impl LawfulBody for Clock {
 }
 
 impl Body for Clock {
-    ghost use Rattle.std.specs.Prelude.{[], refl};
+    ghost use Rattle.std.specs.Prelude.{None, [], refl};
     ghost use Rattle.std.proofs.Common.{lit≤};
+    ghost use Rattle.std.proofs.lemmas.Option.{none-some};
 
     ghost events_held = { λ b. [] };
+
+    ghost told_place = { λ code b. None };
 
     ghost places = { λ code b sound. refl };
 
     ghost few_places = { λ code b sound. lit≤ tt };
+
+    ghost told_place_within = { λ code b e at can is. absurd (none-some at is) };
+
+    ghost other_places_stay = { λ code b time e asked d can turned. record {
+      length = refl;
+      each = λ i other. refl;
+    } };
+
+    ghost is_for = { λ code b. Unit {0} };
 
     fn blank(_alloc: Global, _code: &Pace) -> Result<Clock, AllocError> {
         Ok(Clock {
@@ -84,5 +96,9 @@ impl Body for Clock {
 
     fn place(&self, _at: u8) -> EventId {
         EventId(0)
+    }
+
+    fn place_told(&self, _code: &Pace) -> Option<u8> {
+        None
     }
 }

@@ -51,14 +51,26 @@ impl LawfulBody for Traveller {
 }
 
 impl Body for Traveller {
-    ghost use Rattle.std.specs.Prelude.{[], refl};
+    ghost use Rattle.std.specs.Prelude.{None, [], refl};
     ghost use Rattle.std.proofs.Common.{lit≤};
+    ghost use Rattle.std.proofs.lemmas.Option.{none-some};
 
     ghost events_held = { λ b. [] };
+
+    ghost told_place = { λ code b. None };
 
     ghost places = { λ code b sound. refl };
 
     ghost few_places = { λ code b sound. lit≤ tt };
+
+    ghost told_place_within = { λ code b e at can is. absurd (none-some at is) };
+
+    ghost other_places_stay = { λ code b time e asked d can turned. record {
+      length = refl;
+      each = λ i other. refl;
+    } };
+
+    ghost is_for = { λ code b. Unit {0} };
 
     fn blank(_alloc: Global, _code: &Land) -> Result<Traveller, AllocError> {
         Ok(Traveller {
@@ -91,6 +103,10 @@ impl Body for Traveller {
 
     fn place(&self, _at: u8) -> EventId {
         EventId(0)
+    }
+
+    fn place_told(&self, _code: &Land) -> Option<u8> {
+        None
     }
 }
 

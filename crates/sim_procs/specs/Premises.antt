@@ -1,5 +1,5 @@
 -- What is to hold where a body begins and where it is polled, and the events that it remembers.
-use Rattle.std.specs.Prelude.{ℕ, ℤ, List, [], map, slice_index_or, IsTrue}
+use Rattle.std.specs.Prelude.{◌≡◌, ◌≢◌, ℕ, ℤ, List, [], length, map, slice_index_or, Option, Some, IsTrue}
 use Rattle.sim_types.specs.declared.event.EventId.{EventId}
 use Rattle.sim_types.specs.declared.event.Signal.{Signal}
 use Rattle.sim_machine.specs.Tellings.{CodeFacts}
@@ -11,6 +11,12 @@ use Rattle.sim_machine.specs.NumberBounds.{arguments_within_bound, tells_within_
 -- the events in the places of a body
 abbrev pub events_in_places : {B Code : Type 0} → BodyOf B Code → Code → B → List EventId
 events_in_places body code b = map (λ x. x.event) ((body.tell code).places b)
+
+-- the lists are as long as each other, and alike but for this place, if any
+pub record ChangesOnly (at : Option ℕ) (old new : List EventId) : Type 0 where
+  pub length : length new ≡ length old
+  pub each : (i : ℕ) → at ≢ Some i
+      → slice_index_or new i (record { 0 = 0 }) ≡ slice_index_or old i (record { 0 = 0 })
 
 -- a process of this kind may begin with these arguments, and those that name events are within the bound of events
 pub record CanBegin (f : CodeFacts) (kind : ℕ) (args : List ℤ) : Type 0 where

@@ -1,7 +1,9 @@
-ghost use Rattle.std.specs.Prelude.{◌≤◌, ◌≡◌, ◌<◌, List, length, slice_index_or};
+ghost use Rattle.std.specs.Prelude.{◌≤◌, ◌≡◌, ◌<◌, ℕ, ℤ, List, Option, Some, length, slice_index_or, IfOk};
 ghost use Rattle.sim_types.specs.declared.event.EventId.{EventId};
+ghost use Rattle.sim_types.specs.declared.event.Signal.TheVariants as signal;
+ghost use Rattle.sim_types.specs.declared.op.Op.{Op};
 ghost use Rattle.sim_machine.specs.NumberBounds.{most_events};
-ghost use Rattle.sim_procs.specs.Premises.{CanBegin, CanBeTold, events_in_places};
+ghost use Rattle.sim_procs.specs.Premises.{CanBegin, CanBeTold, ChangesOnly, events_in_places};
 
 use sim_machine::LawfulBody;
 use sim_types::{Args, EventId, Op, ProcId, Signal};
@@ -13,12 +15,20 @@ pub trait Body: LawfulBody + Sized + Drop {
     /// The events that stand in the places.
     ghost events_held: { Self → List EventId };
 
-    /// A body that is yet to be filled. This alone takes memory.
-    fn blank(alloc: Global, code: &Self::Code) -> Result<Self, AllocError>;
+    /// The place that gets the event that the body is told next, where that is one that it made. None where none does.
+    ghost told_place: { Self.Code → Self → Option ℕ };
+
+    /// A body that has memory for all that a process of this code keeps.
+    ghost is_for: { Self.Code → Self → Type 0 };
+
+    /// A body for this code that is yet to be filled. This alone takes memory.
+    fn blank(alloc: Global, code: &Self::Code) -> Result<Self, AllocError>
+        ensures { IfOk result (λ b. is_for code.now b) };
 
     /// Makes this the start of a process of a kind.
     fn fill(&mut self, code: &Self::Code, kind: u32, args: Args)
-        requires { CanBegin (Self.body.facts code.now) kind args }
+        requires can { CanBegin (Self.body.facts code.now) kind args }
+        requires is_for { is_for code.now self.old }
         ensures { self.new ≡ Self.body.begun code.now kind args };
 
     /// Tells the body its own number, once after `fill` and before the first poll.
@@ -36,6 +46,10 @@ pub trait Body: LawfulBody + Sized + Drop {
         requires { at < 64 }
         ensures { result ≡ slice_index_or (events_held self.now) at (record { 0 = 0 }) };
 
+    /// The place that gets the event that the body is told next, where that is one that it made. None where none does.
+    fn place_told(&self, code: &Self::Code) -> Option<u8>
+        ensures { result ≡ told_place code.now self.now };
+
     /// The places that a sound body tells are those that `place` reads.
     ghost places: { (code : Self.Code) (b : Self) → Self.body.sound code b
         → events_in_places Self.body code b ≡ events_held b };
@@ -43,4 +57,14 @@ pub trait Body: LawfulBody + Sized + Drop {
     /// A sound body has at most 64 places.
     ghost few_places: { (code : Self.Code) (b : Self) → Self.body.sound code b
         → length (events_held b) ≤ 64 };
+
+    /// The place that gets an event is one of the 64.
+    ghost told_place_within: { (code : Self.Code) (b : Self) (e : EventId) (at : ℕ)
+        → CanBeTold Self.body code b (signal.Made e) → told_place code b ≡ Some at → at < 64 };
+
+    /// A poll that tells of an event that the body made changes no other place.
+    ghost other_places_stay: { (code : Self.Code) (b : Self) (time : ℤ) (e : EventId) (asked : Op)
+        (d : Self) → CanBeTold Self.body code b (signal.Made e)
+        → Self.body.turn code b time (signal.Made e) asked d
+        → ChangesOnly (told_place code b) (events_held b) (events_held d) };
 }

@@ -125,6 +125,17 @@ impl<B> Procs<B> {
         record.body_mut()
     }
 
+    /// The body of the process, for reading.
+    pub fn body(&self, id: ProcId) -> &B
+        requires alive { IsSome (record_of id self.now.live) }
+        ensures value { option_map (λ r. r.body) (record_of id self.now.live) ≡ Some result.now }
+    {
+        match self.place(id) {
+            Some(at) => self.records[at].body(),
+            None => unreachable!(),
+        }
+    }
+
     /// The body of the process, to be changed.
     pub fn body_mut(&mut self, id: ProcId) -> &mut B
         requires alive { IsSome (record_of id self.old.live) }
@@ -145,13 +156,14 @@ impl<B> Procs<B> {
         Some(self.records[at].target())
     }
 
-    /// The process waits for another event.
-    pub fn set_target(&mut self, id: ProcId, target: EventId)
+    /// The process waits for another event. The answer is what it waited for before.
+    pub fn replace_target(&mut self, id: ProcId, target: EventId) -> EventId
         requires alive { IsSome (record_of id self.old.live) }
-        ensures { self.new ≡ with_record id (λ r. record r { target = target }) self.old }
+        ensures before { option_map (λ r. r.target) (record_of id self.old.live) ≡ Some result }
+        ensures after { self.new ≡ with_record id (λ r. record r { target = target }) self.old }
     {
         match self.place(id) {
-            Some(at) => self.records[at].set_target(target),
+            Some(at) => self.records[at].replace_target(target),
             None => unreachable!(),
         }
     }

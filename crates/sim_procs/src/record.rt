@@ -54,7 +54,8 @@ impl<B> ProcRecord<B> {
         self.id
     }
 
-    pub(crate) fn target(&self) -> EventId
+    /// The event that the process waits for, or waited for last.
+    pub fn target(&self) -> EventId
         ensures { result ≡ self.now.target }
     {
         self.target
@@ -63,6 +64,13 @@ impl<B> ProcRecord<B> {
     ghost use Rattle.std.specs.Borrow.{sem};
     ghost use Rattle.sim_procs.specs.Lending.{LendsBody};
 
+    /// The body, for reading.
+    pub fn body(&self) -> &B
+        ensures { result.now ≡ self.now.body }
+    {
+        &self.body
+    }
+
     pub(crate) fn body_mut(&mut self) -> &mut B
         ensures* lends { sem 𝓛 (LendsBody B.row self.entry result) }
         ensures value { result.now ≡ self.old.body }
@@ -70,10 +78,13 @@ impl<B> ProcRecord<B> {
         &mut self.body
     }
 
-    pub(crate) fn set_target(&mut self, target: EventId)
-        ensures { self.new ≡ record self.old { target = target } }
+    pub(crate) fn replace_target(&mut self, target: EventId) -> EventId
+        ensures before { result ≡ self.old.target }
+        ensures after { self.new ≡ record self.old { target = target } }
     {
+        let before = self.target;
         self.target = target;
+        before
     }
 
     pub(crate) fn push_scope(&mut self, scope: Scope)

@@ -8,6 +8,7 @@ use Rattle.sim_types.specs.declared.script.Kind.{Kind}
 use Rattle.sim_types.specs.declared.script.Stmt.{Stmt}
 use Rattle.sim_language.specs.Built.{is_built}
 use Rattle.sim_language.specs.Reads.{reads}
+use Rattle.sim_script_model.specs.Needs as needs
 
 -- the scenario of these parts
 abbrev pub of_parts : Setup → ℕ → List (List ℕ) → List Kind → List Stmt → List Arrival → List (List Post) → ScenarioOf
@@ -26,3 +27,8 @@ of_parts setup seed port_names kinds code journal posters =
 pub record IsRead (s : ScenarioOf) : Type 0 where
   pub text : List ℕ
   pub says : reads is_built text ≡ Ok s
+
+-- the scripts of this scenario need these variables and frames
+pub record HasNeeds (s : ScenarioOf) (last_variable most_frames : ℕ) : Type 0 where
+  pub variable : last_variable ≡ needs.last_variable s
+  pub frames : most_frames ≡ needs.most_frames s.code

@@ -3,8 +3,10 @@ ghost use Rattle.std.specs.Prelude.{◌≡◌, IsTrue, Ok};
 ghost use Rattle.sim_language.specs.Built.{is_built, is_built_scenario};
 ghost use Rattle.sim_language.specs.Reads.{reads};
 ghost use Rattle.sim_language.specs.WellFormed.{is_well_formed};
+ghost use Rattle.sim_script_model.specs.Needs.{last_variable, most_frames};
 ghost use Rattle.sim_scenario.specs.Parts.{of_parts};
 
+use crate::needs::{Needs, most_params, needs_of};
 use sim_types::{Arrival, Kind, List, Name, Post, Setup, Stmt};
 use std::marker::Model;
 
@@ -19,18 +21,23 @@ pub struct Scenario {
     code: List<Stmt>,
     journal: List<Arrival>,
     posters: List<List<Post>>,
+    /// The last variable that is given a value.
+    last_variable: usize,
+    /// The frames of a script where most of its blocks are open.
+    most_frames: usize,
 }
 
 impl Model for Scenario {
     ghost use Rattle.sim_types.specs.Scenarios.{ScenarioOf};
-    ghost use Rattle.sim_scenario.specs.Parts.{IsRead, of_parts};
+    ghost use Rattle.sim_scenario.specs.Parts.{IsRead, HasNeeds, of_parts};
 
     ghost Value = { ScenarioOf };
 
     ghost view = { λ a. of_parts a.setup a.seed a.port_names a.kinds a.code a.journal a.posters };
 
-    ghost invariant = { λ a. IsRead
-        (of_parts a.setup a.seed a.port_names a.kinds a.code a.journal a.posters) };
+    ghost invariant = { λ a.
+        let parts = of_parts a.setup a.seed a.port_names a.kinds a.code a.journal a.posters in
+        IsRead parts × HasNeeds parts a.last_variable a.most_frames };
 }
 
 impl Scenario {
@@ -49,6 +56,8 @@ impl Scenario {
             reads is_built _text.now ≡ Ok parts }
         ensures { result ≡ of_parts setup seed port_names kinds code journal posters }
     {
+        let Needs { variable, frames } = needs_of(code.as_slice());
+        let last_variable = most_params(kinds.as_slice()).max(variable).min(63);
         Scenario {
             setup,
             seed,
@@ -57,6 +66,8 @@ impl Scenario {
             code,
             journal,
             posters,
+            last_variable,
+            most_frames: frames,
         }
     }
 
@@ -97,5 +108,19 @@ impl Scenario {
         ensures built { IsTrue (is_built_scenario self.now) }
     {
         self.code.as_slice()
+    }
+
+    /// The last variable that is given a value.
+    pub fn last_variable(&self) -> usize
+        ensures { result ≡ last_variable self.now }
+    {
+        self.last_variable
+    }
+
+    /// The frames of a script where most of its blocks are open.
+    pub fn most_frames(&self) -> usize
+        ensures { result ≡ most_frames self.now.code }
+    {
+        self.most_frames
     }
 }

@@ -18,5 +18,5 @@ read_first (m ∷ kinds) (suc k) d lt = read_first kinds k d (omega arith)
 
 -- the script of a kind
 pub begun : (x : ScenarioOf) (k : ℕ) (args : List ℤ) (kind : Kind) → k < length x.kinds → kind ≡ get_or x.kinds k kind
-    → script_of_kind k kind args ≡ begun_script x k args
+    → script_of_kind x k kind args ≡ begun_script x k args
 begun x k args kind lt is = rw (read_classes x.kinds k kind lt, read_first x.kinds k kind lt, ← is) refl

@@ -2,6 +2,7 @@
 use Rattle.std.specs.Prelude.{◌≡◌, ℕ, ◌-◌, ◌<◌, ◌≤◌, ℤ, pos, List, [], ◌∷◌, ◌++◌, length, replicate, slice_index_or, if◌then◌else◌}
 use Rattle.std.specs.Prelude.{Option, Some, None, Result, Ok, Err}
 use Rattle.std.specs.Int.{bit_at}
+use Rattle.sim_types.specs.Scenarios.{ScenarioOf}
 use Rattle.sim_types.specs.declared.op.Op.{Op}
 use Rattle.sim_types.specs.declared.setup.Class.{Class}
 use Rattle.sim_types.specs.declared.setup.Class.TheVariants as class
@@ -21,6 +22,11 @@ frame_of (frame.InTry catch) = scripts.InTry catch
 frame_of (frame.InLoop past) = scripts.InLoop past
 frame_of (frame.InRepeat past count) = scripts.InRepeat count past
 
+-- the blocks that a script stands in, the innermost first, and how many find room
+pub record FramesOf : Type 0 where
+  pub blocks : List scripts.Frame
+  pub room : ℕ
+
 abbrev pub mode_of : Mode → scripts.Mode
 mode_of mode.Running = scripts.Running
 mode_of (mode.Throwing thrown) = scripts.Throwing thrown
@@ -38,9 +44,10 @@ asked_of (Some asked) = Some asked.value
 
 -- a script of a kind as it begins, before it is told its number: its arguments stand behind `val`, and 0 in all other
 -- variables
-abbrev pub script_of_kind : ℕ → Kind → List ℤ → scripts.Script
-script_of_kind kind declared args =
+abbrev pub script_of_kind : ScenarioOf → ℕ → Kind → List ℤ → scripts.Script
+script_of_kind x kind declared args =
     record {
+      scenario = x;
       me = record { 0 = 0 };
       kind = kind;
       classes = declared.classes;
@@ -55,3 +62,7 @@ script_of_kind kind declared args =
 pub record MarksNumbers (n bits : ℕ) (classes : List Class) : Type 0 where
   pub marked : (i : ℕ) → i < n → bit_at bits i ≡ (if is_class (slice_index_or classes i class.Number) class.Number then 1 else 0)
   pub rest : (i : ℕ) → n ≤ i → bit_at bits i ≡ 0
+
+-- the 64 variables, of which those up to this one are kept; 0 stands in all others
+abbrev pub variables_with : ℕ → List ℤ → List ℤ
+variables_with last kept = kept ++ replicate (63 - last) (pos 0)

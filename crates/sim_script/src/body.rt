@@ -18,17 +18,29 @@ impl LawfulBody for Script {
 }
 
 impl Body for Script {
-    ghost use Rattle.sim_script_law.specs.ScriptMembers.{script_holds};
+    ghost use Rattle.sim_script_law.specs.ScriptMembers.{script_holds, script_is_for, script_told_place};
     ghost use Rattle.sim_script_law.proofs.ScriptLaw.{script_has_places, script_has_few_places};
+    ghost use Rattle.sim_script_law.proofs.GivenPlaces.{script_gives_within, script_holds_as_many, script_keeps_others};
 
     ghost events_held = { script_holds };
+
+    ghost told_place = { script_told_place };
 
     ghost places = { script_has_places };
 
     ghost few_places = { script_has_few_places };
 
-    fn blank(alloc: Global, _code: &Scenario) -> Result<Script, AllocError> {
-        Script::new(alloc)
+    ghost told_place_within = { λ x b e at can is. script_gives_within x b e can.sound can.told at is };
+
+    ghost other_places_stay = { λ x b time e asked d can turned. record {
+      length = script_holds_as_many x b e can.sound can.told time asked d turned;
+      each = script_keeps_others x b e can.sound can.told time asked d turned;
+    } };
+
+    ghost is_for = { script_is_for };
+
+    fn blank(alloc: Global, code: &Scenario) -> Result<Script, AllocError> {
+        Script::new(alloc, code)
     }
 
     fn fill(&mut self, code: &Scenario, kind: u32, args: Args) {
@@ -45,5 +57,9 @@ impl Body for Script {
 
     fn place(&self, at: u8) -> EventId {
         self.held(at)
+    }
+
+    fn place_told(&self, code: &Scenario) -> Option<u8> {
+        self.given(code.code())
     }
 }

@@ -1,16 +1,18 @@
 //! The state of a script.
-ghost use Rattle.std.specs.Prelude.{◌≡◌, ◌+◌, ◌-◌, ◌^◌, ◌<◌, ◌≤◌, pos, [], ◌∷◌, ◌++◌, length, replicate, slice_index_or, vec_len, IsFalse, IsTrue, MatchOption};
+ghost use Rattle.std.specs.Prelude.{◌≡◌, ◌+◌, ◌-◌, ◌^◌, ◌<◌, ◌≤◌, pos, [], ◌∷◌, ◌++◌, length, replicate, slice_index_or, vec_len, IfOk, IsFalse, IsTrue, MatchOption};
 ghost use Rattle.sim_types.specs.Throws.{error};
 ghost use Rattle.sim_types.specs.declared.op.Op.TheVariants as op;
-ghost use Rattle.sim_script_model.specs.Scripts.{Throwing, set_variable, set_place, set_mode, tail_of, push_frame, pop_frame, stmt_at, value_of_num, value_of_arg, event_in, event_of_ref, process_of_ref};
+ghost use Rattle.sim_script_model.specs.Scripts.{Throwing, variable, set_variable, set_place, set_mode, tail_of, push_frame, pop_frame, stmt_at, value_of_num, value_of_arg, event_in, event_of_ref, process_of_ref};
+ghost use Rattle.sim_script_model.specs.Needs.{last_variable, most_frames};
 ghost use Rattle.sim_script_model.specs.Polls.{store, given_by, last_stmt, open_with, catch_by, leave_try, leave_loop, end_by_mode, do_stmt, take_in, unwind, ask_in_mode, script_turn};
-ghost use Rattle.sim_script_law.specs.Ready.{is_variable, has_variable, refers_within, argument_within, event_is_small, variables_within, has_room, scope_finds_room, can_take, can_do, can_leave, can_ask};
+ghost use Rattle.sim_script_law.specs.Ready.{event_is_small, keeps_given, has_room, scope_finds_room, can_take, can_do, can_leave, can_ask};
 ghost use Rattle.sim_script_law.specs.ScriptMembers.{script_holds};
 ghost use Rattle.sim_script.specs.Kept.{frame_of, mode_of, script_of_kind, MarksNumbers};
 
 use crate::frames::{Frame, Frames};
 use crate::mode::Mode;
 use sim_memo::Memo;
+use sim_scenario::Scenario;
 use sim_types::{
     Class, Classes, ERROR, EventId, Kind, Num, Op, ProcId, Ref, Signal, SpawnArg, Stmt, Throw,
 };
@@ -20,10 +22,13 @@ use std::marker::Model;
 /// A process that does the statements of its kind.
 #[derive(Drop)]
 pub struct Script {
+    /// The scenario that its kind and its statements stand in, which contracts alone see.
+    scenario: Memo<Scenario>,
     /// The statement that comes next.
     place: usize,
     mode: Mode,
-    /// 64 of them: `val`, then the parameters, then the others. An event is held by its number.
+    /// `val`, then the parameters, then the others, up to the last that is given a value. The others of the 64 are 0. An
+    /// event is held by its number.
     variables: Vec<i64>,
     frames: Frames,
     /// Which variables are numbers, by their bits.
@@ -37,35 +42,43 @@ pub struct Script {
 }
 
 impl Model for Script {
-    ghost use Rattle.std.specs.Prelude.{◌≡◌, ◌<◌, ◌^◌, vec_len};
+    ghost use Rattle.std.specs.Prelude.{◌≡◌, ◌+◌, ◌<◌, ◌^◌, vec_len};
     ghost use Rattle.sim_script_model.specs.Scripts.{Script};
-    ghost use Rattle.sim_script.specs.Kept.{mode_of, asked_of, MarksNumbers};
+    ghost use Rattle.sim_script_model.specs.Needs.{last_variable, most_frames};
+    ghost use Rattle.sim_script.specs.Kept.{mode_of, asked_of, variables_with, MarksNumbers};
 
     ghost Value = { Script };
 
     ghost view = { λ a. record {
+      scenario = a.scenario.value;
       me = a.me;
       kind = a.kind;
       classes = a.classes.value;
       place = a.place;
-      variables = a.variables.items;
-      frames = a.frames;
+      variables = variables_with (last_variable a.scenario.value) a.variables.items;
+      frames = a.frames.blocks;
       mode = mode_of a.mode;
       asked = asked_of a.asked;
     } };
 
-    ghost invariant = { λ a. (a.me.0 < 2 ^ 63) × (vec_len a.variables ≡ 64)
+    ghost invariant = { λ a. (a.me.0 < 2 ^ 63)
+        × (vec_len a.variables ≡ last_variable a.scenario.value + 1)
+        × (a.frames.room ≡ most_frames a.scenario.value.code)
         × MarksNumbers 64 a.numbers a.classes.value };
 }
 
 impl Script {
-    /// A script of no process kind. All memory that it will need is taken here.
-    pub(crate) fn new(alloc: Global) -> Result<Script, AllocError> {
+    /// A script of a scenario that is of no process kind. All memory that it will need is taken here.
+    pub(crate) fn new(alloc: Global, scenario: &Scenario) -> Result<Script, AllocError>
+        ensures { IfOk result (λ script. script.scenario ≡ scenario.now) }
+    {
+        let variables = scenario.last_variable() + 1;
         Ok(Script {
+            scenario: Memo::of(scenario),
             place: 0,
             mode: Mode::Running,
-            variables: Vec::from_slice(alloc, &[0; 64])?,
-            frames: Frames::new(alloc)?,
+            variables: Vec::from_slice(alloc, &[0; 64][..variables])?,
+            frames: Frames::new(alloc, scenario.most_frames())?,
             numbers: u64::MAX,
             me: ProcId(0),
             kind: 0,
@@ -76,8 +89,8 @@ impl Script {
 
     /// Stands at the begin of a process of a kind, which has not been told its number.
     pub(crate) fn begin(&mut self, kind: u32, declared: &Kind, args: &[i64])
-        requires { length args.now ≤ 63 }
-        ensures { self.new ≡ script_of_kind kind declared.now args.now }
+        requires { length args.now ≤ last_variable self.old.scenario }
+        ensures { self.new ≡ script_of_kind self.old.scenario kind declared.now args.now }
     {
         self.place = declared.first as usize;
         self.mode = Mode::Running;
@@ -112,27 +125,31 @@ impl Script {
 
     /// What a number of a statement stands for.
     pub(crate) fn number(&self, number: Num, time: i64) -> i64
-        requires { IsTrue (has_variable number) }
         ensures { result ≡ value_of_num time self.now number }
     {
         match number {
             Num::Lit(value) => value,
-            Num::Var(at) => self.variables[usize::from(at)],
+            Num::Var(at) => self.variable(at),
             Num::Now => time,
         }
     }
 
+    // What a variable holds: 0 where it is given no value.
+    fn variable(&self, at: u8) -> i64
+        ensures { result ≡ variable self.now at }
+    {
+        self.variables.get(usize::from(at)).copied().unwrap_or(0)
+    }
+
     /// The event that a variable holds.
     pub(crate) fn event_in(&self, at: u8) -> EventId
-        requires { IsTrue (is_variable at) }
         ensures { result ≡ event_in self.now at }
     {
-        EventId(self.variables[usize::from(at)].unsigned_abs())
+        EventId(self.variable(at).unsigned_abs())
     }
 
     /// The event that a statement names.
     pub(crate) fn event(&self, named: Ref) -> EventId
-        requires { IsTrue (refers_within named) }
         ensures { result ≡ event_of_ref self.now named }
     {
         match named {
@@ -144,7 +161,6 @@ impl Script {
 
     /// The process that a statement names.
     pub(crate) fn process(&self, named: Ref) -> ProcId
-        requires { IsTrue (refers_within named) }
         ensures { result ≡ process_of_ref self.now named }
     {
         ProcId(self.event(named).0)
@@ -152,13 +168,12 @@ impl Script {
 
     /// What a process is given.
     pub(crate) fn argument(&self, given: SpawnArg, time: i64) -> i64
-        requires within { IsTrue (argument_within given) }
-        requires small { IsTrue (event_is_small self.now given) }
+        requires { IsTrue (event_is_small self.now given) }
         ensures { result ≡ value_of_arg time self.now given }
     {
         match given {
             SpawnArg::Num(number) => self.number(number, time),
-            SpawnArg::Ref(Ref::Var(at)) => self.variables[usize::from(at)],
+            SpawnArg::Ref(Ref::Var(at)) => self.variable(at),
             SpawnArg::Ref(Ref::Named(number)) => number as i64,
             SpawnArg::Ref(Ref::Me) => self.me.0 as i64,
         }
@@ -166,15 +181,16 @@ impl Script {
 
     /// The innermost block that it stands in.
     pub(crate) fn innermost(&self) -> Option<Frame>
-        ensures { MatchOption result (self.now.frames ≡ [])
+        ensures innermost { MatchOption result (self.now.frames ≡ [])
             (λ frame. self.now.frames ≡ frame_of frame ∷ tail_of self.now.frames) }
+        ensures few { length self.now.frames ≤ most_frames self.now.scenario.code }
     {
         self.frames.innermost()
     }
 
     /// Gives a variable a value.
     pub(crate) fn set_variable(&mut self, at: u8, value: i64)
-        requires { IsTrue (is_variable at) }
+        requires { at ≤ last_variable self.old.scenario }
         ensures { self.new ≡ set_variable at value self.old }
     {
         self.variables[usize::from(at)] = value;
@@ -207,7 +223,7 @@ impl Script {
 
     /// Enters a block.
     pub(crate) fn enter(&mut self, frame: Frame)
-        requires { IsTrue (has_room self.old.frames) }
+        requires { IsTrue (has_room self.old) }
         ensures { self.new ≡ push_frame (frame_of frame) self.old }
     {
         self.frames.push(frame);
@@ -215,10 +231,19 @@ impl Script {
 
     /// Leaves its innermost block.
     pub(crate) fn leave(&mut self)
-        ensures rest { self.new ≡ pop_frame self.old }
-        ensures room { IsTrue (has_room self.new.frames) }
+        ensures { self.new ≡ pop_frame self.old }
     {
         self.frames.pop();
+    }
+
+    /// The variable that the last statement gives to what it makes, counts or draws, where there is one.
+    pub(crate) fn given(&self, code: &[Stmt]) -> Option<u8>
+        ensures { result ≡ given_by (last_stmt code.now self.now) }
+    {
+        match code.get(self.place.saturating_sub(1)) {
+            Some(last) => given_by(last),
+            None => None,
+        }
     }
 
     /// Is polled: takes in what it is told, and asks for an operation.
@@ -258,19 +283,17 @@ impl Script {
 
     // The number goes into the variable that the last statement gives it, where there is one.
     fn store(&mut self, code: &[Stmt], value: i64)
-        requires { IsTrue (variables_within (last_stmt code.now self.old)) }
+        requires { IsTrue (keeps_given self.old (last_stmt code.now self.old)) }
         ensures { self.new ≡ store (given_by (last_stmt code.now self.old)) value self.old }
     {
-        if let Some(last) = code.get(self.place.saturating_sub(1)) {
-            if let Some(to) = given_by(last) {
-                self.set_variable(to, value);
-            }
+        if let Some(to) = self.given(code) {
+            self.set_variable(to, value);
         }
     }
 
     // Where the last statement was a `with`, its scope is open now.
     fn open_scope(&mut self, code: &[Stmt], request: EventId)
-        requires { IsTrue (scope_finds_room self.old.frames (last_stmt code.now self.old)) }
+        requires { IsTrue (scope_finds_room self.old (last_stmt code.now self.old)) }
         ensures { self.new ≡ open_with (last_stmt code.now self.old) request self.old }
     {
         if let Some(Stmt::With { .. }) = code.get(self.place.saturating_sub(1)) {
@@ -322,7 +345,7 @@ impl Script {
 
     // Leaves the innermost block, for the reason that the mode tells, or ends.
     fn unwind(&mut self, code: &[Stmt]) -> Op
-        requires { IsTrue (can_leave code.now self.old.frames) }
+        requires { IsTrue (can_leave code.now self.old self.old.frames) }
         ensures { (result, self.new) ≡ unwind code.now self.old self.old.frames }
     {
         match self.innermost() {
@@ -346,7 +369,7 @@ impl Script {
 
     // What is thrown is caught by the line of this try, and it goes on behind.
     fn leave_try(&mut self, code: &[Stmt], catch: u32)
-        requires { IsTrue (variables_within (stmt_at code.now catch)) }
+        requires { IsTrue (keeps_given self.old (stmt_at code.now catch)) }
         ensures { self.new ≡ leave_try code.now catch self.old.mode self.old }
     {
         if let Mode::Throwing(thrown) = self.mode {
@@ -358,7 +381,7 @@ impl Script {
 
     // The variables of the catch line get what was thrown.
     fn catch(&mut self, code: &[Stmt], at: u32, thrown: Throw)
-        requires { IsTrue (variables_within (stmt_at code.now at)) }
+        requires { IsTrue (keeps_given self.old (stmt_at code.now at)) }
         ensures { self.new ≡ catch_by (stmt_at code.now at) thrown self.old }
     {
         if let Some(Stmt::Catch { kind, value, .. }) = code.get(at as usize) {
@@ -409,9 +432,9 @@ fn given_by(statement: &Stmt) -> Option<u8>
 
 /// The variables of a process that begins: `val`, its arguments, and 0 in all others.
 fn begin_variables(variables: &mut Vec<i64>, args: &[i64])
-    requires long { vec_len variables.old ≡ 64 }
-    requires few { length args.now ≤ 63 }
-    ensures { variables.new.items ≡ pos 0 ∷ args.now ++ replicate (63 - length args.now) (pos 0) }
+    requires { length args.now + 1 ≤ vec_len variables.old }
+    ensures { variables.new.items ≡ pos 0 ∷ args.now
+        ++ replicate (vec_len variables.old - 1 - length args.now) (pos 0) }
 {
     variables.fill(0);
     for (at, value) in args.iter().enumerate() {

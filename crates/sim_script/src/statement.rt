@@ -1,10 +1,11 @@
 //! How a script does a statement.
-ghost use Rattle.std.specs.Prelude.{◌≡◌, IsFalse, IsTrue, map};
+ghost use Rattle.std.specs.Prelude.{◌≡◌, ◌≤◌, IsFalse, IsTrue, map};
 ghost use Rattle.std.specs.List.{list_all};
 ghost use Rattle.sim_types.specs.declared.op.Op.TheVariants as op;
 ghost use Rattle.sim_script_model.specs.Scripts.{event_of_ref, value_of_arg};
 ghost use Rattle.sim_script_model.specs.Polls.{answer_to, do_stmt, end_repeat};
-ghost use Rattle.sim_script_law.specs.Ready.{is_variable, refers_within, argument_within, event_is_small, events_are_small, enters_room, variables_within};
+ghost use Rattle.sim_script_model.specs.Needs.{last_variable};
+ghost use Rattle.sim_script_law.specs.Ready.{event_is_small, events_are_small, enters_room, keeps_given};
 ghost use Rattle.sim_script.specs.Kept.{answer_of};
 ghost use Rattle.sim_script.specs.StatementGroups.{is_of_changes, is_of_blocks, is_of_events, is_of_processes, is_of_resources, is_of_operations, asks_for_something};
 
@@ -17,9 +18,9 @@ use sim_types::{Args, FAILURE, Members, Op, Refs, SpawnArgs, Stmt, Throw};
 impl Script {
     /// Does a statement. The script stands behind it already.
     pub(crate) fn do_statement(&mut self, statement: &Stmt, time: i64) -> Op
-        requires variables { IsTrue (variables_within statement.now) }
+        requires variables { IsTrue (keeps_given self.old statement.now) }
         requires small { IsTrue (events_are_small self.old statement.now) }
-        requires room { IsTrue (enters_room self.old.frames statement.now) }
+        requires room { IsTrue (enters_room self.old statement.now) }
         ensures { (result, self.new) ≡ do_stmt time self.old statement.now }
     {
         if self.do_quietly(statement, time) {
@@ -36,8 +37,8 @@ impl Script {
 
     /// Does a statement that asks for nothing. The answer is whether it is one: else nothing changes.
     pub(crate) fn do_quietly(&mut self, statement: &Stmt, time: i64) -> bool
-        requires variables { IsTrue (variables_within statement.now) }
-        requires room { IsTrue (enters_room self.old.frames statement.now) }
+        requires variables { IsTrue (keeps_given self.old statement.now) }
+        requires room { IsTrue (enters_room self.old statement.now) }
         ensures done { IsTrue result → (op.Nop, self.new) ≡ do_stmt time self.old statement.now }
         ensures kept { IsFalse result → self.new ≡ self.old }
         ensures asks { IsFalse result → IsTrue (asks_for_something statement.now) }
@@ -69,7 +70,6 @@ impl Script {
     // The statements that ask for an operation and change nothing themselves.
     fn operation(&self, statement: &Stmt, time: i64) -> Op
         requires group { IsTrue (is_of_operations statement.now) }
-        requires variables { IsTrue (variables_within statement.now) }
         requires small { IsTrue (events_are_small self.now statement.now) }
         ensures { (result, self.now) ≡ do_stmt time self.now statement.now }
     {
@@ -94,7 +94,7 @@ impl Script {
     // The statements that change a variable, the mode or the place.
     fn change(&mut self, statement: &Stmt, time: i64)
         requires group { IsTrue (is_of_changes statement.now) }
-        requires variables { IsTrue (variables_within statement.now) }
+        requires variables { IsTrue (keeps_given self.old statement.now) }
         ensures { (op.Nop, self.new) ≡ do_stmt time self.old statement.now }
     {
         match statement {
@@ -126,7 +126,7 @@ impl Script {
 
     // A variable gets the number, or the error is thrown.
     fn answer(&mut self, to: u8, answer: Result<i64, u8>)
-        requires { IsTrue (is_variable to) }
+        requires { to ≤ last_variable self.old.scenario }
         ensures { self.new ≡ answer_to to (answer_of answer) self.old }
     {
         match answer {
@@ -138,8 +138,7 @@ impl Script {
     // The statements that enter a block, or come to its end.
     fn change_blocks(&mut self, statement: &Stmt, time: i64)
         requires group { IsTrue (is_of_blocks statement.now) }
-        requires variables { IsTrue (variables_within statement.now) }
-        requires room { IsTrue (enters_room self.old.frames statement.now) }
+        requires room { IsTrue (enters_room self.old statement.now) }
         ensures { (op.Nop, self.new) ≡ do_stmt time self.old statement.now }
     {
         match statement {
@@ -179,7 +178,6 @@ impl Script {
     // The statements that ask something of an event or a condition.
     fn of_events(&self, statement: &Stmt, time: i64) -> Op
         requires group { IsTrue (is_of_events statement.now) }
-        requires variables { IsTrue (variables_within statement.now) }
         ensures { (result, self.now) ≡ do_stmt time self.now statement.now }
     {
         match statement {
@@ -202,7 +200,6 @@ impl Script {
 
     // The members of a condition.
     fn members(&self, of: &Refs) -> Members
-        requires { IsTrue (list_all refers_within of.now) }
         ensures { result ≡ map (event_of_ref self.now) of.now }
     {
         let mut members = Members::new();
@@ -215,7 +212,6 @@ impl Script {
     // The statements that ask something of the process itself or of another.
     fn of_processes(&self, statement: &Stmt, time: i64) -> Op
         requires group { IsTrue (is_of_processes statement.now) }
-        requires variables { IsTrue (variables_within statement.now) }
         requires small { IsTrue (events_are_small self.now statement.now) }
         ensures { (result, self.now) ≡ do_stmt time self.now statement.now }
     {
@@ -237,8 +233,7 @@ impl Script {
 
     // What a process that is spawned is given.
     fn arguments(&self, given: &SpawnArgs, time: i64) -> Args
-        requires within { IsTrue (list_all argument_within given.now) }
-        requires small { IsTrue (list_all (event_is_small self.now) given.now) }
+        requires { IsTrue (list_all (event_is_small self.now) given.now) }
         ensures { result ≡ map (value_of_arg time self.now) given.now }
     {
         let mut args = Args::new();
@@ -251,7 +246,6 @@ impl Script {
     // The statements that ask something of a resource.
     fn of_resources(&self, statement: &Stmt, time: i64) -> Op
         requires group { IsTrue (is_of_resources statement.now) }
-        requires variables { IsTrue (variables_within statement.now) }
         ensures { (result, self.now) ≡ do_stmt time self.now statement.now }
     {
         match statement {

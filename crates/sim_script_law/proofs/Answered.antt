@@ -34,7 +34,7 @@ is_given kind v c h =
     record { behind_val = leb-true 1 v range.0; within = ltb-true v 64 range.1; class_is = same_class-is c (class_of kind v) parts.1 }
 
 -- the class of what a statement makes, counts or draws
-abbrev class_given : Stmt → Class
+abbrev pub class_given : Stmt → Class
 class_given (stmt.Timer to delay value) = class.Event
 class_given (stmt.Fresh to) = class.Event
 class_given (stmt.All to of) = class.Cond
@@ -57,7 +57,7 @@ gives_own kind v to c is h = let same : v ≡ to = same_Some v to is in rw (sym 
 gives_named : (kind : Kind) (o : Option ℕ) (to : ℕ) (c : Class) → o ≡ Some to → gives_maybe kind o c ≡ true → gives kind to c ≡ true
 gives_named kind o to c is h = rw is at h
 
-given_fits : (x : ScenarioOf) (kind : Kind) (s : Stmt) (to : ℕ) → given_by s ≡ Some to → statement_fits x kind s ≡ true → gives kind to (class_given s) ≡ true
+pub given_fits : (x : ScenarioOf) (kind : Kind) (s : Stmt) (to : ℕ) → given_by s ≡ Some to → statement_fits x kind s ≡ true → gives kind to (class_given s) ≡ true
 given_fits x kind (stmt.Count v res) to is h = gives_own kind v to class.Number is (first (gives kind v class.Number) _ h)
 given_fits x kind (stmt.Timer v delay value) to is h = gives_own kind v to class.Event is (first (gives kind v class.Event) _ (first _ _ h))
 given_fits x kind (stmt.Fresh v) to is h = gives_own kind v to class.Event is h

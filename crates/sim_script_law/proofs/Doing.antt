@@ -71,6 +71,7 @@ module _ (x : ScenarioOf) (kind : Kind) (opens : List Open) (t : Script) (time :
         may = allowed;
         own = refl;
         kind_same = refl;
+        scenario = refl;
         classes = refl;
         places = stored.places;
         variables = stored.starts h.variables;
@@ -107,6 +108,7 @@ module _ (x : ScenarioOf) (kind : Kind) (opens : List Open) (t : Script) (time :
         may = allowed;
         own = refl;
         kind_same = refl;
+        scenario = refl;
         classes = refl;
         places = refl;
         variables = h.variables;
@@ -284,6 +286,7 @@ module _ (x : ScenarioOf) (kind : Kind) (opens : List Open) (t : Script) (time :
         may = may (stmt.With to res priority preempts) st.fits allowed;
         own = refl;
         kind_same = refl;
+        scenario = refl;
         classes = refl;
         places = refl;
         variables = h.variables;

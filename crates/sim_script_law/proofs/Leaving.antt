@@ -69,6 +69,7 @@ module _ (x : ScenarioOf) (kind : Kind) (t : Script) (classes : t.classes ≡ ki
         may = refl;
         own = refl;
         kind_same = refl;
+        scenario = refl;
         classes = refl;
         places = refl;
         variables = starts;
@@ -92,6 +93,7 @@ module _ (x : ScenarioOf) (kind : Kind) (t : Script) (classes : t.classes ≡ ki
         may = refl;
         own = refl;
         kind_same = refl;
+        scenario = refl;
         classes = refl;
         places = stored.places;
         variables = stored.starts starts;
@@ -114,6 +116,7 @@ module _ (x : ScenarioOf) (kind : Kind) (t : Script) (classes : t.classes ≡ ki
         may = rw at (some_scope e (requests_in fs));
         own = refl;
         kind_same = refl;
+        scenario = refl;
         classes = refl;
         places = refl;
         variables = starts;
@@ -137,6 +140,7 @@ module _ (x : ScenarioOf) (kind : Kind) (t : Script) (classes : t.classes ≡ ki
         may = may;
         own = refl;
         kind_same = refl;
+        scenario = refl;
         classes = refl;
         places = refl;
         variables = starts;

@@ -5,11 +5,13 @@ pub mod Variables
 pub mod Answered
 pub mod Asking
 pub mod WithinVariables
+pub mod Needs
 pub mod Frames
 pub mod Standing
 pub mod Leaving
 pub mod Doing
 pub mod Taking
 pub mod ScriptLaw
+pub mod GivenPlaces
 pub mod SetupFits
 pub mod Readiness

@@ -69,6 +69,7 @@ module _ (x : ScenarioOf) (b t : Script) (told : Signal) (h : IsSoundScript x b)
   stays_sound : IsSoundScript x (record d { asked = Some asked })
   stays_sound =
       record {
+        scenario = a.scenario ∙ taken.scenario ∙ h.scenario;
         well_formed = h.well_formed;
         kind = h.kind;
         kind_is = rw (a.kind_same, taken.kind_same) h.kind_is;

@@ -41,6 +41,7 @@ pub record Asks (x : ScenarioOf) (kind : Kind) (t : Script) (asked : Op) (d : Sc
   pub may : may_ask (facts_of x) t.me (places_of t.classes t.variables) (scopes_of t) asked ≡ true
   pub own : d.me ≡ t.me
   pub kind_same : d.kind ≡ t.kind
+  pub scenario : d.scenario ≡ t.scenario
   pub classes : d.classes ≡ t.classes
   pub places : places_of t.classes d.variables ≡ places_of t.classes t.variables
   pub variables : may_start t.classes d.variables ≡ true

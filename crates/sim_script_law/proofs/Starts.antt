@@ -4,7 +4,8 @@ use Rattle.std.specs.Prelude.{IsTrue, ◌&&◌, ◌||◌, not, ◌==◌, nat_lt,
 use Rattle.std.specs.List.{list_all}
 use Rattle.std.proofs.lemmas.Bool.{false≢true, and_parts, and_from, or_cases, or_left, or_right, cond-true, eq-eqb, ltb-true}
 use Rattle.std.proofs.lemmas.List.{length-map, length-take, length-drop}
-use Rattle.std.proofs.lemmas.Option.{none-some}
+use Rattle.std.proofs.Math.Nat.{le-max_left, le-max_right, le-min}
+use Rattle.std.proofs.lemmas.Option.{none-some, same_Some}
 use Rattle.sim_types.specs.Scenarios.{ScenarioOf, facts_of}
 use Rattle.sim_types.specs.declared.event.ProcId.{ProcId}
 use Rattle.sim_types.specs.declared.setup.Class.{Class}
@@ -15,6 +16,7 @@ use Rattle.sim_machine.specs.MayAsk.{is_zero}
 use Rattle.sim_machine.specs.BodyLaw.{IsLawfulStart, holds_argument, may_start, may_begin}
 use Rattle.sim_language.specs.WellFormed.{is_well_formed}
 use Rattle.sim_script_model.specs.Scripts.{script_telling, classes_at, first_place, places_of}
+use Rattle.sim_script_model.specs.Needs.{last_given_in, last_variable, most_params}
 use Rattle.sim_script_law.specs.Walks.{Walks}
 use Rattle.sim_machine.specs.Bodies.{start_of}
 use Rattle.sim_script_law.specs.ScriptMembers.{script_body, script_facts}
@@ -83,9 +85,21 @@ as_many (c ∷ cs) (negsuc n ∷ vs) h = ap suc (as_many cs vs (and_parts (is_cl
 few_where : (x : ScenarioOf) (k : ℕ) (args : List ℤ) → MayBegin x k args → length args ≤ 63
 few_where x k args may = omega (arith, as_many _ args may.starts, length-take may.kind.params (drop 1 may.kind.classes), length-drop 1 may.kind.classes, may.begins.long)
 
--- its arguments fit into its variables behind `val`
-pub few_arguments : (x : ScenarioOf) (k : ℕ) (args : List ℤ) → IsTrue (may_begin (script_facts x) k args) → length args ≤ 63
-few_arguments x k args h = few_where x k args (may_begin_with x k args h)
+-- no kind has more parameters than the one with the most
+params_few : (kinds : List Kind) (k : ℕ) (kind : Kind) → slice_get kinds k ≡ Some kind → kind.params ≤ most_params kinds
+params_few [] k kind is = absurd (none-some kind is)
+params_few (m ∷ kinds) zero kind is = let same : m ≡ kind = same_Some m kind is in rw (← same) (le-max_left m.params (most_params kinds))
+params_few (m ∷ kinds) (suc k) kind is = omega (arith, params_few kinds k kind is, le-max_right m.params (most_params kinds))
+
+few_of_kind : (x : ScenarioOf) (k : ℕ) (args : List ℤ) → MayBegin x k args → length args ≤ last_variable x
+few_of_kind x k args may =
+    let fewer : length args ≤ may.kind.params = omega (arith, as_many _ args may.starts, length-take may.kind.params (drop 1 may.kind.classes)) in
+    let most = params_few x.kinds k may.kind may.at.is in
+    le-min (few_where x k args may) (omega (arith, fewer, most, le-max_left (most_params x.kinds) (last_given_in x.code)))
+
+-- its arguments fit into the variables that it keeps behind `val`
+pub few_arguments : (x : ScenarioOf) (k : ℕ) (args : List ℤ) → IsTrue (may_begin (script_facts x) k args) → length args ≤ last_variable x
+few_arguments x k args h = few_of_kind x k args (may_begin_with x k args h)
 
 -- ---- its variables
 
@@ -115,6 +129,7 @@ sound_where x k args id may =
     let classes = may.at.classes in
     let few = few_where x k args may in
     record {
+      scenario = refl;
       well_formed = may.well_formed;
       kind = may.kind;
       kind_is = may.at.is;

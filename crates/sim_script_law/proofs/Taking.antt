@@ -32,6 +32,7 @@ use Rattle.sim_script_law.proofs.Standing.{scopes_of, Stands, Numbers, number_st
 pub record Takes (x : ScenarioOf) (kind : Kind) (b : Script) (told : Signal) (t : Script) : Type 0 where
   pub own : t.me ≡ b.me
   pub kind_same : t.kind ≡ b.kind
+  pub scenario : t.scenario ≡ b.scenario
   pub classes : t.classes ≡ b.classes
   pub kept : places_kept b.asked told (places_of b.classes b.variables) (places_of b.classes t.variables) ≡ true
   pub one : changed_places (places_of b.classes b.variables) (places_of b.classes t.variables) ≤ 1
@@ -105,6 +106,7 @@ module _ (x : ScenarioOf) (b : Script) (h : IsSoundScript x b) where
       record {
         own = refl;
         kind_same = refl;
+        scenario = refl;
         classes = refl;
         kept = kept;
         one = one;
@@ -137,6 +139,7 @@ module _ (x : ScenarioOf) (b : Script) (h : IsSoundScript x b) where
       record {
         own = refl;
         kind_same = refl;
+        scenario = refl;
         classes = refl;
         kept = places_kept-same b.asked told (places_of b.classes b.variables);
         one = rw (changed_places-same (places_of b.classes b.variables)) (omega arith);
@@ -224,6 +227,7 @@ module _ (x : ScenarioOf) (b : Script) (h : IsSoundScript x b) where
           record {
             own = refl;
             kind_same = refl;
+            scenario = refl;
             classes = refl;
             kept = places_kept-made b.asked e b.classes b.variables en.variable made;
             one = changed_places-stored b.classes b.variables en.variable (pos e.0);

@@ -30,12 +30,12 @@ some_stand m (suc n) opens [] h = absurd (false≢true h)
 some_stand m (suc n) opens (s ∷ code) h = omega (arith, some_stand m n opens code h)
 
 -- what stands well from a statement on
-record StandsOn (n : ℕ) (opens : List Open) (s : Stmt) (code : List Stmt) : Type 0 where
-  here : stands_within n opens s ≡ true
-  few : is_end_process s ≡ false → length (open_then n opens s) ≤ 32
-  behind : is_end_process s ≡ false → stand_well (suc n) (open_then n opens s) code ≡ true
+pub record StandsOn (n : ℕ) (opens : List Open) (s : Stmt) (code : List Stmt) : Type 0 where
+  pub here : stands_within n opens s ≡ true
+  pub few : is_end_process s ≡ false → length (open_then n opens s) ≤ 32
+  pub behind : is_end_process s ≡ false → stand_well (suc n) (open_then n opens s) code ≡ true
 
-stands_on : (n : ℕ) (opens : List Open) (s : Stmt) (code : List Stmt) → stand_well n opens (s ∷ code) ≡ true → StandsOn n opens s code
+pub stands_on : (n : ℕ) (opens : List Open) (s : Stmt) (code : List Stmt) → stand_well n opens (s ∷ code) ≡ true → StandsOn n opens s code
 stands_on n opens s [] h =
     let parts = and_parts (stands_within n opens s) (is_end_process s) h in
     record { here = parts.0; few = λ more. absurd (false≢true (sym more ∙ parts.1)); behind = λ more. absurd (false≢true (sym more ∙ parts.1)) }

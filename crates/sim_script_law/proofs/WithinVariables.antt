@@ -1,16 +1,14 @@
--- A statement that fits its process kind names variables of the process alone, and gives small numbers of events.
+-- A statement that fits its process kind gives the 64 variables alone a value, and gives small numbers of events.
 use Rattle.std.proofs.Common.{◌≡◌, ℕ, zero, suc, ◌^◌, ◌≤◌, ℤ, pos, negsuc, true, false, List, [], ◌∷◌, refl, sym, ◌∙◌, arith, Option, Some, None}
 use Rattle.std.specs.Prelude.{◌&&◌, nat_lt, nat_le, int_le, slice_index_or}
 use Rattle.std.specs.List.{list_all}
 use Rattle.std.specs.Cmp.Lexicographic.{pointwise}
-use Rattle.std.proofs.lemmas.Bool.{false≢true, true≢false, and_parts, and_from, leb-true, le-leb, lt-ltb}
+use Rattle.std.proofs.Math.Nat.{max-le}
+use Rattle.std.proofs.lemmas.Bool.{false≢true, true≢false, and_parts, and_from, leb-true, ltb-true, le-leb, lt-ltb}
 use Rattle.sim_types.specs.Scenarios.{ScenarioOf}
 use Rattle.sim_types.specs.declared.setup.Class.{Class}
 use Rattle.sim_types.specs.declared.setup.Class.TheVariants as class
 use Rattle.sim_types.specs.declared.script.Kind.{Kind}
-use Rattle.sim_types.specs.declared.script.Num.{Num}
-use Rattle.sim_types.specs.declared.script.Num.TheVariants as num
-use Rattle.sim_types.specs.declared.script.Ref.{Ref}
 use Rattle.sim_types.specs.declared.script.Ref.TheVariants as ref
 use Rattle.sim_types.specs.declared.script.SpawnArg.{SpawnArg}
 use Rattle.sim_types.specs.declared.script.SpawnArg.TheVariants as spawn
@@ -18,41 +16,13 @@ use Rattle.sim_types.specs.declared.script.Stmt.{Stmt}
 use Rattle.sim_types.specs.declared.script.Stmt.TheVariants as stmt
 use Rattle.sim_machine.specs.Tellings.{is_class}
 use Rattle.sim_machine.specs.BodyLaw.{may_start}
-use Rattle.sim_language.specs.declared.shape.Reference.{Reference}
-use Rattle.sim_language.specs.declared.shape.Reference.TheVariants.{AnyEvent, PlainEvent, Chained, AProcess}
-use Rattle.sim_language.specs.FittingStatements.{classes_at, class_of, gives, gives_maybe, uses, number_fits, event_fits, argument_fits, arguments_fit, members_fit, request_fits, put_fits, get_fits, resource_at, statement_fits}
+use Rattle.sim_language.specs.FittingStatements.{classes_at, class_of, gives, gives_maybe, number_fits, argument_fits, arguments_fit, statement_fits}
 use Rattle.sim_script_model.specs.Scripts.{Script}
-use Rattle.sim_script_law.specs.Ready.{is_variable, may_be_variable, has_variable, refers_within, argument_within, variables_within, event_is_small, events_are_small}
+use Rattle.sim_script_model.specs.Polls.{given_by}
+use Rattle.sim_script_model.specs.Needs.{or_val, last_given}
+use Rattle.sim_script_law.specs.Ready.{event_is_small, events_are_small}
+use Rattle.sim_script_law.proofs.Answered.{class_given, given_fits}
 use Rattle.sim_script_law.proofs.Variables.{same_class-is, class_of-is, may_start-rest}
-
--- ---- variables
-
-given : (kind : Kind) (v : ℕ) (c : Class) → gives kind v c ≡ true → is_variable v ≡ true
-given kind v c h = (and_parts (nat_le 1 v) (nat_lt v 64) (and_parts (nat_le 1 v && nat_lt v 64) _ h).0).1
-
-named : (kind : Kind) (o : Option ℕ) (c : Class) → gives_maybe kind o c ≡ true → may_be_variable o ≡ true
-named kind None c h = refl
-named kind (Some v) c h = given kind v c h
-
-used : (kind : Kind) (v : ℕ) (c : Class) → uses kind v c ≡ true → is_variable v ≡ true
-used kind v c h = (and_parts (nat_lt v 64) _ h).0
-
-number : (kind : Kind) (n : Num) → number_fits kind n ≡ true → has_variable n ≡ true
-number kind (num.Var v) h = used kind v class.Number h
-number kind _ h = refl
-
-reference : (x : ScenarioOf) (kind : Kind) (wanted : Reference) (r : Ref) → event_fits x kind wanted r ≡ true → refers_within r ≡ true
-reference x kind wanted (ref.Var v) h = (and_parts (nat_lt v 64) _ h).0
-reference x kind wanted _ h = refl
-
-references : (x : ScenarioOf) (kind : Kind) (rs : List Ref) → list_all (event_fits x kind AnyEvent) rs ≡ true → list_all refers_within rs ≡ true
-references x kind [] h = refl
-references x kind (r ∷ rs) h =
-    let parts = and_parts (event_fits x kind AnyEvent r) (list_all (event_fits x kind AnyEvent) rs) h in
-    and_from (refers_within r) _ (reference x kind AnyEvent r parts.0) (references x kind rs parts.1)
-
-members : (x : ScenarioOf) (kind : Kind) (rs : List Ref) → members_fit x kind rs ≡ true → list_all refers_within rs ≡ true
-members x kind rs h = references x kind rs (and_parts _ (list_all (event_fits x kind AnyEvent) rs) h).1
 
 -- ---- arguments
 
@@ -65,96 +35,25 @@ parameters x kind k args h = by (classes_at x k) refl
     by None is = absurd (false≢true (rw is at h))
     by (Some cs) is = (cs, rw is at h)
 
-argument : (x : ScenarioOf) (kind : Kind) (c : Class) (a : SpawnArg) → argument_fits x kind c a ≡ true → argument_within a ≡ true
-argument x kind class.Number (spawn.Num n) h = number kind n h
-argument x kind class.Event (spawn.Ref r) h = reference x kind PlainEvent r h
-argument x kind class.Proc (spawn.Ref r) h = reference x kind AProcess r h
-argument x kind _ _ h = absurd (false≢true h)
+-- ---- variables
 
-arguments : (x : ScenarioOf) (kind : Kind) (cs : List Class) (args : List SpawnArg)
-    → pointwise (argument_fits x kind) cs args ≡ true → list_all argument_within args ≡ true
-arguments x kind [] [] h = refl
-arguments x kind [] (a ∷ args) h = absurd (false≢true h)
-arguments x kind (c ∷ cs) [] h = absurd (false≢true h)
-arguments x kind (c ∷ cs) (a ∷ args) h =
-    let parts = and_parts (argument_fits x kind c a) (pointwise (argument_fits x kind) cs args) h in
-    and_from (argument_within a) _ (argument x kind c a parts.0) (arguments x kind cs args parts.1)
+given : (kind : Kind) (v : ℕ) (c : Class) → gives kind v c ≡ true → v ≤ 63
+given kind v c h = omega (arith, ltb-true v 64 (and_parts (nat_le 1 v) (nat_lt v 64) (and_parts (nat_le 1 v && nat_lt v 64) _ h).0).1)
 
-spawned : (x : ScenarioOf) (kind : Kind) (k : ℕ) (args : List SpawnArg) → arguments_fit x kind k args ≡ true → list_all argument_within args ≡ true
-spawned x kind k args h = let fit = parameters x kind k args h in arguments x kind fit.0 args fit.1
+-- the variable that a statement gives what it makes, counts or draws
+given_few : (x : ScenarioOf) (kind : Kind) (s : Stmt) → statement_fits x kind s ≡ true → or_val (given_by s) ≤ 63
+given_few x kind s h = by (given_by s) refl
+  where
+    by : (o : Option ℕ) → given_by s ≡ o → or_val o ≤ 63
+    by None is = omega arith
+    by (Some v) is = given kind v (class_given s) (given_fits x kind s v is h)
 
--- ---- statements
-
-pub fits_within : (x : ScenarioOf) (kind : Kind) (s : Stmt) → statement_fits x kind s ≡ true → variables_within s ≡ true
-fits_within x kind (stmt.Let to op a b) h =
-    let parts = and_parts (gives kind to class.Number && number_fits kind a) (number_fits kind b) h in
-    let front = and_parts (gives kind to class.Number) (number_fits kind a) parts.0 in
-    and_from (is_variable to && has_variable a) _ (and_from (is_variable to) _ (given kind to class.Number front.0) (number kind a front.1)) (number kind b parts.1)
-fits_within x kind (stmt.Count to res) h = given kind to class.Number (and_parts (gives kind to class.Number) _ h).0
-fits_within x kind (stmt.Sleep delay) h = number kind delay h
-fits_within x kind (stmt.Timer to delay value) h =
-    let parts = and_parts (gives kind to class.Event && number_fits kind delay) (number_fits kind value) h in
-    let front = and_parts (gives kind to class.Event) (number_fits kind delay) parts.0 in
-    and_from (is_variable to && has_variable delay) _ (and_from (is_variable to) _ (given kind to class.Event front.0) (number kind delay front.1)) (number kind value parts.1)
-fits_within x kind (stmt.Fresh to) h = given kind to class.Event h
-fits_within x kind (stmt.Wait on) h = reference x kind AnyEvent on h
-fits_within x kind (stmt.Succeed on value) h =
-    let parts = and_parts (event_fits x kind PlainEvent on) (number_fits kind value) h in
-    and_from (refers_within on) _ (reference x kind PlainEvent on parts.0) (number kind value parts.1)
-fits_within x kind (stmt.Fail on value) h =
-    let parts = and_parts (event_fits x kind PlainEvent on) (number_fits kind value) h in
-    and_from (refers_within on) _ (reference x kind PlainEvent on parts.0) (number kind value parts.1)
-fits_within x kind (stmt.All to of) h =
-    let parts = and_parts (gives kind to class.Cond) (members_fit x kind of) h in
-    and_from (is_variable to) _ (given kind to class.Cond parts.0) (members x kind of parts.1)
-fits_within x kind (stmt.Any to of) h =
-    let parts = and_parts (gives kind to class.Cond) (members_fit x kind of) h in
-    and_from (is_variable to) _ (given kind to class.Cond parts.0) (members x kind of parts.1)
-fits_within x kind (stmt.Has to cond on) h =
-    let parts = and_parts (gives kind to class.Number && uses kind cond class.Cond) (event_fits x kind AnyEvent on) h in
-    let front = and_parts (gives kind to class.Number) (uses kind cond class.Cond) parts.0 in
-    and_from (is_variable to && is_variable cond) _ (and_from (is_variable to) _ (given kind to class.Number front.0) (used kind cond class.Cond front.1)) (reference x kind AnyEvent on parts.1)
-fits_within x kind (stmt.Spawn to k args) h =
-    let parts = and_parts (gives_maybe kind to class.Proc) (arguments_fit x kind k args) h in
-    and_from (may_be_variable to) _ (named kind to class.Proc parts.0) (spawned x kind k args parts.1)
-fits_within x kind (stmt.Interrupt who value) h =
-    let parts = and_parts (event_fits x kind AProcess who) (number_fits kind value) h in
-    and_from (refers_within who) _ (reference x kind AProcess who parts.0) (number kind value parts.1)
-fits_within x kind (stmt.Drop who value) h =
-    let parts = and_parts (event_fits x kind AProcess who) (number_fits kind value) h in
-    and_from (refers_within who) _ (reference x kind AProcess who parts.0) (number kind value parts.1)
-fits_within x kind (stmt.Raise code) h = number kind code h
-fits_within x kind (stmt.Finish value) h = number kind value h
-fits_within x kind (stmt.With to res priority preempt) h =
-    let parts = and_parts (gives kind to class.Request && number_fits kind priority) (request_fits priority preempt (resource_at x res)) h in
-    let front = and_parts (gives kind to class.Request) (number_fits kind priority) parts.0 in
-    and_from (is_variable to) _ (given kind to class.Request front.0) (number kind priority front.1)
-fits_within x kind (stmt.Release on) h = used kind on class.Request h
-fits_within x kind (stmt.Put to res a p) h =
-    let parts = and_parts (gives_maybe kind to class.Move && number_fits kind a && number_fits kind p) (put_fits p (resource_at x res)) h in
-    let numbers = and_parts (gives_maybe kind to class.Move && number_fits kind a) (number_fits kind p) parts.0 in
-    let front = and_parts (gives_maybe kind to class.Move) (number_fits kind a) numbers.0 in
-    and_from (may_be_variable to && has_variable a) _ (and_from (may_be_variable to) _ (named kind to class.Move front.0) (number kind a front.1)) (number kind p numbers.1)
-fits_within x kind (stmt.Get to res lo hi) h =
-    let parts = and_parts (gives_maybe kind to class.Move && number_fits kind lo && number_fits kind hi) (get_fits lo hi (resource_at x res)) h in
-    let numbers = and_parts (gives_maybe kind to class.Move && number_fits kind lo) (number_fits kind hi) parts.0 in
-    let front = and_parts (gives_maybe kind to class.Move) (number_fits kind lo) numbers.0 in
-    and_from (may_be_variable to && has_variable lo) _ (and_from (may_be_variable to) _ (named kind to class.Move front.0) (number kind lo front.1)) (number kind hi numbers.1)
-fits_within x kind (stmt.Cancel on) h = used kind on class.Move h
-fits_within x kind (stmt.Repeat times past) h = number kind times h
-fits_within x kind (stmt.If test other) h = number kind test h
-fits_within x kind (stmt.Catch thrown value past) h =
+pub fits_few : (x : ScenarioOf) (kind : Kind) (s : Stmt) → statement_fits x kind s ≡ true → last_given s ≤ 63
+fits_few x kind (stmt.Let to op a b) h = given kind to class.Number (and_parts (gives kind to class.Number) (number_fits kind a) (and_parts (gives kind to class.Number && number_fits kind a) (number_fits kind b) h).0).0
+fits_few x kind (stmt.Catch thrown value past) h =
     let parts = and_parts (gives kind thrown class.Number) (gives kind value class.Number) h in
-    and_from (is_variable thrown) _ (given kind thrown class.Number parts.0) (given kind value class.Number parts.1)
-fits_within x kind (stmt.Log value) h = number kind value h
-fits_within x kind (stmt.Draw to lo hi) h =
-    let parts = and_parts (gives kind to class.Number && number_fits kind lo) (number_fits kind hi) h in
-    let front = and_parts (gives kind to class.Number) (number_fits kind lo) parts.0 in
-    and_from (is_variable to && has_variable lo) _ (and_from (is_variable to) _ (given kind to class.Number front.0) (number kind lo front.1)) (number kind hi parts.1)
-fits_within x kind (stmt.Chain on to) h =
-    let parts = and_parts (event_fits x kind Chained on) (event_fits x kind PlainEvent to) h in
-    and_from (refers_within on) _ (reference x kind Chained on parts.0) (reference x kind PlainEvent to parts.1)
-fits_within x kind _ h = refl
+    max-le (given kind thrown class.Number parts.0) (given kind value class.Number parts.1)
+fits_few x kind s h = given_few x kind s h
 
 -- ---- events
 

@@ -1,5 +1,5 @@
 -- A script as a process body: how it begins, its polls, and what it tells.
-use Rattle.std.specs.Prelude.{◌≡◌, ℕ, ℤ, List, [], map, if◌then◌else◌}
+use Rattle.std.specs.Prelude.{◌≡◌, ℕ, ℤ, List, [], map, Option, if◌then◌else◌}
 use Rattle.sim_types.specs.Scenarios.{ScenarioOf, facts_of}
 use Rattle.sim_types.specs.declared.event.EventId.{EventId}
 use Rattle.sim_types.specs.declared.event.Signal.{Signal}
@@ -8,12 +8,12 @@ use Rattle.sim_machine.specs.Tellings.{CodeFacts}
 use Rattle.sim_machine.specs.Bodies.{BodyOf}
 use Rattle.sim_language.specs.WellFormed.{is_well_formed}
 use Rattle.sim_script_model.specs.Scripts.{Script, script_start, script_telling, places_of}
-use Rattle.sim_script_model.specs.Polls.{script_turn}
+use Rattle.sim_script_model.specs.Polls.{given_by, last_stmt, script_turn}
 use Rattle.sim_script_law.specs.SoundScripts.{IsSoundScript}
 
 -- how it begins, before it is told its number
 abbrev pub begun_script : ScenarioOf → ℕ → List ℤ → Script
-begun_script x k args = script_start x.kinds k args (record { 0 = 0 })
+begun_script x k args = script_start x k args (record { 0 = 0 })
 
 -- a poll is a function of the script
 abbrev pub IsScriptTurn : ScenarioOf → Script → ℤ → Signal → Op → Script → Type 0
@@ -22,6 +22,14 @@ IsScriptTurn x b time told asked later = (asked ≡ (script_turn x.code b time t
 -- the events that its variables hold
 abbrev pub script_holds : Script → List EventId
 script_holds b = map (λ p. p.event) (places_of b.classes b.variables)
+
+-- the variable that gets what the statement that was done last makes
+abbrev pub script_told_place : ScenarioOf → Script → Option ℕ
+script_told_place x b = given_by (last_stmt x.code b)
+
+-- a script that has memory for the statements of a scenario
+abbrev pub script_is_for : ScenarioOf → Script → Type 0
+script_is_for x b = b.scenario ≡ x
 
 -- scripts are made for well-formed scenarios; no process begins in another
 abbrev pub script_facts : ScenarioOf → CodeFacts

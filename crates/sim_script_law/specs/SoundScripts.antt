@@ -91,6 +91,7 @@ begins_with_number (class.Number ∷ classes) = true
 begins_with_number classes = false
 
 pub record IsSoundScript (x : ScenarioOf) (b : Script) : Type 0 where
+  pub scenario : b.scenario ≡ x
   pub well_formed : IsTrue (is_well_formed x)
   pub kind : Kind
   pub kind_is : slice_get x.kinds b.kind ≡ Some kind

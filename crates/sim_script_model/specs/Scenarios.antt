@@ -13,7 +13,7 @@ use Rattle.sim_script_model.specs.Polls.{script_turn}
 
 -- a scenario as a plan, with these random words
 abbrev pub plan_with : ScenarioOf → (ℕ → ℕ) → Plan Script
-plan_with x word = record { setup = x.setup; word = word; start = script_start x.kinds }
+plan_with x word = record { setup = x.setup; word = word; start = script_start x }
 
 -- a run of so many units at most
 abbrev pub run_with : ScenarioOf → (ℕ → ℕ) → List Arrival → ℕ → Course Script

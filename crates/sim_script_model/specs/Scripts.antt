@@ -1,6 +1,7 @@
 -- The state of a script: its variables, its place in the code, the blocks that it stands in, and its mode. Scripts,
 -- which take the place of Python's generators, are this project's own.
 use Rattle.std.specs.Prelude.{ℕ, zero, suc, ◌-◌, ℤ, pos, nat_abs, List, [], ◌∷◌, ◌++◌, length, slice_index_or, slice_set, replicate, reverse, Option, None, if◌then◌else◌}
+use Rattle.sim_types.specs.Scenarios.{ScenarioOf}
 use Rattle.sim_types.specs.declared.event.EventId.{EventId}
 use Rattle.sim_types.specs.declared.event.ProcId.{ProcId}
 use Rattle.sim_types.specs.declared.event.Throw.{Throw}
@@ -35,6 +36,8 @@ pub data Frame : Type 0 where
 
 -- the state of a script
 pub record Script : Type 0 where
+  -- the scenario that its kind and its statements stand in
+  pub scenario : ScenarioOf
   pub me : ProcId
   -- its kind, by its place in the scenario
   pub kind : ℕ
@@ -125,13 +128,14 @@ classes_at (x ∷ xs) zero = x.classes
 classes_at (x ∷ xs) (suc k) = classes_at xs k
 
 -- how a process of a kind begins: with its arguments in the parameters and 0 in all other variables
-abbrev pub script_start : List Kind → ℕ → List ℤ → ProcId → Script
-script_start kinds k args p =
+abbrev pub script_start : ScenarioOf → ℕ → List ℤ → ProcId → Script
+script_start x k args p =
     record {
+      scenario = x;
       me = p;
       kind = k;
-      classes = classes_at kinds k;
-      place = first_place kinds k;
+      classes = classes_at x.kinds k;
+      place = first_place x.kinds k;
       variables = pos 0 ∷ args ++ replicate (63 - length args) (pos 0);
       frames = [];
       mode = Running;

@@ -5,7 +5,8 @@ use Rattle.std.proofs.lemmas.List.{map-append, reverse-append}
 use Rattle.sim_script_model.specs.Scripts.{tail_of}
 use Rattle.sim_script.specs.declared.frames.Frame.{Frame}
 use Rattle.sim_script.specs.declared.frames.Frame.TheVariants as frame
-use Rattle.sim_script.specs.Kept.{frame_of}
+use Rattle.sim_script_model.specs.Scripts as scripts
+use Rattle.sim_script.specs.Kept.{FramesOf, frame_of}
 use Rattle.sim_script.proofs.frames.Frames.pop.Goals as goal
 
 without_last : (xs ys : List Frame) (x : Frame) → xs ≡ ys ++ x ∷ [] → reverse (map frame_of ys) ≡ tail_of (reverse (map frame_of xs))
@@ -22,7 +23,11 @@ popped (x ∷ xs) n e =
     let at : n - 1 ≡ length xs = omega (arith, e) in
     rw at (without_last (x ∷ xs) (take (length xs) (x ∷ xs)) _ (whole (x ∷ xs) (length xs) refl))
 
-pub returns-clause-rest : goal.returns-clause-rest
-returns-clause-rest c =
+same_frames : (bs cs : List scripts.Frame) (m n : ℕ) → bs ≡ cs → m ≡ n
+    → ◌≡◌ {A = FramesOf} (record { blocks = bs; room = m }) (record { blocks = cs; room = n })
+same_frames bs cs m n blocks room = rw (blocks, room) refl
+
+pub returns : goal.returns
+returns c =
     let long : length c.self.inside.values.items ≡ vec_len c.self.inside.values = search rules in
-    rw (← c.self.view_is, c.pop.ensures.rest) (popped c.self.inside.values.items (vec_len c.self.inside.values) long)
+    rw (← c.self.view_is) (same_frames _ _ _ _ (rw c.pop.ensures.rest (popped c.self.inside.values.items (vec_len c.self.inside.values) long)) c.pop.ensures.capacity)

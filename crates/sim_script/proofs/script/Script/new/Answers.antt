@@ -3,4 +3,9 @@ use Rattle.sim_script.proofs.Marks.{all_marked}
 use Rattle.sim_script.proofs.script.Script.new.Goals as goal
 
 pub invariant_of-result : goal.invariant_of-result
-invariant_of-result c = (omega arith, omega (arith, c.in_ok-from_slice.ensures.len), all_marked _ (c.of.ensures ∙ c.new-2.ensures))
+invariant_of-result c = (
+  omega arith,
+  rw c.of.ensures (omega (arith, c.in_ok-from_slice.ensures.len, c.last_variable-variables.ensures)),
+  rw (c.in_ok-new.ensures, c.of.ensures) c.most_frames.ensures,
+  all_marked _ (c.of-2.ensures ∙ c.new-2.ensures),
+)
