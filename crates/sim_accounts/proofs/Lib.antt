@@ -4,6 +4,7 @@ pub mod GivenBack
 pub mod ShownUnheld
 pub mod KeptExactly
 pub mod NumberPlaces
+pub mod ChangedPlaces
 pub mod Trading
 pub mod StateChanges
 pub mod CalendarChanges

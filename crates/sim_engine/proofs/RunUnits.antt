@@ -1,12 +1,14 @@
 -- A unit of a kernel is the next unit of the run of its scenario.
-use Rattle.std.proofs.Common.{◌≡◌, ℕ, ◌+◌, suc, zero, [], ◌++◌, length, drop, refl, sym, ap, ◌∙◌, subst, add-one, Result, Ok, Err, OnOk}
+use Rattle.std.proofs.Common.{◌≡◌, ℕ, ◌+◌, suc, zero, List, [], ◌++◌, length, drop, refl, sym, ap, ◌∙◌, subst, add-one, Result, Ok, Err, OnOk}
 use Rattle.std.proofs.Math.Seq.{drop-append_seam}
 use Rattle.std.specs.Prelude.{IsTrue}
 use Rattle.sim_types.specs.Scenarios.{ScenarioOf}
+use Rattle.sim_types.specs.declared.setup.Arrival.{Arrival}
 use Rattle.sim_language.specs.Built.{is_built_scenario}
 use Rattle.sim_types.specs.declared.event.Signal.{Signal}
 use Rattle.sim_types.specs.declared.event.ProcId.{ProcId}
 use Rattle.sim_machine.specs.State.{Control, Idle, Calling, Active, Over, State, Plan}
+use Rattle.sim_machine.specs.RandomWords.{word_of}
 use Rattle.sim_machine.specs.Steps.{TurnFunction, IsPoll, IsStepAt, IsStep, step_of}
 use Rattle.sim_machine.specs.Units.{Course, unit_of}
 use Rattle.sim_machine.specs.Runs.{after_units, opening, opening_course}
@@ -18,6 +20,7 @@ use Rattle.sim_kernel.specs.Stepping.{MakesStep, StepsFrom}
 use Rattle.sim_steps_model.specs.declared.mode.Unit.{Unit}
 use Rattle.sim_script_model.specs.Scripts.{Script}
 use Rattle.sim_script_model.specs.Polls.{script_turn}
+use Rattle.sim_script_model.specs.Scenarios.{run_with}
 use Rattle.sim_script_law.specs.ScriptMembers.{IsScriptTurn, script_body}
 use Rattle.sim_engine.specs.RunOfScenario.{plan_of_scenario, run_of_scenario}
 use Rattle.sim_engine.specs.StandsForRun.{StandsForRun, lines_after, lines_added}
@@ -66,12 +69,15 @@ step_after : {B : Type 0} (g : Plan B) (turn : TurnFunction B) (n : ℕ)
 step_after g turn n = rw add-one (ap (λ m. m.state) (no_arrival g turn (after_units g turn n (opening_course g [])) (none_left g turn n)))
 
 pub no_arrival_left : (scenario : ScenarioOf) (n : ℕ) → scenario.journal ≡ [] → (run_of_scenario scenario n).left ≡ []
-no_arrival_left scenario n journal = rw journal (none_left (plan_of_scenario scenario) (script_turn scenario.code) n)
+no_arrival_left scenario n journal =
+    subst (λ (js : List Arrival). (run_with scenario (word_of scenario.seed) js n).left ≡ []) (sym journal) (none_left (plan_of_scenario scenario) (script_turn scenario.code) n)
 
 next_step : (scenario : ScenarioOf) (n : ℕ) → scenario.journal ≡ []
     → (run_of_scenario scenario (n + 1)).state
     ≡ step_of (plan_of_scenario scenario) (script_turn scenario.code) (run_of_scenario scenario n).state
-next_step scenario n journal = rw journal (step_after (plan_of_scenario scenario) (script_turn scenario.code) n)
+next_step scenario n journal =
+    let run : List Arrival → ℕ → Course Script = run_with scenario (word_of scenario.seed) in
+    subst (λ (js : List Arrival). (run js (n + 1)).state ≡ step_of (plan_of_scenario scenario) (script_turn scenario.code) (run js n).state) (sym journal) (step_after (plan_of_scenario scenario) (script_turn scenario.code) n)
 
 -- ---- a unit of the kernel
 

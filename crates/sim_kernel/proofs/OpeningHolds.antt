@@ -1,5 +1,5 @@
 -- What holds of every kernel holds of one that was opened.
-use Rattle.std.proofs.Common.{◌≡◌, ◌≤◌, List, [], ◌∷◌, length, refl, ap, arith}
+use Rattle.std.proofs.Common.{◌≡◌, ◌+◌, ◌*◌, ◌≤◌, List, [], ◌∷◌, length, refl, ap, arith}
 use Rattle.std.specs.Prelude.{fold}
 use Rattle.sim_types.specs.declared.setup.Start.{Start}
 use Rattle.sim_machine.specs.State.{Plan, State}
@@ -11,12 +11,15 @@ use Rattle.sim_machine_law.proofs.OpeningLaws.{starts_open}
 use Rattle.sim_machine_law.proofs.WholeSteps.{lawful_opening}
 use Rattle.sim_happen_model.specs.HappenOf.{held}
 use Rattle.sim_steps_model.specs.PartsOf.{PartsOf, plan_of}
-use Rattle.sim_steps_model.specs.StandsFor.{StandsFor, LawfulOf}
-use Rattle.sim_steps_model.specs.Becoming.{AreAllKept}
+use Rattle.sim_steps_model.specs.StandsFor.{LawfulOf}
+use Rattle.sim_steps_model.specs.Becoming.{most_held}
+use Rattle.sim_steps_model.specs.Opening.{most_begun}
 use Rattle.sim_kernel.specs.Holding.{Holds, most_opened}
+use Rattle.sim_kernel.specs.Opening.{with_starts}
+use Rattle.sim_steps_law.proofs.Keeping.{few_weaker}
 use Rattle.sim_steps_law.proofs.Running.{KeepsLaw}
-use Rattle.sim_kernel.proofs.StartingAll.{with_starts, events_of_starts}
-use Rattle.sim_kernel.proofs.Stopping.{stop_events}
+use Rattle.sim_kernel.proofs.StartingAll.{events_of_starts}
+use Rattle.sim_kernel.proofs.Stopping.{IsOpened, stop_events}
 
 -- the opening state is lawful
 pub opens_lawfully : {B Code : Type 0} (body : BodyOf B Code) (parts : PartsOf B Code) → KeepsLaw body parts.code →
@@ -40,15 +43,16 @@ opening_events {B} body parts fits =
     omega (arith, stop_events g.setup.until s.facilities.calendar, events_of_starts g g.setup.starts, fits.few_events, fits.few_starts)
 
 pub opening_holds : {B Code : Type 0} (body : BodyOf B Code) (new : PartsOf B Code) → KeepsLaw body new.code → FitsCode (body.facts new.code) new.setup →
-    StandsFor new (opening (plan_of body new)) → AreAllKept 1 (held new.shared.happen) → Holds body 0 new
-opening_holds {B} body new law fits st kept =
+    IsOpened body new → Holds body 0 new
+opening_holds {B} body new law fits h =
     let g : Plan B = plan_of body new in
     let few = opening_events body new fits in
     record {
       fits = fits;
       state = opening g;
       lawful = opens_lawfully body new law fits;
-      stands = st;
-      bounded = record { events = omega (arith, few, st.facilities.calendar.made); processed = omega (arith, st.processed, processed_from g (blank_state g) g.setup.starts) };
-      kept = kept;
+      stands = h.stands;
+      balances = h.balances;
+      bounded = record { events = omega (arith, few, h.stands.facilities.calendar.made); processed = omega (arith, h.stands.processed, processed_from g (blank_state g) g.setup.starts) };
+      few = few_weaker (1 + most_begun * length new.setup.starts) (most_held * (0 + most_opened)) (held new.shared.happen) (omega (arith, fits.few_starts)) h.few;
     }

@@ -1,5 +1,5 @@
 -- The processes that run from the start are made, one after another.
-use Rattle.std.proofs.Common.{◌≡◌, ℕ, ◌+◌, ◌*◌, ◌<◌, ◌≤◌, ◌^◌, List, [], ◌∷◌, length, take, length-take, map, refl, sym, ap, subst, ◌∙◌, arith}
+use Rattle.std.proofs.Common.{◌≡◌, ℕ, ◌+◌, ◌*◌, ◌<◌, ◌≤◌, ◌^◌, List, [], ◌∷◌, length, take, length-take, map, true, sym, ap, subst, ◌∙◌, arith}
 use Rattle.std.specs.Prelude.{slice_index_or, fold}
 use Rattle.std.proofs.lemmas.List.{length-replicate}
 use Rattle.std.proofs.lemmas.List.Elements.{All-nil}
@@ -10,53 +10,82 @@ use Rattle.sim_types.specs.declared.setup.Start.{Start}
 use Rattle.sim_machine.specs.State.{ProcessOf, State, Plan}
 use Rattle.sim_machine.specs.Events.{pending_event}
 use Rattle.sim_machine.specs.Bodies.{BodyOf}
+use Rattle.sim_machine.specs.Processes.{is_alive}
+use Rattle.sim_machine.specs.Standing.{was_made}
 use Rattle.sim_machine.specs.Setups.{FitsCode}
 use Rattle.sim_machine.specs.Tellings.{CodeFacts}
 use Rattle.sim_machine.specs.Runs.{blank_state, start_process}
 use Rattle.sim_happen_model.specs.HappenOf.{held}
 use Rattle.sim_steps_model.specs.PartsOf.{PartsOf, plan_of, with_happen}
-use Rattle.sim_steps_model.specs.StandsFor.{StandsFor, process_of}
-use Rattle.sim_steps_model.specs.Becoming.{AreAllKept}
-use Rattle.sim_steps_model.specs.Opening.{IsOpening, KeepsButProcesses, Starts}
+use Rattle.sim_steps_model.specs.StandsFor.{Balances, StandsFor, process_of}
+use Rattle.sim_steps_model.specs.Becoming.{AreFew, BecomesWith, Stands}
+use Rattle.sim_steps_model.specs.Opening.{IsOpening, KeepsButProcesses, most_begun}
+use Rattle.sim_kernel.specs.Opening.{HasStarted, with_starts}
+use Rattle.sim_steps_law.proofs.Keeping.{few_weaker}
 use Rattle.sim_steps_law.proofs.Starting.{of_process_events}
-
--- the state in which these were started
-abbrev pub with_starts : {B : Type 0} → Plan B → List Start → State B
-with_starts g xs = fold (start_process g) (blank_state g) xs
 
 -- ---- before any process is made
 
-pub blank_opening : {B Code : Type 0} (g : Plan B) (parts : PartsOf B Code) → AreAllKept 1 (held parts.shared.happen) →
-    StandsFor parts (blank_state g) → IsOpening parts
-blank_opening {B} g parts kept h =
-    let P : ProcessOf B → Type 0 = λ x. x.id.0 < length parts.shared.happen.events in
-    record { time = h.facilities.calendar.time; older = All-permutation P [] (map process_of parts.live) h.processes (All-nil P); kept = kept }
+-- nothing was started
+pub blank_started : {B Code : Type 0} (body : BodyOf B Code) (a : PartsOf B Code) → StandsFor a (blank_state (plan_of body a)) →
+    Balances body [] a (blank_state (plan_of body a)) → AreFew 1 (held a.shared.happen) → HasStarted body [] a a
+blank_started {B} {Code} body a h balances few =
+    let s : State B = blank_state (plan_of body a) in
+    record {
+      stands = record {
+        stands = h;
+        distinct = λ i j d before below. absurd (omega (arith, below));
+        owned = All-nil (λ x. is_alive x.process s ≡ true);
+        apart = λ i j d before below. absurd (omega (arith, below));
+        entered = All-nil (λ x. was_made s.facilities.calendar x.request ≡ true);
+      };
+      balances = balances;
+      few = few_weaker 1 (1 + most_begun * length (take 0 a.setup.starts)) (held a.shared.happen) (omega arith) few;
+    }
+
+-- so processes that run from the start can be made
+pub blank_opening : {B Code : Type 0} (body : BodyOf B Code) (a : PartsOf B Code) → HasStarted body [] a a → IsOpening body a
+blank_opening {B} body a h =
+    let P : ProcessOf B → Type 0 = λ x. x.id.0 < length a.shared.happen.events in
+    record {
+      time = h.stands.stands.facilities.calendar.time;
+      older = All-permutation P [] (map process_of a.live) h.stands.stands.processes (All-nil P);
+      owing = record { state = blank_state (plan_of body a); stands = h.stands; others = []; balances = h.balances };
+    }
 
 -- ---- one process more
 
 -- a kernel keeps what it was opened with
 pub kept_on : {B Code : Type 0} (first old new : PartsOf B Code) → KeepsButProcesses old new → KeepsButProcesses first old → KeepsButProcesses first new
 kept_on {B} {Code} first old new h k =
-    h ∙ ap (λ (parts : PartsOf B Code). let p : PartsOf B Code = record (with_happen new.shared.happen parts) { live = new.live; spare = new.spare } in p) k
+    h ∙ ap (λ (parts : PartsOf B Code). let p : PartsOf B Code = record (with_happen new.shared.happen parts) { live = new.live; spare = new.spare; ready = new.ready } in p) k
 
--- no scope is open in it
-no_scopes_from : {B : Type 0} (g : Plan B) (s : State B) (xs : List Start) → s.scopes ≡ [] → (fold (start_process g) s xs).scopes ≡ []
-no_scopes_from g s [] h = h
-no_scopes_from g s (x ∷ xs) h = no_scopes_from g (start_process g s x) xs h
-
--- the kernel stands for the state with the next process
-pub next_stands : {B Code : Type 0} (body : BodyOf B Code) (first old new : PartsOf B Code) (i : ℕ) (x : Start) → i < length first.setup.starts →
-    x ≡ slice_index_or first.setup.starts i x → KeepsButProcesses first old → Starts body x old new →
-    StandsFor old (with_starts (plan_of body first) (take i first.setup.starts)) →
-    StandsFor new (with_starts (plan_of body first) (take (i + 1) first.setup.starts))
-next_stands {B} {Code} body first old new i x below is kept starts st =
+-- the next process is started too
+pub next_started : {B Code : Type 0} (body : BodyOf B Code) (first old new : PartsOf B Code) (i : ℕ) (x : Start) → i < length first.setup.starts →
+    x ≡ slice_index_or first.setup.starts i x → KeepsButProcesses first old →
+    BecomesWith body most_begun (λ s. start_process (plan_of body old) s x) old new →
+    HasStarted body (take i first.setup.starts) first old → HasStarted body (take (i + 1) first.setup.starts) first new
+next_started {B} {Code} body first old new i x below is kept starts h =
     let g : Plan B = plan_of body first in
-    let s : State B = with_starts g (take i first.setup.starts) in
-    let P : PartsOf B Code → Type 0 = λ o. StandsFor new (start_process (plan_of body o) s x) in
-    let made : StandsFor new (start_process g s x) = subst P kept (starts.each s (no_scopes_from g (blank_state g) (take i first.setup.starts) refl) st) in
-    let Q : State B → Type 0 = λ t. StandsFor new t in
-    let next : start_process g s x ≡ with_starts g (take (i + 1) first.setup.starts) = ap (start_process g s) is ∙ sym (fold_more (start_process g) (blank_state g) first.setup.starts i x below) in
-    subst Q next made
+    let xs : List Start = first.setup.starts in
+    let s : State B = with_starts g (take i xs) in
+    let P : PartsOf B Code → Type 0 = λ o. BecomesWith body most_begun (λ t. start_process (plan_of body o) t x) old new in
+    let becomes : BecomesWith body most_begun (λ t. start_process g t x) old new = subst P kept starts in
+    let next : start_process g s x ≡ with_starts g (take (i + 1) xs) = ap (start_process g s) is ∙ sym (fold_more (start_process g) (blank_state g) xs i x below) in
+    let most : ℕ = 1 + most_begun * length (take i xs) in
+    record {
+      stands = subst (Stands new) next (becomes.each s h.stands);
+      balances = subst (Balances body [] new) next (becomes.accounts [] s h.stands h.balances);
+      few = few_weaker (most + most_begun) (1 + most_begun * length (take (i + 1) xs)) (held new.shared.happen)
+          (omega (arith, length-take i xs, length-take (i + 1) xs, below)) (becomes.few.few most h.few);
+    }
+
+-- so few hold an event while they are made
+pub starting_few : {B Code : Type 0} (body : BodyOf B Code) (first parts : PartsOf B Code) (f : CodeFacts) (i : ℕ) → FitsCode f first.setup →
+    i < length first.setup.starts → HasStarted body (take i first.setup.starts) first parts → AreFew (2 ^ 40) (held parts.shared.happen)
+starting_few body first parts f i fits below h =
+    few_weaker (1 + most_begun * length (take i first.setup.starts)) (2 ^ 40) (held parts.shared.happen)
+    (omega (arith, length-take i first.setup.starts, fits.few_starts, below)) h.few
 
 -- ---- numbers
 

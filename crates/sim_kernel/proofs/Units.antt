@@ -1,20 +1,22 @@
 -- A unit of a kernel is a step from a lawful state to a lawful state, and keeps what holds of every kernel.
-use Rattle.std.proofs.Common.{ℕ, ◌+◌, ◌*◌, ◌≤◌, ◌≡◌, refl, ap, subst, arith}
+use Rattle.std.proofs.Common.{ℕ, ◌+◌, ◌*◌, ◌≤◌, ◌≡◌, [], refl, ap, subst, arith}
 use Rattle.sim_machine.specs.State.{State}
 use Rattle.sim_machine.specs.Bodies.{BodyOf}
 use Rattle.sim_machine.specs.Setups.{FitsCode}
 use Rattle.sim_machine_law.proofs.WholeSteps.{lawful_step}
 use Rattle.sim_machine_law.proofs.MadeEvents.{MakesFew, step_makes}
+use Rattle.sim_events.specs.TableOf.{AreNeeded}
 use Rattle.sim_happen_model.specs.HappenOf.{held}
 use Rattle.sim_steps_model.specs.declared.mode.Unit.{Unit}
 use Rattle.sim_steps_model.specs.PartsOf.{PartsOf, IsOpenedAs, KeepsButRoom, plan_of}
-use Rattle.sim_steps_model.specs.StandsFor.{StandsFor, LawfulOf, StepOf}
-use Rattle.sim_steps_model.specs.Becoming.{AreAllKept, Moves, most_held}
+use Rattle.sim_steps_model.specs.StandsFor.{Balances, StandsFor, LawfulOf, StepOf}
+use Rattle.sim_steps_model.specs.Becoming.{AreFew, Moves, most_held}
 use Rattle.sim_kernel.specs.Holding.{Holds, IsBounded, most_opened, most_made}
+use Rattle.sim_kernel.specs.Accounting.{HasAccounts}
 use Rattle.sim_kernel.specs.Stepping.{MakesStep}
-use Rattle.sim_steps_law.proofs.Keeping.{all_kept_weaker}
-use Rattle.sim_steps_law.proofs.Becoming.{opened_then}
-use Rattle.sim_steps_law.proofs.Rooms.{roomier_stands, roomier_lawful, roomier_held}
+use Rattle.sim_steps_law.proofs.Keeping.{few_weaker}
+use Rattle.sim_steps_law.proofs.Accounting.{opened_then}
+use Rattle.sim_steps_law.proofs.Rooms.{roomier_balances, roomier_held, roomier_lawful, roomier_stands}
 use Rattle.sim_steps_law.proofs.Running.{KeepsLaw}
 
 -- ---- the state after a unit is lawful, since the machine keeps what is lawful
@@ -35,13 +37,26 @@ roomier_step {B} {Code} body old mid s t room h =
     let P : PartsOf B Code → Type 0 = λ k. StepOf body k s t in
     subst P room.others h
 
+-- ---- accounts
+
+-- accounts that are right balance
+pub accounts_balance : {B Code : Type 0} (body : BodyOf B Code) (a : PartsOf B Code) (s : State B) → HasAccounts body a s → Balances body [] a s
+accounts_balance body a s h = record { holders = h.balanced; gone = h.gone }
+
+-- and where they balance, and what is kept is needed, they are right
+pub balance_accounts : {B Code : Type 0} (body : BodyOf B Code) (a : PartsOf B Code) (s : State B) → AreNeeded a.shared.happen.events → Balances body [] a s →
+    HasAccounts body a s
+balance_accounts body a s needed h = record { balanced = h.holders; gone = h.gone; needed = needed }
+
+-- ---- the state after a unit
+
 module _ {B Code : Type 0} (body : BodyOf B Code) (old : PartsOf B Code) (fits : FitsCode (body.facts old.code) old.setup) (law : KeepsLaw body old.code) where
   stays_lawful : (s t : State B) → LawfulOf body old s → StepOf body old s t → LawfulOf body old t
   stays_lawful s t = lawful_step (plan_of body old) (body.tell old.code) (body.sound old.code) (body.turn old.code) (body.facts old.code) s t fits law
 
   pub unit_steps : (mid : PartsOf B Code) (answer : Unit) (new : PartsOf B Code) → KeepsButRoom old mid → Moves body mid answer new →
-      MakesStep body old answer new
-  unit_steps mid answer new room moves =
+      AreNeeded new.shared.happen.events → MakesStep body old answer new
+  unit_steps mid answer new room moves needed =
       record {
         each = λ s lawful stands.
             let later = moves.each s (roomier_lawful body old mid s room lawful) (roomier_stands old mid s room stands) in
@@ -51,6 +66,7 @@ module _ {B Code : Type 0} (body : BodyOf B Code) (old : PartsOf B Code) (fits :
               stepped = stepped;
               lawful = opened_lawful body old new later.state (opened_through old mid new room moves.opened) (stays_lawful s later.state lawful stepped);
               stands = later.stands;
+              accounts = λ right. balance_accounts body new later.state needed (later.accounts (roomier_balances [] old mid s room (accounts_balance body old s right)));
               lines = later.lines;
             };
       }
@@ -81,14 +97,15 @@ unit_holds body units old mid answer new law h room moves =
     let t = later.state in
     let stepped : StepOf body old s t = roomier_step body old mid s t room later.stepped in
     let opened = opened_through old mid new room moves.opened in
-    let kept : AreAllKept (most_held * units + 1) (held mid.shared.happen) = rw (roomier_held old mid room) h.kept in
+    let few : AreFew (most_held * (units + most_opened)) (held mid.shared.happen) = rw (roomier_held old mid room) h.few in
     record {
       fits = rw (opened.code, opened.setup) h.fits;
       state = t;
       lawful = opened_lawful body old new t opened (stays_lawful body old h.fits law s t h.lawful stepped);
       stands = later.stands;
+      balances = later.accounts (roomier_balances [] old mid s room h.balances);
       bounded = unit_bounded units old new s t h.stands later.stands (step_makes (plan_of body old) (body.tell old.code) (body.sound old.code) (body.turn old.code) s t h.lawful stepped) h.bounded;
-      kept = all_kept_weaker (most_held * units + 1 + most_held) (most_held * (units + 1) + 1) (held new.shared.happen) (omega arith) (moves.kept.kept (most_held * units + 1) kept);
+      few = few_weaker (most_held * (units + most_opened) + most_held) (most_held * (units + 1 + most_opened)) (held new.shared.happen) (omega arith) (moves.few.few (most_held * (units + most_opened)) few);
     }
 
 -- room changes nothing of this
@@ -102,6 +119,7 @@ roomier_holds {B} {Code} body units old mid room h =
       state = h.state;
       lawful = roomier_lawful body old mid h.state room h.lawful;
       stands = roomier_stands old mid h.state room h.stands;
+      balances = roomier_balances [] old mid h.state room h.balances;
       bounded = record { events = rw events h.bounded.events; processed = rw processed h.bounded.processed };
-      kept = rw (roomier_held old mid room) h.kept;
+      few = rw (roomier_held old mid room) h.few;
     }

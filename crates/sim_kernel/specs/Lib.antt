@@ -1,5 +1,6 @@
 pub mod KernelOf
 pub mod Opening
+pub mod Accounting
 pub mod Holding
 pub mod Stepping
 pub mod Arriving

@@ -5,9 +5,10 @@ use Rattle.sim_machine.specs.Bodies.{BodyOf}
 use Rattle.sim_steps_model.specs.PartsOf.{PartsOf}
 use Rattle.sim_steps_model.specs.StandsFor.{StandsFor, LawfulOf, StepOf, lines_of}
 use Rattle.sim_steps_model.specs.declared.mode.Unit.{Unit}
+use Rattle.sim_kernel.specs.Accounting.{HasAccounts}
 
 -- a step leads from s, a state of the machine that the old kernel was opened with, to a lawful state that the new one
--- stands for, and adds the line answered
+-- stands for, whose accounts are right where those of s were, and adds the line answered
 pub record StepsFrom {B Code : Type 0}
     (body : BodyOf B Code) (old : PartsOf B Code) (s : State B) (answer : Unit)
     (new : PartsOf B Code) : Type 0 where
@@ -15,6 +16,7 @@ pub record StepsFrom {B Code : Type 0}
   pub stepped : StepOf body old s state
   pub lawful : LawfulOf body new state
   pub stands : StandsFor new state
+  pub accounts : HasAccounts body old s → HasAccounts body new state
   pub lines : state.lines ≡ s.lines ++ lines_of answer
 
 -- so it is from whatever lawful state the kernel stood for

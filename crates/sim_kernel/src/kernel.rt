@@ -1,9 +1,12 @@
 //! A kernel stands for a lawful state of the machine, and makes one unit of it at a time.
 ghost use Rattle.std.specs.Prelude.{◌≡◌, ◌+◌, ◌<◌, ◌^◌, length, IfOk, OnOk, OnErr};
 ghost use Rattle.sim_machine.specs.Setups.{FitsCode};
-ghost use Rattle.sim_steps_model.specs.PartsOf.{IsOpenedAs};
+ghost use Rattle.sim_machine.specs.Runs.{opening};
+ghost use Rattle.sim_machine.specs.State.{State};
+ghost use Rattle.sim_steps_model.specs.PartsOf.{IsOpenedAs, plan_of};
 ghost use Rattle.sim_steps_model.specs.Resting.{CanArrive, CanStep, rest_in};
-ghost use Rattle.sim_steps_model.specs.StandsFor.{IsLawfulOpening, StandsForOpening};
+ghost use Rattle.sim_steps_model.specs.StandsFor.{IsLawfulOpening, StandsFor, StandsForOpening};
+ghost use Rattle.sim_kernel.specs.Accounting.{HasAccounts, kept_of};
 ghost use Rattle.sim_kernel.specs.Arriving.{MakesArrival};
 ghost use Rattle.sim_kernel.specs.KernelOf.{IsAsBefore};
 ghost use Rattle.sim_kernel.specs.Stepping.{MakesStep};
@@ -49,10 +52,15 @@ impl<B: Body> Kernel<B> {
         ensures units { IfOk result (λ k. k.units ≡ 0) }
         ensures stands { IfOk result (λ k. StandsForOpening B.body k.parts) }
         ensures lawful { IfOk result (λ k. IsLawfulOpening B.body k.parts) }
+        ensures accounts { IfOk result
+            (λ k. HasAccounts B.body k.parts (opening (plan_of B.body k.parts))) }
     {
         let mut parts = Parts::<B>::blank(alloc, code, setup, seed)?;
         match open(&mut parts, code, setup) {
-            Ok(()) => Ok(Kernel { parts, units: 0 }),
+            Ok(()) => {
+                let _kept = parts.slots();
+                Ok(Kernel { parts, units: 0 })
+            }
             Err(AllocError) => {
                 parts.abandon();
                 Err(AllocError)
@@ -82,6 +90,7 @@ impl<B: Body> Kernel<B> {
     {
         self.parts.reserve(code)?;
         let unit = self.parts.unit(code);
+        let _kept = self.parts.slots();
         self.units += 1;
         Ok(unit)
     }
@@ -104,8 +113,19 @@ impl<B: Body> Kernel<B> {
         let parts = &mut self.parts;
         parts.reserve(code)?;
         let line = parts.arrive(code, port, value);
+        let _kept = parts.slots();
         self.units += 1;
         Ok(line)
+    }
+
+    /// How many events are kept, each of which has a slot in memory. They are just those that the machine keeps in the state
+    /// that the kernel stands for, whose accounts are right by what `new`, `unit` and `arrive` promise. (This project's own: in
+    /// Python what nothing refers to is collected.)
+    pub fn slots(&self) -> u64
+        ensures slots { (s : State B) → StandsFor self.now.parts s →
+            HasAccounts B.body self.now.parts s → result ≡ kept_of B.body self.now.parts s }
+    {
+        self.parts.slots()
     }
 
     /// How many events were processed.

@@ -1,13 +1,13 @@
-ghost use Rattle.std.specs.Prelude.{◌≡◌, OnOk};
-ghost use Rattle.sim_machine.specs.Runs.{blank_state};
+ghost use Rattle.std.specs.Prelude.{◌≡◌, [], OnOk};
+ghost use Rattle.sim_machine.specs.Runs.{blank_state, opening};
 ghost use Rattle.sim_machine.specs.Setups.{FitsCode};
 ghost use Rattle.sim_happen_model.specs.HappenOf.{held};
-ghost use Rattle.sim_steps_model.specs.Becoming.{AreAllKept};
+ghost use Rattle.sim_steps_model.specs.Becoming.{AreFew};
 ghost use Rattle.sim_steps_model.specs.Opening.{KeepsButProcesses};
 ghost use Rattle.sim_steps_model.specs.PartsOf.{IsOpenedAs, plan_of};
-ghost use Rattle.sim_steps_model.specs.StandsFor.{StandsFor, StandsForOpening};
+ghost use Rattle.sim_steps_model.specs.StandsFor.{Balances, StandsFor, StandsForOpening};
 ghost use Rattle.sim_kernel.specs.Holding.{Holds};
-ghost use Rattle.sim_kernel.specs.Opening.{HasMadeStarts};
+ghost use Rattle.sim_kernel.specs.Opening.{HasStarted};
 
 use sim_procs::Body;
 use sim_steps::Parts;
@@ -20,10 +20,11 @@ fn start_all<B: Body>(parts: &mut Parts<B>, code: &B::Code, setup: &Setup) -> Re
     requires setup { setup.now ≡ parts.old.setup }
     requires fits { FitsCode (B.body.facts code.now) setup.now }
     requires blank { StandsFor parts.old (blank_state (plan_of B.body parts.old)) }
-    requires kept { AreAllKept 1 (held parts.old.shared.happen) }
+    requires balances { Balances B.body [] parts.old (blank_state (plan_of B.body parts.old)) }
+    requires few { AreFew 1 (held parts.old.shared.happen) }
     ensures kept { KeepsButProcesses parts.old parts.new }
-    ensures stands { OnOk result (HasMadeStarts B.body parts.old parts.new) }
-    ensures all_kept { OnOk result (AreAllKept 1 (held parts.new.shared.happen)) }
+    ensures started { OnOk result
+        (HasStarted B.body parts.old.setup.starts parts.old parts.new) }
 {
     for start in setup.starts.as_slice() {
         parts.start(code, start)?;
@@ -41,9 +42,12 @@ pub(crate) fn open<B: Body>(
     requires setup { setup.now ≡ parts.old.setup }
     requires fits { FitsCode (B.body.facts code.now) setup.now }
     requires blank { StandsFor parts.old (blank_state (plan_of B.body parts.old)) }
-    requires kept { AreAllKept 1 (held parts.old.shared.happen) }
+    requires balances { Balances B.body [] parts.old (blank_state (plan_of B.body parts.old)) }
+    requires few { AreFew 1 (held parts.old.shared.happen) }
     ensures opened { IsOpenedAs parts.old parts.new }
     ensures stands { OnOk result (StandsForOpening B.body parts.new) }
+    ensures balances { OnOk result
+        (Balances B.body [] parts.new (opening (plan_of B.body parts.new))) }
     ensures holds { OnOk result (Holds B.body 0 parts.new) }
 {
     start_all(parts, code, setup)?;

@@ -3,7 +3,9 @@ ghost use Rattle.std.specs.Prelude.{◌≡◌, ◌+◌, ◌<◌, ◌≤◌, ◌^
 ghost use Rattle.sim_types.specs.declared.line.Line.TheVariants as line;
 ghost use Rattle.sim_machine.specs.Setups.{FitsCode};
 ghost use Rattle.sim_machine.specs.Units as units;
-ghost use Rattle.sim_steps_model.specs.Becoming.{Becomes};
+ghost use Rattle.sim_happen_model.specs.HappenOf.{held};
+ghost use Rattle.sim_steps_model.specs.Becoming.{AreFew, BecomesWith};
+ghost use Rattle.sim_steps_model.specs.Opening.{most_begun};
 ghost use Rattle.sim_steps_model.specs.PartsOf.{HasUnitRoom, plan_of};
 ghost use Rattle.sim_steps_model.specs.StandsFor.{StandsForSome};
 
@@ -21,7 +23,9 @@ impl<B: Body> Parts<B> {
         requires fits { FitsCode (B.body.facts code.now) self.old.setup }
         requires room { HasUnitRoom self.old }
         requires events { length self.old.shared.happen.events + 2 ≤ 2 ^ 62 }
-        ensures becomes { Becomes (units.arrive (plan_of B.body self.old) port value)
+        requires few { AreFew (2 ^ 40) (held self.old.shared.happen) }
+        ensures becomes { BecomesWith B.body most_begun
+            (units.arrive (plan_of B.body self.old) port value)
             self.old self.new }
         ensures line { result ≡ line.Arrive self.old.processed port value }
     {

@@ -1,13 +1,16 @@
 //! Events are popped, their callbacks are called, and then they are settled (SimPy's Environment.step).
-ghost use Rattle.std.specs.Prelude.{◌≡◌, ◌≢◌, ◌<◌, ◌^◌, [], IsTrue, IfNone, IfSome, ◌+◌, ◌≤◌, length};
+ghost use Rattle.std.specs.Prelude.{◌≡◌, ◌&&◌, not, ◌≢◌, ◌<◌, ◌^◌, [], ◌∷◌, IsTrue, IfNone, IfSome, ◌+◌, ◌≤◌, length};
 ghost use Rattle.sim_types.specs.declared.event.Callback.TheVariants as callback;
-ghost use Rattle.sim_machine.specs.State.{Idle, Calling};
+ghost use Rattle.sim_machine.specs.State.{Active, Calling, Idle, Over};
+ghost use Rattle.sim_machine.specs.Events.{is_fail};
+ghost use Rattle.sim_machine.specs.Standing.{left_of};
 ghost use Rattle.sim_machine.specs.Steps as steps;
 ghost use Rattle.sim_machine.specs.LawfulTries.{tries_well};
 ghost use Rattle.sim_events.specs.Changes.{more_callbacks};
-ghost use Rattle.sim_events.specs.TableOf.{IsKept, kept_at};
+ghost use Rattle.sim_events.specs.TableOf.{AreNeeded, IsKept, kept_at};
 ghost use Rattle.sim_happen_model.specs.HappenOf.{held};
-ghost use Rattle.sim_steps_model.specs.Becoming.{AreAllKept, Becomes, Moves};
+ghost use Rattle.sim_accounts.specs.Naming.{but_zero, triggered_by};
+ghost use Rattle.sim_steps_model.specs.Becoming.{AreFew, Becomes, BecomesOwing, IsOwing, Moves};
 ghost use Rattle.sim_steps_model.specs.Calling.{called, CallsKept, TakesCallback};
 ghost use Rattle.sim_steps_model.specs.Conditions.{CallsCondition};
 ghost use Rattle.sim_steps_model.specs.PartsOf.{HasUnitRoom, IsCalling, plan_of};
@@ -24,7 +27,7 @@ impl<B: Body> Parts<B> {
     pub(crate) fn pop(&mut self) -> Unit
         requires idle { self.old.control ≡ Idle }
         requires due { self.old.shared.happen.agenda ≢ [] }
-        requires kept { AreAllKept (2 ^ 40) (held self.old.shared.happen) }
+        requires few { AreFew (2 ^ 40) (held self.old.shared.happen) }
         requires number { self.old.processed < 2 ^ 62 }
         ensures moves { Moves B.body self.old result self.new }
     {
@@ -41,32 +44,85 @@ impl<B: Body> Parts<B> {
         }
     }
 
-    // No callback of the event is left: a failure that nobody defused ends the run.
+    // The run is over, and was stopped at this event.
+    fn end_run(&mut self, why: End, event: EventId)
+        requires calling { IsCalling event self.old.control }
+        ensures { self.new ≡ record self.old {
+          control = Over why event
+              (left_of self.old.control);
+        } }
+    {
+        self.mode = Mode::Over(why, event);
+    }
+
+    // Nothing is being done any more.
+    fn go_idle(&mut self, event: EventId)
+        requires done { self.old.control ≡ Calling event [] }
+        ensures { self.new ≡ record self.old { control = Idle } }
+    {
+        self.mode = Mode::Idle;
+    }
+
+    // Whether the event failed, and nobody defused it.
+    fn is_unhandled(&self, event: EventId) -> bool
+        requires kept { IsKept self.now.shared.happen.events event }
+        ensures { let x = (kept_at self.now.shared.happen.events event).event in
+            result ≡ (is_fail x.outcome && not x.defused) }
+    {
+        self.shared.happen().is_unhandled(event)
+    }
+
+    // No callback of the event is left: a failure that nobody defused ends the run. The event is not processed any more, and
+    // its holder is to be given back.
+    fn finish_event(&mut self, event: EventId)
+        requires done { self.old.control ≡ Calling event [] }
+        requires kept { IsKept self.old.shared.happen.events event }
+        ensures owes { BecomesOwing B.body [] (but_zero (event ∷ [])) 0 (steps.settle event)
+            self.old self.new }
+    {
+        if self.is_unhandled(event) {
+            self.end_run(End::Crash, event);
+        } else {
+            self.go_idle(event);
+        }
+    }
+
+    // The event is settled, and goes where nobody holds it any more.
     fn settle(&mut self, event: EventId)
         requires done { self.old.control ≡ Calling event [] }
         requires kept { IsKept self.old.shared.happen.events event }
-        ensures becomes { Becomes (steps.settle event) self.old self.new }
+        requires owing { IsOwing B.body [] self.old }
+        ensures becomes { Becomes B.body (steps.settle event) self.old self.new }
     {
-        self.mode = if self.shared.happen().is_unhandled(event) {
-            Mode::Over(End::Crash, event)
-        } else {
-            Mode::Idle
-        };
+        self.finish_event(event);
+        self.unhold(event);
     }
 
-    // The event stops the run.
-    fn stop(&mut self, event: EventId)
+    // The event ends the run. It is not processed any more, and its holder is to be given back.
+    fn stop_at(&mut self, event: EventId)
         requires calling { IsCalling event self.old.control }
         requires kept { IsKept self.old.shared.happen.events event }
-        ensures becomes { Becomes (called (plan_of B.body self.old) event callback.Stop)
-            self.old self.new }
+        ensures owes { BecomesOwing B.body [] (but_zero (event ∷ [])) 0
+            (called (plan_of B.body self.old) event callback.Stop) self.old self.new }
     {
         let why = if self.shared.happen().is_failed(event) {
             End::Crash
         } else {
             End::Until
         };
-        self.mode = Mode::Over(why, event);
+        self.end_run(why, event);
+    }
+
+    // The event stops the run, and goes where nobody holds it any more.
+    fn stop(&mut self, event: EventId)
+        requires calling { IsCalling event self.old.control }
+        requires kept { IsKept self.old.shared.happen.events event }
+        requires owing { IsOwing B.body [] self.old }
+        ensures becomes { Becomes B.body (called (plan_of B.body self.old) event callback.Stop)
+            self.old self.new }
+    {
+        self.stop_at(event);
+        self.unhold(event);
     }
 
     // What a process is told by an event that resumes it: an init event begins it.
@@ -81,16 +137,26 @@ impl<B: Body> Parts<B> {
         }
     }
 
+    // A process runs within the call of a callback of the event, and is to be told this.
+    fn run(&mut self, event: EventId, process: ProcId, told: Signal)
+        requires calling { IsCalling event self.old.control }
+        ensures { self.new
+            ≡ record self.old { control = Active event (left_of self.old.control) process told } }
+    {
+        self.mode = Mode::Active(event, process, told);
+    }
+
     // The event resumes a process.
     fn resume(&mut self, event: EventId, process: ProcId)
         requires calling { IsCalling event self.old.control }
         requires kept { IsKept self.old.shared.happen.events event }
-        ensures becomes { Becomes (called (plan_of B.body self.old) event (callback.Resume process))
+        ensures becomes { Becomes B.body
+            (called (plan_of B.body self.old) event (callback.Resume process))
             self.old self.new }
     {
         let told = self.signal_by(event);
         self.defuse_failed(event);
-        self.mode = Mode::Active(event, process, told);
+        self.run(event, process, told);
     }
 
     // Takes the first of the callbacks that are left to call. None where there is none.
@@ -107,7 +173,8 @@ impl<B: Body> Parts<B> {
         taken
     }
 
-    // Calls a callback of the event, which was taken out of those that are left to call.
+    // Calls a callback of the event, which was taken out of those that are left to call: what it passes an outcome on to was
+    // held for this.
     fn answer(&mut self, event: EventId, callback: Callback)
         requires calling { IsCalling event self.old.control }
         requires kept { IsKept self.old.shared.happen.events event }
@@ -115,8 +182,9 @@ impl<B: Body> Parts<B> {
         requires conditions { CallsCondition event callback self.old.shared.happen.events }
         requires tries { IsTrue (tries_well (length self.old.setup.resources) callback) }
         requires ready { AreResourcesReady self.old }
-        ensures becomes { Becomes (called (plan_of B.body self.old) event callback)
-            self.old self.new }
+        requires owing { IsOwing B.body (triggered_by callback) self.old }
+        ensures owes { BecomesOwing B.body (triggered_by callback) [] 0
+            (called (plan_of B.body self.old) event callback) self.old self.new }
     {
         match callback {
             Callback::Resume(process) => self.resume(event, process),
@@ -134,7 +202,7 @@ impl<B: Body> Parts<B> {
     pub(crate) fn call(&mut self, event: EventId)
         requires calling { IsCalling event self.old.control }
         requires stands { StandsForSome B.body self.old }
-        requires kept { AreAllKept (2 ^ 40) (held self.old.shared.happen) }
+        requires needed { AreNeeded self.old.shared.happen.events }
         requires room { HasUnitRoom self.old }
         requires events { length self.old.shared.happen.events + 40 ≤ 2 ^ 62 }
         ensures moves { Moves B.body self.old Unit.Quiet self.new }

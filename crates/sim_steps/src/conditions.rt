@@ -8,7 +8,7 @@ ghost use Rattle.sim_machine.specs.State.{Calendar, Every, Either};
 ghost use Rattle.sim_events.specs.TableOf.{IsKept};
 ghost use Rattle.sim_happen_model.specs.HappenOf.{held, holding};
 ghost use Rattle.sim_happen_model.specs.Shows.{Shows, Turns};
-ghost use Rattle.sim_steps_model.specs.Becoming.{AreAllKept, Becomes, BecomesWith};
+ghost use Rattle.sim_steps_model.specs.Becoming.{AreFew, Becomes, BecomesWith};
 ghost use Rattle.sim_steps_model.specs.Conditions.{BuildsCondition, ChecksMember};
 ghost use Rattle.sim_steps_model.specs.PartsOf.{HasUnitRoom, IsRunningIn, KeepsButHappen, plan_of};
 
@@ -28,7 +28,7 @@ impl<B: Body> Parts<B> {
     // A condition that waits for all of its members or for one of them is made, unless it would weigh too much.
     fn add_condition(&mut self, for_all: bool, members: Members) -> Result<EventId, TooWide>
         requires members { All (IsKept self.old.shared.happen.events) members }
-        requires kept { AreAllKept (2 ^ 40) (held self.old.shared.happen) }
+        requires few { AreFew (2 ^ 41) (held self.old.shared.happen) }
         requires room { HasUnitRoom self.old }
         requires number { length self.old.shared.happen.events < 2 ^ 62 }
         ensures few { length members ≤ 16 }
@@ -60,10 +60,10 @@ impl<B: Body> Parts<B> {
     )
         requires running { IsRunningIn event process self.old.control }
         requires members { All (IsKept self.old.shared.happen.events) members }
-        requires kept { AreAllKept (2 ^ 40) (held self.old.shared.happen) }
+        requires few { AreFew (2 ^ 41) (held self.old.shared.happen) }
         requires room { HasUnitRoom self.old }
         requires number { length self.old.shared.happen.events < 2 ^ 62 }
-        ensures becomes { BecomesWith 16
+        ensures becomes { BecomesWith B.body 16
             (effect.with_condition (if for_all then Every else Either) members)
             self.old self.new }
     {
@@ -84,7 +84,7 @@ impl<B: Body> Parts<B> {
     )
         requires running { IsRunningIn event process self.old.control }
         requires kept { IsKept self.old.shared.happen.events condition }
-        ensures becomes { Becomes
+        ensures becomes { Becomes B.body
             (effect.effect (plan_of B.body self.old) process (op.Has condition other))
             self.old self.new }
     {
@@ -97,7 +97,8 @@ impl<B: Body> Parts<B> {
     pub(crate) fn check(&mut self, condition: EventId, event: EventId)
         requires kept { IsKept self.old.shared.happen.events event }
         requires checks { ChecksMember condition event self.old.shared.happen.events }
-        ensures becomes { Becomes (on_events (conditions.check condition event)) self.old self.new }
+        ensures becomes { Becomes B.body
+            (on_events (conditions.check condition event)) self.old self.new }
     {
         self.shared.happen_mut().check(condition, event);
     }
@@ -106,7 +107,8 @@ impl<B: Body> Parts<B> {
     #[inline(never)]
     pub(crate) fn build(&mut self, condition: EventId)
         requires builds { BuildsCondition condition self.old.shared.happen.events }
-        ensures becomes { Becomes (on_events (conditions.build condition)) self.old self.new }
+        ensures becomes { Becomes B.body
+            (on_events (conditions.build condition)) self.old self.new }
     {
         self.shared.happen_mut().build(condition);
     }

@@ -31,7 +31,7 @@ impl<B: Body> Parts<B> {
     #[inline(never)]
     pub(crate) fn draw(&mut self, event: EventId, process: ProcId, lo: i64, hi: i64)
         requires running { IsRunningIn event process self.old.control }
-        ensures becomes { Becomes (draw (plan_of B.body self.old) lo hi)
+        ensures becomes { Becomes B.body (draw (plan_of B.body self.old) lo hi)
             self.old self.new }
     {
         if hi < lo {

@@ -1,21 +1,23 @@
-//! Processes that are dropped: a process ends at once, wherever it waits (this project's own: SimPy has no such call).
-ghost use Rattle.std.specs.Prelude.{◌≡◌, ◌+◌, ◌<◌, ◌≤◌, ◌^◌, [], ◌∷◌, length, reverse, IfSome, IsSomeAnd};
+//! Scopes that are left, and processes that are dropped: a process ends at once, wherever it waits (this project's own: SimPy
+//! has no such call).
+ghost use Rattle.std.specs.Prelude.{◌≡◌, ◌+◌, ◌<◌, ◌≤◌, ◌^◌, length, is_some, option_and_then, IfSome, IsSome, IsSomeAnd};
+ghost use Rattle.std.specs.Option.{option_map};
 ghost use Rattle.sim_types.specs.declared.event.Signal.TheVariants as signal;
 ghost use Rattle.sim_machine.specs.Effect as effect;
 ghost use Rattle.sim_machine.specs.MayAsk.{most_scopes};
 ghost use Rattle.sim_machine.specs.Processes as processes;
-ghost use Rattle.sim_procs.specs.RecordOf.{record_of};
+ghost use Rattle.sim_machine.specs.Scopes as scopes;
+ghost use Rattle.sim_procs.specs.RecordOf.{innermost, record_of};
 ghost use Rattle.sim_events.specs.TableOf.{IsKept};
-ghost use Rattle.sim_happen_model.specs.HappenOf.{held};
-ghost use Rattle.sim_steps_model.specs.Becoming.{AreAllKept, BecomesWith};
-ghost use Rattle.sim_steps_model.specs.Dropping.{CanBeDropped, CanLeave, Leaves, StopsWaiting};
+ghost use Rattle.sim_steps_model.specs.Becoming.{Becomes};
+ghost use Rattle.sim_steps_model.specs.Dropping.{CanBeDropped, CanLeave, LeavesInnermost, LeavesAll, StopsWaiting};
+ghost use Rattle.sim_steps_model.specs.Holding.{StandInPlaces};
 ghost use Rattle.sim_steps_model.specs.PartsOf.{HasUnitRoom, IsRunningIn};
 
 use crate::parts::Parts;
 use sim_happen::Happen;
-use sim_procs::{Body, ProcRecord};
-use sim_shared::Shared;
-use sim_types::{Callback, ENDED_PROCESS, EventId, PROCESS_ITSELF, ProcId, Scope, Signal};
+use sim_procs::Body;
+use sim_types::{Callback, ENDED_PROCESS, EventId, Outcome, PROCESS_ITSELF, ProcId, Signal};
 
 // The process waits for its target no longer, and where its resumption is left to call it is taken out.
 fn stop_waiting(happen: &mut Happen, process: ProcId, target: EventId)
@@ -26,45 +28,52 @@ fn stop_waiting(happen: &mut Happen, process: ProcId, target: EventId)
     happen.strip(Callback::Resume(process));
 }
 
-/// A scope is left. Its request has a holder more, so that it is kept where it waited and is cancelled.
-pub(crate) fn leave_scope(shared: &mut Shared, scope: Scope)
-    requires can { CanLeave (scope ∷ []) shared.old }
-    requires held { AreAllKept (2 ^ 41) (held shared.old.happen) }
-    requires spare_events { 0 < shared.old.happen.spare.events }
-    requires spare_callbacks { 0 < shared.old.happen.spare.callbacks }
-    requires number { length shared.old.happen.events < 2 ^ 62 }
-    ensures leaves { Leaves (scope ∷ []) shared.old shared.new }
-{
-    shared.happen_mut().hold(scope.request);
-    shared.leave(scope.res, scope.request);
-}
-
-// All open scopes of a record are left, the innermost first.
-fn leave_scopes<B>(shared: &mut Shared, ending: &mut ProcRecord<B>)
-    requires can { CanLeave (reverse ending.old.scopes) shared.old }
-    requires few { length ending.old.scopes ≤ most_scopes }
-    requires held { AreAllKept (2 ^ 40) (held shared.old.happen) }
-    requires spare_events { length ending.old.scopes ≤ shared.old.happen.spare.events }
-    requires spare_callbacks { length ending.old.scopes ≤ shared.old.happen.spare.callbacks }
-    requires number { length shared.old.happen.events + length ending.old.scopes ≤ 2 ^ 62 }
-    ensures none { ending.new.scopes ≡ [] }
-    ensures leaves { Leaves (reverse ending.old.scopes) shared.old shared.new }
-{
-    while let Some(scope) = ending.pop_scope() {
-        leave_scope(shared, scope);
-    }
-}
-
 impl<B: Body> Parts<B> {
+    /// The innermost open scope of a process is left: its request is cancelled where it waits, is released in any case, and
+    /// has no holder by the scope any more. The answer is whether one was open.
+    pub(crate) fn leave_scope(&mut self, process: ProcId) -> bool
+        requires alive { IsSome (record_of process self.old.live) }
+        requires can { CanLeave B.body self.old }
+        requires spare_events { 0 < self.old.shared.happen.spare.events }
+        requires spare_callbacks { 0 < self.old.shared.happen.spare.callbacks }
+        requires number { length self.old.shared.happen.events < 2 ^ 62 }
+        ensures result { result ≡ is_some
+            (option_and_then (λ r. innermost r.scopes) (record_of process self.old.live)) }
+        ensures leaves { LeavesInnermost B.body process self.old self.new }
+    {
+        match self.processes.pop_scope(process) {
+            Some(scope) => {
+                self.shared.leave(scope.res, scope.request);
+                self.unhold(scope.request);
+                true
+            }
+            None => false,
+        }
+    }
+
+    // All open scopes of a process are left, the innermost first.
+    fn leave_scopes(&mut self, process: ProcId)
+        requires scopes { IsSomeAnd (record_of process self.old.live)
+            (λ r. length r.scopes ≤ most_scopes) }
+        requires can { CanLeave B.body self.old }
+        requires spare_events { most_scopes < self.old.shared.happen.spare.events }
+        requires spare_callbacks { most_scopes < self.old.shared.happen.spare.callbacks }
+        requires number { length self.old.shared.happen.events + most_scopes < 2 ^ 62 }
+        ensures leaves { LeavesAll B.body process self.old self.new }
+    {
+        while self.leave_scope(process) {}
+    }
+
     // Another process ends at once: it waits for nothing, its scopes are left, and its event succeeds.
     fn drop_other(&mut self, event: EventId, process: ProcId, other: ProcId, value: i64)
         requires running { IsRunningIn event process self.old.control }
         requires can { IsSomeAnd (record_of other self.old.live)
-            (λ r. CanBeDropped r self.old.shared) }
+            (λ r. CanBeDropped B.body r self.old) }
+        requires places { IfSome (record_of other self.old.live)
+            (λ r. StandInPlaces (B.body.tell self.old.code) (B.events_held r.body) r.body) }
         requires room { HasUnitRoom self.old }
-        requires held { AreAllKept (2 ^ 40) (held self.old.shared.happen) }
-        requires number { length self.old.shared.happen.events + most_scopes ≤ 2 ^ 62 }
-        ensures becomes { BecomesWith most_scopes
+        requires number { length self.old.shared.happen.events + most_scopes < 2 ^ 62 }
+        ensures becomes { Becomes B.body
             (λ s. processes.tell signal.Done (processes.drop_process other value s))
             self.old self.new }
     {
@@ -72,18 +81,9 @@ impl<B: Body> Parts<B> {
             Some(target) => stop_waiting(self.shared.happen_mut(), other, target),
             None => unreachable!(),
         }
-        match self.processes.take(other) {
-            Some(record) => {
-                let mut ending = record;
-                leave_scopes(&mut self.shared, &mut ending);
-                ending.end();
-            }
-            None => unreachable!(),
-        }
-        match self.shared.happen_mut().succeed(EventId(other.0), value) {
-            Ok(()) => self.tell(event, process, Signal::Done),
-            Err(_) => unreachable!(),
-        }
+        self.leave_scopes(other);
+        self.end_process(other, Outcome::Ok(value));
+        self.tell(event, process, Signal::Done);
     }
 
     /// The running process has another one end at once, which is told nothing, unless that has ended or is itself. The
@@ -98,11 +98,12 @@ impl<B: Body> Parts<B> {
     )
         requires running { IsRunningIn event process self.old.control }
         requires can { IfSome (record_of other self.old.live)
-            (λ r. CanBeDropped r self.old.shared) }
+            (λ r. CanBeDropped B.body r self.old) }
+        requires places { IfSome (record_of other self.old.live)
+            (λ r. StandInPlaces (B.body.tell self.old.code) (B.events_held r.body) r.body) }
         requires room { HasUnitRoom self.old }
-        requires held { AreAllKept (2 ^ 40) (held self.old.shared.happen) }
-        requires number { length self.old.shared.happen.events + most_scopes ≤ 2 ^ 62 }
-        ensures becomes { BecomesWith most_scopes
+        requires number { length self.old.shared.happen.events + most_scopes < 2 ^ 62 }
+        ensures becomes { Becomes B.body
             (effect.to_another process other (processes.drop_process other value))
             self.old self.new }
     {

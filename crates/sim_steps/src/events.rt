@@ -1,5 +1,5 @@
 //! Events that a process makes, triggers and chains (SimPy's "Events").
-ghost use Rattle.std.specs.Prelude.{◌≡◌, ◌↔◌, ◌<◌, ◌^◌, length, is_none, IsFalse, IsTrue, IsSome, IsErr, OnOk, OnErr};
+ghost use Rattle.std.specs.Prelude.{◌≡◌, ◌↔◌, ◌<◌, ◌^◌, [], ◌∷◌, length, IsFalse, IsSome, IsErr, OnOk, OnErr};
 ghost use Rattle.sim_types.specs.declared.event.Callback.TheVariants as callback;
 ghost use Rattle.sim_types.specs.declared.op.Op.TheVariants as op;
 ghost use Rattle.sim_machine.specs.Effect as effect;
@@ -7,7 +7,8 @@ ghost use Rattle.sim_machine.specs.Processes as processes;
 ghost use Rattle.sim_machine.specs.Triggering as triggering;
 ghost use Rattle.sim_events.specs.TableOf.{IsKept, kept_at};
 ghost use Rattle.sim_happen_model.specs.Shows.{Follows};
-ghost use Rattle.sim_steps_model.specs.Becoming.{Becomes};
+ghost use Rattle.sim_happen_model.specs.HappenOf.{AreHeldByFew};
+ghost use Rattle.sim_steps_model.specs.Becoming.{Becomes, BecomesOwing, BecomesWith, IsOwing};
 ghost use Rattle.sim_steps_model.specs.Calling.{called};
 ghost use Rattle.sim_steps_model.specs.PartsOf.{IsCalling, IsRunningIn, KeepsButHappen, plan_of};
 
@@ -68,7 +69,8 @@ impl<B: Body> Parts<B> {
         requires running { IsRunningIn event process self.old.control }
         requires room { 0 < self.old.shared.happen.spare.events }
         requires number { length self.old.shared.happen.events < 2 ^ 62 }
-        ensures becomes { Becomes (effect.effect (plan_of B.body self.old) process op.NewEvent)
+        ensures becomes { Becomes B.body
+            (effect.effect (plan_of B.body self.old) process op.NewEvent)
             self.old self.new }
     {
         let made = self.shared.happen_mut().make(EventKind::Plain);
@@ -110,7 +112,8 @@ impl<B: Body> Parts<B> {
         requires kept { IsKept self.old.shared.happen.events triggered }
         requires not_cancelled { IsFalse
             (kept_at self.old.shared.happen.events triggered).event.cancelled }
-        ensures becomes { Becomes (effect.trigger_pending triggered outcome) self.old self.new }
+        ensures becomes { Becomes B.body
+            (effect.trigger_pending triggered outcome) self.old self.new }
     {
         match self.trigger(triggered, outcome) {
             Ok(()) => self.tell(event, process, Signal::Done),
@@ -118,45 +121,8 @@ impl<B: Body> Parts<B> {
         }
     }
 
-    // An event that is pending gets the outcome of another, if that has one. One that is not pending stays as it is.
-    fn pass_on(&mut self, outcome: Option<Outcome>, event: EventId)
-        requires kept { IsKept self.old.shared.happen.events event }
-        requires not_cancelled { IsFalse
-            (kept_at self.old.shared.happen.events event).event.cancelled }
-        ensures follows { Follows (effect.pass_on outcome event)
-            self.old.shared.happen self.new.shared.happen }
-        ensures rest { KeepsButHappen self.old self.new }
-    {
-        match outcome {
-            None => {}
-            Some(x) => {
-                let _triggered = self.trigger(event, x);
-            }
-        }
-    }
-
-    // The running process chains two events, the first of which is processed: its outcome is passed on at once.
-    fn pass_now(&mut self, event: EventId, process: ProcId, source: EventId, other: EventId)
-        requires running { IsRunningIn event process self.old.control }
-        requires source { IsKept self.old.shared.happen.events source }
-        requires processed { IsTrue
-            (kept_at self.old.shared.happen.events source).event.processed }
-        requires other { IsKept self.old.shared.happen.events other }
-        requires not_cancelled { IsFalse
-            (kept_at self.old.shared.happen.events other).event.cancelled }
-        ensures becomes { Becomes (effect.chain source other) self.old self.new }
-    {
-        match self.outcome(other) {
-            Some(_) => self.tell(event, process, Signal::Raised(ALREADY_TRIGGERED)),
-            None => {
-                self.pass_on(self.outcome(source), other);
-                self.tell(event, process, Signal::Done);
-            }
-        }
-    }
-
-    /// The running process chains two events: once the first is processed, it passes its outcome on to the other. A
-    /// processed one does so at once.
+    /// The running process chains two events: once the first is processed, it passes its outcome on to the other, which is held
+    /// until then. A processed one does so at once.
     #[inline(never)]
     pub(crate) fn chain(&mut self, event: EventId, process: ProcId, source: EventId, other: EventId)
         requires running { IsRunningIn event process self.old.control }
@@ -164,31 +130,28 @@ impl<B: Body> Parts<B> {
         requires other { IsKept self.old.shared.happen.events other }
         requires not_cancelled { IsFalse
             (kept_at self.old.shared.happen.events other).event.cancelled }
+        requires few { AreHeldByFew self.old.shared.happen.events }
         requires room { 0 < self.old.shared.happen.spare.callbacks }
-        ensures becomes { Becomes (effect.chain source other) self.old self.new }
+        ensures becomes { BecomesWith B.body 1 (effect.chain source other) self.old self.new }
     {
-        if self.is_processed(source) {
-            self.pass_now(event, process, source, other);
-        } else {
-            self.shared
-                .happen_mut()
-                .register(source, Callback::Trigger(other));
-            self.tell(event, process, Signal::Done);
+        match self.shared.happen_mut().chain(source, other) {
+            Ok(()) => self.tell(event, process, Signal::Done),
+            Err(AlreadyTriggered) => self.tell(event, process, Signal::Raised(ALREADY_TRIGGERED)),
         }
     }
 
-    /// The event passes its outcome on to another.
+    /// The event passes its outcome on to another, which was held for this and is held no more then.
     #[inline(never)]
     pub(crate) fn call_trigger(&mut self, event: EventId, other: EventId)
         requires calling { IsCalling event self.old.control }
         requires kept { IsKept self.old.shared.happen.events event }
-        requires other { IsKept self.old.shared.happen.events other }
         requires not_cancelled { IsFalse
             (kept_at self.old.shared.happen.events other).event.cancelled }
-        ensures becomes { Becomes
+        requires owing { IsOwing B.body (other ∷ []) self.old }
+        ensures owes { BecomesOwing B.body (other ∷ []) [] 0
             (called (plan_of B.body self.old) event (callback.Trigger other))
             self.old self.new }
     {
-        self.pass_on(self.outcome(event), other);
+        self.shared.happen_mut().trigger(other, event);
     }
 }

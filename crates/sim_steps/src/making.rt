@@ -1,9 +1,8 @@
 //! What is made where a kernel is opened.
-ghost use Rattle.std.specs.Prelude.{◌≡◌, ◌<◌, ◌≤◌, ◌^◌, ◌+◌, pos, ◌≤ℤ◌, length, OnOk};
+ghost use Rattle.std.specs.Prelude.{◌≡◌, ◌<◌, ◌≤◌, ◌^◌, ◌+◌, pos, ◌≤ℤ◌, length, replicate, [], ◌∷◌, OnOk, Some};
 ghost use Rattle.sim_machine.specs.Runs.{first_calendar};
 ghost use Rattle.sim_happen_model.specs.HappenOf.{held};
 ghost use Rattle.sim_happen_model.specs.Shows.{Shows};
-ghost use Rattle.sim_steps_model.specs.Becoming.{AreAllKept};
 ghost use Rattle.sim_steps_model.specs.Opening.{next_process, next_init, MakesProcess, CanStop, SetsStop};
 
 use sim_happen::Happen;
@@ -13,18 +12,19 @@ use std::alloc::AllocError;
 /// The priority of what comes first at a time (SimPy's URGENT).
 const URGENT: u8 = 0;
 
-/// Makes so many named events. So far event 0 alone is there.
+/// Makes so many named events, each of which is held for good. So far event 0 alone is there, which is held.
 pub(crate) fn make_named(happen: &mut Happen, named: u64) -> Result<(), AllocError>
     requires few { named ≤ 1024 }
     requires first { Shows happen.old (first_calendar 0) }
-    requires held { AreAllKept 1 (held happen.old) }
+    requires held { held happen.old ≡ Some 1 ∷ [] }
     ensures shows { OnOk result (Shows happen.new (first_calendar named)) }
     ensures left { happen.new.left ≡ happen.old.left }
-    ensures kept { AreAllKept 1 (held happen.new) }
+    ensures held { OnOk result (held happen.new ≡ replicate (named + 1) (Some 1)) }
 {
     for made in 0..named {
         happen.reserve(1, 0)?;
-        happen.make(EventKind::Plain);
+        let event = happen.make(EventKind::Plain);
+        happen.hold(event);
     }
     Ok(())
 }

@@ -1,13 +1,13 @@
-ghost use Rattle.std.specs.Prelude.{◌≡◌, ◌+◌, ◌<◌, ◌≤◌, ◌^◌, pos, length, IfOk, OnOk, OnErr, IsTrue};
+ghost use Rattle.std.specs.Prelude.{◌≡◌, ◌+◌, ◌<◌, ◌≤◌, ◌^◌, [], pos, length, IfOk, OnOk, OnErr, IsTrue};
 ghost use Rattle.std.specs.List.{AllPass};
 ghost use Rattle.sim_types.specs.Setups.{resource_fits};
-ghost use Rattle.sim_machine.specs.Runs.{blank_state};
+ghost use Rattle.sim_machine.specs.Runs.{blank_state, start_process};
 ghost use Rattle.sim_machine.specs.Setups.{FitsCode, start_fits};
 ghost use Rattle.sim_happen_model.specs.HappenOf.{held};
-ghost use Rattle.sim_steps_model.specs.Becoming.{AreAllKept};
+ghost use Rattle.sim_steps_model.specs.Becoming.{AreFew, BecomesWith};
 ghost use Rattle.sim_steps_model.specs.PartsOf.{KeepsButHappen, KeepsButRoom, plan_of};
-ghost use Rattle.sim_steps_model.specs.StandsFor.{StandsFor};
-ghost use Rattle.sim_steps_model.specs.Opening.{CanStop, IsOpening, Starts, SetsStop, KeepsButProcesses};
+ghost use Rattle.sim_steps_model.specs.StandsFor.{Balances, StandsFor};
+ghost use Rattle.sim_steps_model.specs.Opening.{CanStop, IsOpening, SetsStop, KeepsButProcesses, most_begun};
 
 use crate::making::{make_named, set_stop};
 use crate::parts::Parts;
@@ -34,7 +34,9 @@ impl<B: Body> Parts<B> {
         ensures setup { IfOk result (λ p. p.setup ≡ setup.now) }
         ensures seed { IfOk result (λ p. p.seed ≡ seed) }
         ensures stands { IfOk result (λ p. StandsFor p (blank_state (plan_of B.body p))) }
-        ensures kept { IfOk result (λ p. AreAllKept 1 (held p.shared.happen)) }
+        ensures balances { IfOk result
+            (λ p. Balances B.body [] p (blank_state (plan_of B.body p))) }
+        ensures few { IfOk result (λ p. AreFew 1 (held p.shared.happen)) }
     {
         let mut shared = Shared::new(alloc, &setup.resources)?;
         make_named(shared.happen_mut(), setup.events)?;
@@ -61,12 +63,14 @@ impl<B: Body> Parts<B> {
         requires code { code.now ≡ self.old.code }
         requires setup { FitsCode (B.body.facts code.now) self.old.setup }
         requires fits { IsTrue (start_fits (B.body.facts code.now) start.now) }
-        requires opening { IsOpening self.old }
+        requires opening { IsOpening B.body self.old }
         requires number { length self.old.shared.happen.events + 2 ≤ 2 ^ 62 }
+        requires few { AreFew (2 ^ 40) (held self.old.shared.happen) }
         ensures kept { KeepsButProcesses self.old self.new }
         ensures err { OnErr result (KeepsButRoom self.old self.new) }
-        ensures starts { OnOk result (Starts B.body start.now self.old self.new) }
-        ensures opening { OnOk result (IsOpening self.new) }
+        ensures starts { OnOk result (BecomesWith B.body most_begun
+            (λ s. start_process (plan_of B.body self.old) s start.now) self.old self.new) }
+        ensures opening { OnOk result (IsOpening B.body self.new) }
     {
         self.shared.happen_mut().reserve(2, 1)?;
         self.reserve_process(code)?;

@@ -2,7 +2,7 @@ ghost use Rattle.std.specs.Prelude.{◌≡◌, ◌≢◌, ◌+◌, ◌<◌, ◌�
 ghost use Rattle.sim_machine.specs.Processes.{told_more, not_active};
 ghost use Rattle.sim_machine.specs.Setups.{FitsCode};
 ghost use Rattle.sim_happen_model.specs.HappenOf.{held};
-ghost use Rattle.sim_steps_model.specs.Becoming.{AreAllKept, Moves};
+ghost use Rattle.sim_steps_model.specs.Becoming.{AreFew, Moves};
 ghost use Rattle.sim_steps_model.specs.Resting.{CanStep, rest_in};
 ghost use Rattle.sim_steps_model.specs.PartsOf.{HasUnitRoom, IsRunningIn, IsRunningAt, KeepsButRoom};
 ghost use Rattle.sim_steps_model.specs.StandsFor.{StandsForSome};
@@ -34,7 +34,8 @@ pub struct Parts<B: Body> {
 }
 
 impl<B: Body> Model for Parts<B> {
-    ghost use Rattle.sim_steps_model.specs.PartsOf.{PartsOf, control_of, room_with, AreSoundParts};
+    ghost use Rattle.std.specs.Prelude.{is_some};
+    ghost use Rattle.sim_steps_model.specs.PartsOf.{PartsOf, control_of, AreSoundParts};
 
     ghost Value = { PartsOf B B.Code };
 
@@ -47,10 +48,12 @@ impl<B: Body> Model for Parts<B> {
       code = a.code.value;
       setup = a.setup.value;
       seed = a.seed.value;
-      spare = room_with a.ready a.processes.spare;
+      spare = a.processes.spare;
+      ready = is_some a.ready;
     } };
 
-    ghost invariant = { λ a. AreSoundParts a.mode a.shared a.ports.items a.setup.value };
+    ghost invariant = { λ a. AreSoundParts a.mode a.shared a.ports.items a.setup.value
+        (B.is_for a.code.value) a.ready };
 }
 
 impl<B: Body> Parts<B> {
@@ -64,6 +67,7 @@ impl<B: Body> Parts<B> {
     // Makes room for all that one unit takes.
     #[inline(never)]
     fn make_room(&mut self, code: &B::Code) -> Result<(), AllocError>
+        requires { code.now ≡ self.old.code }
         ensures kept { KeepsButRoom self.old self.new }
         ensures room { OnOk result (HasUnitRoom self.new) }
     {
@@ -73,6 +77,7 @@ impl<B: Body> Parts<B> {
 
     /// Makes room for all that one unit takes. Mostly it is there, which one test tells.
     pub fn reserve(&mut self, code: &B::Code) -> Result<(), AllocError>
+        requires { code.now ≡ self.old.code }
         ensures kept { KeepsButRoom self.old self.new }
         ensures room { OnOk result (HasUnitRoom self.new) }
     {
@@ -131,11 +136,12 @@ impl<B: Body> Parts<B> {
         requires can { CanStep self.old }
         requires fits { FitsCode (B.body.facts code.now) self.old.setup }
         requires room { HasUnitRoom self.old }
-        requires kept { AreAllKept (2 ^ 40) (held self.old.shared.happen) }
+        requires few { AreFew (2 ^ 40) (held self.old.shared.happen) }
         requires events { length self.old.shared.happen.events + 40 ≤ 2 ^ 62 }
         requires processed { self.old.processed < 2 ^ 62 }
         ensures moves { Moves B.body self.old result self.new }
     {
+        let _slots = self.slots();
         match self.mode {
             Mode::Idle => self.pop(),
             Mode::Calling(event) => {

@@ -1,11 +1,15 @@
 //! A process is polled, and what it asks for is done.
-ghost use Rattle.std.specs.Prelude.{◌≡◌, ◌+◌, ◌<◌, ◌≤◌, ◌^◌, IsTrue, length};
+ghost use Rattle.std.specs.Prelude.{◌≡◌, ◌+◌, ◌<◌, ◌≤◌, ◌^◌, [], length, IsSome};
 ghost use Rattle.sim_machine.specs.Setups.{FitsCode};
-ghost use Rattle.sim_steps_model.specs.Becoming.{AreAllKept, Moves};
-ghost use Rattle.sim_steps_model.specs.PartsOf.{HasUnitRoom, IsRunning};
-ghost use Rattle.sim_steps_model.specs.Polling.{Asks, NamesKept};
+ghost use Rattle.sim_events.specs.TableOf.{AreNeeded};
+ghost use Rattle.sim_happen_model.specs.HappenOf.{AreHeldByFew, held};
+ghost use Rattle.sim_procs.specs.RecordOf.{record_of};
+ghost use Rattle.sim_steps_model.specs.Becoming.{AreFew, IsOwing, Moves};
+ghost use Rattle.sim_steps_model.specs.Dropping.{CanLeave};
+ghost use Rattle.sim_steps_model.specs.PartsOf.{HasUnitRoom, IsRunning, IsRunningIn};
+ghost use Rattle.sim_steps_model.specs.Polling.{Asks, AsksOwing, DoesAsked, NamesKept, event_placed, place_given};
+ghost use Rattle.sim_steps_model.specs.Resources.{AreResourcesReady};
 ghost use Rattle.sim_steps_model.specs.StandsFor.{StandsForSome};
-ghost use Rattle.sim_happen_model.specs.HappenOf.{held};
 
 use crate::parts::Parts;
 use sim_procs::Body;
@@ -20,45 +24,78 @@ impl<B: Body> Parts<B> {
         requires running { IsRunning event process told self.old.control }
         requires events { length self.old.shared.happen.events < 2 ^ 62 }
         ensures asked { Asks B.body process told self.old result self.new }
+        ensures happen { self.new.shared.happen ≡ self.old.shared.happen }
         ensures resources { self.new.shared.setup ≡ self.new.setup.resources }
     {
         let time = self.shared.happen().now();
         self.processes.body_mut(process).poll(code, time, told)
     }
 
-    // Polls the running process: what it asks for names events that are kept.
-    fn ask(&mut self, code: &B::Code, event: EventId, process: ProcId, told: Signal) -> Op
-        requires code { code.now ≡ self.old.code }
-        requires stands { StandsForSome B.body self.old }
-        requires running { IsRunning event process told self.old.control }
-        requires fits { FitsCode (B.body.facts code.now) self.old.setup }
-        requires kept { AreAllKept (2 ^ 40) (held self.old.shared.happen) }
-        requires events { length self.old.shared.happen.events < 2 ^ 62 }
-        ensures asked { Asks B.body process told self.old result self.new }
-        ensures resources { self.new.shared.setup ≡ self.new.setup.resources }
-        ensures names { NamesKept (B.body.facts code.now) result self.new }
-    {
-        self.poll_body(code, event, process, told)
-    }
-
-    /// Polls the running process, and does what it asks for.
-    pub(crate) fn poll(
+    // Polls the running process, and takes a holder of what then stands in the place that changes. What it asks for names
+    // events that are kept.
+    fn ask(
         &mut self,
         code: &B::Code,
         event: EventId,
         process: ProcId,
         told: Signal,
+        place: Option<u8>,
+    ) -> Op
+        requires code { code.now ≡ self.old.code }
+        requires stands { StandsForSome B.body self.old }
+        requires running { IsRunning event process told self.old.control }
+        requires place { place
+            ≡ place_given (B.told_place code.now) told (record_of process self.old.live) }
+        requires fits { FitsCode (B.body.facts code.now) self.old.setup }
+        requires few { AreFew (2 ^ 40) (held self.old.shared.happen) }
+        requires needed { AreNeeded self.old.shared.happen.events }
+        requires room { HasUnitRoom self.old }
+        requires events { length self.old.shared.happen.events + 40 ≤ 2 ^ 62 }
+        ensures asked { AsksOwing B.body process told
+            (event_placed B.events_held place (record_of process self.old.live))
+            self.old result self.new }
+        ensures resources { self.new.shared.setup ≡ self.new.setup.resources }
+        ensures names { NamesKept (B.body.facts code.now) result self.new }
+        ensures running { IsRunningIn event process self.new.control }
+        ensures alive { IsSome (record_of process self.new.live) }
+        ensures ready { AreResourcesReady self.new }
+        ensures room { HasUnitRoom self.new }
+        ensures number { length self.new.shared.happen.events + 40 ≤ 2 ^ 62 }
+        ensures few { AreFew (2 ^ 41) (held self.new.shared.happen) }
+        ensures holders { AreHeldByFew self.new.shared.happen.events }
+        ensures owing { IsOwing B.body [] self.new }
+        ensures can { CanLeave B.body self.new }
+    {
+        let asked = self.poll_body(code, event, process, told);
+        let now = self.event_in(process, place);
+        self.hold(now);
+        asked
+    }
+
+    // Polls the running process, and does what it asks for. What stood in the place that changed is still to be given back.
+    fn do_asked(
+        &mut self,
+        code: &B::Code,
+        event: EventId,
+        process: ProcId,
+        told: Signal,
+        place: Option<u8>,
     ) -> Unit
         requires code { code.now ≡ self.old.code }
         requires stands { StandsForSome B.body self.old }
         requires running { IsRunning event process told self.old.control }
+        requires place { place
+            ≡ place_given (B.told_place code.now) told (record_of process self.old.live) }
         requires fits { FitsCode (B.body.facts code.now) self.old.setup }
         requires room { HasUnitRoom self.old }
-        requires kept { AreAllKept (2 ^ 40) (held self.old.shared.happen) }
+        requires few { AreFew (2 ^ 40) (held self.old.shared.happen) }
+        requires needed { AreNeeded self.old.shared.happen.events }
         requires events { length self.old.shared.happen.events + 40 ≤ 2 ^ 62 }
-        ensures moves { Moves B.body self.old result self.new }
+        ensures does { DoesAsked B.body process
+            (event_placed B.events_held place (record_of process self.old.live))
+            self.old result self.new }
     {
-        match self.ask(code, event, process, told) {
+        match self.ask(code, event, process, told, place) {
             Op::Nop => self.tell(event, process, Signal::Done),
             Op::Timeout(delay, value) => self.timeout(event, process, delay, value),
             Op::Pause(delay, value) => self.pause(event, process, delay, value),
@@ -112,5 +149,29 @@ impl<B: Body> Parts<B> {
             }
         }
         Unit::Quiet
+    }
+    /// Polls the running process, does what it asks for, and gives back what its body names no more.
+    pub(crate) fn poll(
+        &mut self,
+        code: &B::Code,
+        event: EventId,
+        process: ProcId,
+        told: Signal,
+    ) -> Unit
+        requires code { code.now ≡ self.old.code }
+        requires stands { StandsForSome B.body self.old }
+        requires running { IsRunning event process told self.old.control }
+        requires fits { FitsCode (B.body.facts code.now) self.old.setup }
+        requires room { HasUnitRoom self.old }
+        requires few { AreFew (2 ^ 40) (held self.old.shared.happen) }
+        requires needed { AreNeeded self.old.shared.happen.events }
+        requires events { length self.old.shared.happen.events + 40 ≤ 2 ^ 62 }
+        ensures moves { Moves B.body self.old result self.new }
+    {
+        let place = self.place_told(code, process, told);
+        let left = self.event_in(process, place);
+        let unit = self.do_asked(code, event, process, told, place);
+        self.unhold(left);
+        unit
     }
 }

@@ -1,17 +1,17 @@
 //! Processes: how they are made, interrupted and ended (SimPy's "Process interaction").
-ghost use Rattle.std.specs.Prelude.{◌≡◌, ◌<◌, ◌≤◌, ◌≤ℤ◌, ◌+◌, ◌^◌, pos, length, [], IfSome, IsSomeAnd, OnOk, None};
+ghost use Rattle.std.specs.Prelude.{◌≡◌, ◌<◌, ◌≤◌, ◌≤ℤ◌, ◌+◌, ◌^◌, pos, length, [], IfSome, IsSomeAnd, IsTrue, OnOk, None};
 ghost use Rattle.sim_types.specs.declared.event.Callback.TheVariants as callback;
 ghost use Rattle.sim_types.specs.declared.op.Op.TheVariants as op;
-ghost use Rattle.sim_machine.specs.Bodies.{start_of};
 ghost use Rattle.sim_machine.specs.Effect as effect;
 ghost use Rattle.sim_machine.specs.Processes as processes;
 ghost use Rattle.sim_procs.specs.Premises.{CanBegin};
 ghost use Rattle.sim_procs.specs.RecordOf.{record_of};
 ghost use Rattle.sim_events.specs.TableOf.{IsKept};
-ghost use Rattle.sim_happen_model.specs.HappenOf.{IsOpen};
-ghost use Rattle.sim_steps_model.specs.Becoming.{Becomes};
+ghost use Rattle.sim_happen_model.specs.HappenOf.{IsOpen, held};
+ghost use Rattle.sim_steps_model.specs.Becoming.{AreFew, Becomes, BecomesWith, IsOwing};
 ghost use Rattle.sim_steps_model.specs.Calling.{called};
-ghost use Rattle.sim_steps_model.specs.Opening.{Begins, next_process};
+ghost use Rattle.sim_steps_model.specs.Holding.{StandInPlaces};
+ghost use Rattle.sim_steps_model.specs.Opening.{AreArgumentsKept, KeepsButProcesses, most_begun, next_process};
 ghost use Rattle.sim_steps_model.specs.PartsOf.{HasUnitRoom, IsCalling, IsRunningIn, plan_of};
 
 use crate::making::make_process;
@@ -27,8 +27,11 @@ use std::alloc::AllocError;
 impl<B: Body> Parts<B> {
     /// Makes room for one more process, whose body is there then, yet to be filled.
     pub(crate) fn reserve_process(&mut self, code: &B::Code) -> Result<(), AllocError>
-        ensures rest { self.new ≡ record self.old { spare = self.new.spare } }
+        requires { code.now ≡ self.old.code }
+        ensures rest { self.new
+            ≡ record self.old { spare = self.new.spare; ready = self.new.ready } }
         ensures room { OnOk result (1 ≤ self.new.spare) }
+        ensures ready { OnOk result (IsTrue self.new.ready) }
     {
         self.processes.reserve()?;
         if self.ready.is_none() {
@@ -45,20 +48,26 @@ impl<B: Body> Parts<B> {
         requires events { 2 ≤ self.old.shared.happen.spare.events }
         requires callbacks { 1 ≤ self.old.shared.happen.spare.callbacks }
         requires record_room { 1 ≤ self.old.spare }
+        requires ready { IsTrue self.old.ready }
         requires number { length self.old.shared.happen.events + 2 ≤ 2 ^ 62 }
         requires time { self.old.shared.happen.time ≤ℤ pos (2 ^ 62) }
         requires not_alive { record_of (next_process self.old.shared.happen) self.old.live ≡ None }
+        requires few { AreFew (2 ^ 41) (held self.old.shared.happen) }
+        requires kept { AreArgumentsKept (B.body.facts code.now) kind args
+            self.old.shared.happen.events }
         ensures process { result ≡ next_process self.old.shared.happen }
-        ensures begins { Begins
-            (start_of B.body self.old.code kind args (next_process self.old.shared.happen))
-            self.old self.new }
+        ensures becomes { BecomesWith B.body most_begun
+            (processes.make_process (plan_of B.body self.old) kind args) self.old self.new }
+        ensures kept { KeepsButProcesses self.old self.new }
     {
         let (process, init) = make_process(self.shared.happen_mut());
+        self.hold(init);
         match self.ready.take() {
             Some(blank) => {
                 let mut body = blank;
                 body.fill(code, kind, args);
                 body.own(process);
+                self.hold_places(&body);
                 self.processes.add(process, body, init);
             }
             None => unreachable!(),
@@ -83,7 +92,10 @@ impl<B: Body> Parts<B> {
         requires number { length self.old.shared.happen.events + 2 ≤ 2 ^ 62 }
         requires time { self.old.shared.happen.time ≤ℤ pos (2 ^ 62) }
         requires not_alive { record_of (next_process self.old.shared.happen) self.old.live ≡ None }
-        ensures becomes { Becomes
+        requires few { AreFew (2 ^ 41) (held self.old.shared.happen) }
+        requires kept { AreArgumentsKept (B.body.facts code.now) kind args
+            self.old.shared.happen.events }
+        ensures becomes { BecomesWith B.body most_begun
             (effect.effect (plan_of B.body self.old) process (op.Spawn kind args))
             self.old self.new }
     {
@@ -97,7 +109,7 @@ impl<B: Body> Parts<B> {
         requires running { IsRunningIn event process self.old.control }
         requires room { HasUnitRoom self.old }
         requires number { length self.old.shared.happen.events < 2 ^ 62 }
-        ensures becomes { Becomes
+        ensures becomes { Becomes B.body
             (effect.effect (plan_of B.body self.old) process (op.Interrupt other cause))
             self.old self.new }
     {
@@ -123,7 +135,8 @@ impl<B: Body> Parts<B> {
         requires kept { IsKept self.old.shared.happen.events event }
         requires target { IfSome (record_of process self.old.live)
             (λ r. IsKept self.old.shared.happen.events r.target) }
-        ensures becomes { Becomes (called (plan_of B.body self.old) event (callback.Strike process))
+        ensures becomes { Becomes B.body
+            (called (plan_of B.body self.old) event (callback.Strike process))
             self.old self.new }
     {
         let told = self.signal_of(event);
@@ -140,17 +153,39 @@ impl<B: Body> Parts<B> {
     pub(crate) fn end(&mut self, event: EventId, process: ProcId, outcome: Outcome)
         requires running { IsRunningIn event process self.old.control }
         requires alive { IsSomeAnd (record_of process self.old.live) (λ r. r.scopes ≡ []) }
+        requires places { IfSome (record_of process self.old.live)
+            (λ r. StandInPlaces (B.body.tell self.old.code) (B.events_held r.body) r.body) }
         requires is_open { IsOpen self.old.shared.happen (processes.event_of process) }
-        ensures becomes { Becomes (λ s. processes.rest (processes.end_process process outcome s))
+        requires owing { IsOwing B.body [] self.old }
+        ensures becomes { Becomes B.body
+            (λ s. processes.rest (processes.end_process process outcome s))
             self.old self.new }
     {
+        self.end_process(process, outcome);
+        self.rest(event);
+    }
+
+    /// A process that has no open scope ends: it is no longer alive, and its event gets this outcome.
+    pub(crate) fn end_process(&mut self, process: ProcId, outcome: Outcome)
+        requires alive { IsSomeAnd (record_of process self.old.live) (λ r. r.scopes ≡ []) }
+        requires places { IfSome (record_of process self.old.live)
+            (λ r. StandInPlaces (B.body.tell self.old.code) (B.events_held r.body) r.body) }
+        requires is_open { IsOpen self.old.shared.happen (processes.event_of process) }
+        requires owing { IsOwing B.body [] self.old }
+        ensures becomes { Becomes B.body (processes.end_process process outcome) self.old self.new }
+        ensures control { self.new.control ≡ self.old.control }
+    {
         match self.processes.take(process) {
-            Some(record) => record.end(),
+            Some(record) => {
+                match self.trigger(EventId(process.0), outcome) {
+                    Ok(()) => {}
+                    Err(_) => unreachable!(),
+                }
+                self.unhold(record.target());
+                self.unhold_places(record.body());
+                record.end();
+            }
             None => unreachable!(),
-        }
-        match self.trigger(EventId(process.0), outcome) {
-            Ok(()) => self.rest(event),
-            Err(_) => unreachable!(),
         }
     }
 }

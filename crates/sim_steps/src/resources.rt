@@ -1,20 +1,19 @@
 //! What processes ask of resources, and the tries that follow (SimPy's "Shared resources").
-ghost use Rattle.std.specs.Prelude.{◌≡◌, ◌<◌, ◌^◌, [], ◌∷◌, length, option_and_then, IsSome, IsSomeAnd, IfNone, IfSome};
+ghost use Rattle.std.specs.Prelude.{◌≡◌, ◌<◌, ◌^◌, [], ◌∷◌, length, option_and_then, None, IsSome, IsSomeAnd, IfNone, IfSome};
 ghost use Rattle.sim_types.specs.declared.event.Callback.TheVariants as callback;
 ghost use Rattle.sim_types.specs.declared.op.Op.TheVariants as op;
 ghost use Rattle.sim_machine.specs.Effect as effect;
 ghost use Rattle.sim_machine.specs.MayAsk.{most_scopes};
 ghost use Rattle.sim_machine.specs.Requests as requests;
-ghost use Rattle.sim_procs.specs.RecordOf.{record_of, innermost, scope_of};
+ghost use Rattle.sim_procs.specs.RecordOf.{record_of, scope_of};
 ghost use Rattle.sim_events.specs.TableOf.{IsKept, kept_at};
 ghost use Rattle.sim_happen_model.specs.HappenOf.{held};
-ghost use Rattle.sim_steps_model.specs.Becoming.{AreAllKept, Becomes, BecomesWith};
+ghost use Rattle.sim_steps_model.specs.Becoming.{AreFew, Becomes, BecomesWith, IsOwing};
 ghost use Rattle.sim_steps_model.specs.Calling.{called};
 ghost use Rattle.sim_steps_model.specs.Dropping.{CanLeave};
-ghost use Rattle.sim_steps_model.specs.PartsOf.{IsCalling, IsRunningIn, plan_of};
+ghost use Rattle.sim_steps_model.specs.PartsOf.{HasUnitRoom, IsCalling, IsRunningIn, plan_of};
 ghost use Rattle.sim_steps_model.specs.Resources.{AreResourcesReady, TakesMoves, TakesRequests, MakesMove, RefusesMove};
 
-use crate::dropping::leave_scope;
 use crate::parts::Parts;
 use sim_procs::Body;
 use sim_shared::{NotPositive, OwnVictim};
@@ -26,7 +25,8 @@ impl<B: Body> Parts<B> {
         requires calling { IsCalling event self.old.control }
         requires within { res < length self.old.setup.resources }
         requires ready { AreResourcesReady self.old }
-        ensures becomes { Becomes (called (plan_of B.body self.old) event (callback.TryPut res))
+        ensures becomes { Becomes B.body
+            (called (plan_of B.body self.old) event (callback.TryPut res))
             self.old self.new }
     {
         self.shared.try_put(res);
@@ -37,7 +37,8 @@ impl<B: Body> Parts<B> {
         requires calling { IsCalling event self.old.control }
         requires within { res < length self.old.setup.resources }
         requires ready { AreResourcesReady self.old }
-        ensures becomes { Becomes (called (plan_of B.body self.old) event (callback.TryGet res))
+        ensures becomes { Becomes B.body
+            (called (plan_of B.body self.old) event (callback.TryGet res))
             self.old self.new }
     {
         self.shared.try_get(res);
@@ -48,7 +49,8 @@ impl<B: Body> Parts<B> {
     pub(crate) fn count(&mut self, event: EventId, process: ProcId, res: u32)
         requires running { IsRunningIn event process self.old.control }
         requires within { res < length self.old.setup.resources }
-        ensures becomes { Becomes (effect.effect (plan_of B.body self.old) process (op.Count res))
+        ensures becomes { Becomes B.body
+            (effect.effect (plan_of B.body self.old) process (op.Count res))
             self.old self.new }
     {
         let count = self.shared.count(res);
@@ -67,9 +69,9 @@ impl<B: Body> Parts<B> {
         requires running { IsRunningIn event process self.old.control }
         requires resource { TakesMoves res self.old }
         requires ready { AreResourcesReady self.old }
-        ensures refused { IfNone result (RefusesMove (plan_of B.body self.old) res amount
+        ensures refused { IfNone result (RefusesMove B.body (plan_of B.body self.old) res amount
             (requests.make_put self.old.setup.resources res amount priority) self.old self.new) }
-        ensures made { IfSome result (λ e. MakesMove (plan_of B.body self.old) res amount
+        ensures made { IfSome result (λ e. MakesMove B.body (plan_of B.body self.old) res amount
             (requests.make_put self.old.setup.resources res amount priority) e self.old self.new) }
         ensures control { IfSome result (λ e. self.new.control ≡ self.old.control) }
         ensures live { IfSome result (λ e. self.new.live ≡ self.old.live) }
@@ -95,9 +97,9 @@ impl<B: Body> Parts<B> {
         requires running { IsRunningIn event process self.old.control }
         requires resource { TakesMoves res self.old }
         requires ready { AreResourcesReady self.old }
-        ensures refused { IfNone result (RefusesMove (plan_of B.body self.old) res least
+        ensures refused { IfNone result (RefusesMove B.body (plan_of B.body self.old) res least
             (requests.make_get self.old.setup.resources res least greatest) self.old self.new) }
-        ensures made { IfSome result (λ e. MakesMove (plan_of B.body self.old) res least
+        ensures made { IfSome result (λ e. MakesMove B.body (plan_of B.body self.old) res least
             (requests.make_get self.old.setup.resources res least greatest) e self.old self.new) }
         ensures control { IfSome result (λ e. self.new.control ≡ self.old.control) }
         ensures live { IfSome result (λ e. self.new.live ≡ self.old.live) }
@@ -124,7 +126,7 @@ impl<B: Body> Parts<B> {
         requires running { IsRunningIn event process self.old.control }
         requires resource { TakesMoves res self.old }
         requires ready { AreResourcesReady self.old }
-        ensures becomes { Becomes
+        ensures becomes { Becomes B.body
             (effect.effect (plan_of B.body self.old) process (op.Put res amount priority))
             self.old self.new }
     {
@@ -148,7 +150,9 @@ impl<B: Body> Parts<B> {
         requires alive { IsSome (record_of process self.old.live) }
         requires resource { TakesMoves res self.old }
         requires ready { AreResourcesReady self.old }
-        ensures becomes { Becomes
+        requires few { AreFew (2 ^ 41) (held self.old.shared.happen) }
+        requires owing { IsOwing B.body [] self.old }
+        ensures becomes { BecomesWith B.body 1
             (effect.effect (plan_of B.body self.old) process (op.PutWait res amount priority))
             self.old self.new }
     {
@@ -171,7 +175,7 @@ impl<B: Body> Parts<B> {
         requires running { IsRunningIn event process self.old.control }
         requires resource { TakesMoves res self.old }
         requires ready { AreResourcesReady self.old }
-        ensures becomes { Becomes
+        ensures becomes { Becomes B.body
             (effect.effect (plan_of B.body self.old) process (op.Get res least greatest))
             self.old self.new }
     {
@@ -195,7 +199,9 @@ impl<B: Body> Parts<B> {
         requires alive { IsSome (record_of process self.old.live) }
         requires resource { TakesMoves res self.old }
         requires ready { AreResourcesReady self.old }
-        ensures becomes { Becomes
+        requires few { AreFew (2 ^ 41) (held self.old.shared.happen) }
+        requires owing { IsOwing B.body [] self.old }
+        ensures becomes { BecomesWith B.body 1
             (effect.effect (plan_of B.body self.old) process (op.GetWait res least greatest))
             self.old self.new }
     {
@@ -205,18 +211,17 @@ impl<B: Body> Parts<B> {
         }
     }
 
-    /// An event that waits at a resource is cancelled, and stays kept. Of what does not wait nothing is done.
+    /// An event that waits at a resource is cancelled, and goes where nobody holds it. Of what does not wait nothing is done.
     #[inline(never)]
     pub(crate) fn cancel(&mut self, event: EventId, process: ProcId, cancelled: EventId)
         requires running { IsRunningIn event process self.old.control }
         requires kept { IsKept self.old.shared.happen.events cancelled }
-        requires few { (kept_at self.old.shared.happen.events cancelled).holders < 2 ^ 60 }
+        requires plain { (kept_at self.old.shared.happen.events cancelled).event.condition ≡ None }
         requires ready { AreResourcesReady self.old }
-        ensures becomes { BecomesWith 1
+        ensures becomes { Becomes B.body
             (effect.effect (plan_of B.body self.old) process (op.Cancel cancelled))
             self.old self.new }
     {
-        self.shared.happen_mut().hold(cancelled);
         self.shared.cancel(cancelled);
         self.tell(event, process, Signal::Done);
     }
@@ -237,12 +242,14 @@ impl<B: Body> Parts<B> {
             (λ r. length r.scopes < most_scopes) }
         requires resource { TakesRequests res self.old }
         requires ready { AreResourcesReady self.old }
-        ensures becomes { Becomes
+        requires few { AreFew (2 ^ 41) (held self.old.shared.happen) }
+        ensures becomes { BecomesWith B.body 1
             (effect.enter (plan_of B.body self.old) process res priority preempts)
             self.old self.new }
     {
         match self.shared.request(res, process, priority, preempts) {
             Ok(request) => {
+                self.hold(request);
                 self.processes.push_scope(process, Scope { request, res });
                 self.tell(event, process, Signal::Made(request));
             }
@@ -250,24 +257,20 @@ impl<B: Body> Parts<B> {
         }
     }
 
-    /// The innermost open scope of the running process is left: its request is cancelled where it waits, stays kept, and
-    /// is released in any case.
+    /// The innermost open scope of the running process is left: its request is cancelled where it waits, and is released in
+    /// any case.
     #[inline(never)]
     pub(crate) fn leave(&mut self, event: EventId, process: ProcId)
         requires running { IsRunningIn event process self.old.control }
-        requires scope { IsSomeAnd
-            (option_and_then (λ r. innermost r.scopes) (record_of process self.old.live))
-            (λ x. CanLeave (x ∷ []) self.old.shared) }
-        requires kept { AreAllKept (2 ^ 40) (held self.old.shared.happen) }
-        requires ready { AreResourcesReady self.old }
-        ensures becomes { BecomesWith 1
+        requires alive { IsSome (record_of process self.old.live) }
+        requires can { CanLeave B.body self.old }
+        requires room { HasUnitRoom self.old }
+        requires number { length self.old.shared.happen.events < 2 ^ 62 }
+        ensures becomes { Becomes B.body
             (effect.effect (plan_of B.body self.old) process op.Leave)
             self.old self.new }
     {
-        match self.processes.pop_scope(process) {
-            Some(scope) => leave_scope(&mut self.shared, scope),
-            None => unreachable!(),
-        }
+        self.leave_scope(process);
         self.tell(event, process, Signal::Done);
     }
 
@@ -277,9 +280,9 @@ impl<B: Body> Parts<B> {
         requires running { IsRunningIn event process self.old.control }
         requires scope { IsSomeAnd
             (option_and_then (λ r. scope_of request r.scopes) (record_of process self.old.live))
-            (λ x. CanLeave (x ∷ []) self.old.shared) }
+            (λ x. TakesRequests x.res self.old) }
         requires ready { AreResourcesReady self.old }
-        ensures becomes { Becomes
+        ensures becomes { Becomes B.body
             (effect.effect (plan_of B.body self.old) process (op.Release request))
             self.old self.new }
     {

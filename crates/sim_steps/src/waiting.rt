@@ -1,10 +1,12 @@
 //! Timeouts, and processes that wait (SimPy's "Events" and "Process interaction").
-ghost use Rattle.std.specs.Prelude.{◌≡◌, ◌<◌, ◌^◌, length, IsFalse, IsTrue, IsSome, IfNone, IfSome};
+ghost use Rattle.std.specs.Prelude.{◌≡◌, ◌<◌, ◌^◌, [], ◌∷◌, length, IsFalse, IsTrue, IsSome, IfNone, IfSome};
 ghost use Rattle.sim_machine.specs.Effect as effect;
 ghost use Rattle.sim_machine.specs.Processes as processes;
 ghost use Rattle.sim_procs.specs.RecordOf.{record_of};
 ghost use Rattle.sim_events.specs.TableOf.{IsKept, kept_at};
-ghost use Rattle.sim_steps_model.specs.Becoming.{Becomes};
+ghost use Rattle.sim_accounts.specs.Naming.{but_zero};
+ghost use Rattle.sim_happen_model.specs.HappenOf.{AreHeldByFew, held};
+ghost use Rattle.sim_steps_model.specs.Becoming.{AreFew, Becomes, BecomesOwing, BecomesWith, IsOwing};
 ghost use Rattle.sim_steps_model.specs.PartsOf.{IsRunningIn};
 ghost use Rattle.sim_steps_model.specs.Waiting.{MakesTimeout, RefusesTimeout};
 
@@ -14,20 +16,39 @@ use sim_procs::Body;
 use sim_types::{Callback, EventId, NEGATIVE_DELAY, ProcId, Signal, TIME_TOO_LATE};
 
 impl<B: Body> Parts<B> {
-    // The running process waits for an event that is not processed, and is resumed by it.
-    fn wait_for(&mut self, event: EventId, process: ProcId, on: EventId)
+    // The running process waits for an event that is not processed, and is resumed by it. The event was held for this, and what
+    // the process waited for before, which is the answer, is to be given back.
+    fn begin_to_wait(&mut self, event: EventId, process: ProcId, on: EventId) -> EventId
         requires running { IsRunningIn event process self.old.control }
         requires alive { IsSome (record_of process self.old.live) }
         requires kept { IsKept self.old.shared.happen.events on }
         requires unprocessed { IsFalse (kept_at self.old.shared.happen.events on).event.processed }
         requires room { 0 < self.old.shared.happen.spare.callbacks }
-        ensures becomes { Becomes (processes.wait on process) self.old self.new }
+        ensures owes { BecomesOwing B.body (but_zero (on ∷ [])) (but_zero (result ∷ [])) 0
+            (processes.wait on process) self.old self.new }
     {
         self.shared
             .happen_mut()
             .register(on, Callback::Resume(process));
-        self.processes.set_target(process, on);
+        let left = self.processes.replace_target(process, on);
         self.rest(event);
+        left
+    }
+
+    // The same, where the event is held first, and what the process waited for goes where nobody holds it any more.
+    fn wait_for(&mut self, event: EventId, process: ProcId, on: EventId)
+        requires running { IsRunningIn event process self.old.control }
+        requires alive { IsSome (record_of process self.old.live) }
+        requires kept { IsKept self.old.shared.happen.events on }
+        requires unprocessed { IsFalse (kept_at self.old.shared.happen.events on).event.processed }
+        requires few { AreHeldByFew self.old.shared.happen.events }
+        requires owing { IsOwing B.body [] self.old }
+        requires room { 0 < self.old.shared.happen.spare.callbacks }
+        ensures becomes { BecomesWith B.body 1 (processes.wait on process) self.old self.new }
+    {
+        self.hold(on);
+        let left = self.begin_to_wait(event, process, on);
+        self.unhold(left);
     }
 
     // The running process goes on at once, since the event is processed, and is told how that turned out. A failure that it
@@ -36,7 +57,7 @@ impl<B: Body> Parts<B> {
         requires running { IsRunningIn event process self.old.control }
         requires kept { IsKept self.old.shared.happen.events on }
         requires processed { IsTrue (kept_at self.old.shared.happen.events on).event.processed }
-        ensures becomes { Becomes (processes.wait on process) self.old self.new }
+        ensures becomes { Becomes B.body (processes.wait on process) self.old self.new }
     {
         let told = self.signal_of(on);
         self.defuse_failed(on);
@@ -48,8 +69,10 @@ impl<B: Body> Parts<B> {
         requires running { IsRunningIn event process self.old.control }
         requires alive { IsSome (record_of process self.old.live) }
         requires kept { IsKept self.old.shared.happen.events on }
+        requires few { AreHeldByFew self.old.shared.happen.events }
+        requires owing { IsOwing B.body [] self.old }
         requires room { 0 < self.old.shared.happen.spare.callbacks }
-        ensures becomes { Becomes (processes.wait on process) self.old self.new }
+        ensures becomes { BecomesWith B.body 1 (processes.wait on process) self.old self.new }
     {
         if self.is_processed(on) {
             self.go_on(event, process, on);
@@ -69,8 +92,8 @@ impl<B: Body> Parts<B> {
         requires running { IsRunningIn event process self.old.control }
         requires room { 0 < self.old.shared.happen.spare.events }
         requires number { length self.old.shared.happen.events < 2 ^ 62 }
-        ensures refused { IfNone result (RefusesTimeout delay value self.old self.new) }
-        ensures made { IfSome result (λ e. MakesTimeout delay value e self.old self.new) }
+        ensures refused { IfNone result (RefusesTimeout B.body delay value self.old self.new) }
+        ensures made { IfSome result (λ e. MakesTimeout B.body delay value e self.old self.new) }
         ensures callbacks { IfSome result (λ e. self.new.shared.happen.spare.callbacks
             ≡ self.old.shared.happen.spare.callbacks) }
     {
@@ -92,7 +115,7 @@ impl<B: Body> Parts<B> {
         requires running { IsRunningIn event process self.old.control }
         requires room { 0 < self.old.shared.happen.spare.events }
         requires number { length self.old.shared.happen.events < 2 ^ 62 }
-        ensures becomes { Becomes (effect.with_timeout delay value effect.tell_made)
+        ensures becomes { Becomes B.body (effect.with_timeout delay value effect.tell_made)
             self.old self.new }
     {
         match self.make_timeout(event, process, delay, value) {
@@ -108,7 +131,9 @@ impl<B: Body> Parts<B> {
         requires room_events { 0 < self.old.shared.happen.spare.events }
         requires room_callbacks { 0 < self.old.shared.happen.spare.callbacks }
         requires number { length self.old.shared.happen.events < 2 ^ 62 }
-        ensures becomes { Becomes
+        requires few { AreFew (2 ^ 41) (held self.old.shared.happen) }
+        requires owing { IsOwing B.body [] self.old }
+        ensures becomes { BecomesWith B.body 1
             (effect.with_timeout delay value (λ e s. processes.wait e process s))
             self.old self.new }
     {

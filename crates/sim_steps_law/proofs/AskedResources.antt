@@ -9,7 +9,7 @@ use Rattle.sim_types.specs.declared.event.Callback.{Callback}
 use Rattle.sim_types.specs.declared.event.Signal.{Signal}
 use Rattle.sim_types.specs.declared.op.Op.{Op}
 use Rattle.sim_types.specs.declared.setup.ResourceKind.{ResourceKind}
-use Rattle.sim_machine.specs.State.{Calendar, Control, Calling}
+use Rattle.sim_machine.specs.State.{EventOf, Calendar, Control, Calling}
 use Rattle.sim_machine.specs.Users.{resource_at}
 use Rattle.sim_machine.specs.Bodies.{BodyOf}
 use Rattle.sim_machine.specs.BodyLaw.{scopes_told}
@@ -19,8 +19,7 @@ use Rattle.sim_machine.specs.Standing.{left_of}
 use Rattle.sim_machine.specs.Tellings.{Place, CodeFacts}
 use Rattle.sim_machine.specs.LawfulTries.{tries_well}
 use Rattle.sim_machine_law.proofs.PolledMove.{has_resource_below, has_resource_of}
-use Rattle.sim_procs.specs.RecordOf.{RecordOf}
-use Rattle.sim_events.specs.TableOf.{Spare, kept_at}
+use Rattle.sim_events.specs.TableOf.{AreNeeded, Spare, kept_at}
 use Rattle.sim_events.specs.Changes.{more_callbacks}
 use Rattle.sim_happen_model.specs.HappenOf.{HappenOf, IsOpen, held}
 use Rattle.sim_happen_model.specs.Shows.{Shows}
@@ -31,12 +30,13 @@ use Rattle.sim_shared_model.specs.Making.{ShowsSome}
 use Rattle.sim_shared_model.specs.Waiting.{AreAllOpen}
 use Rattle.sim_steps_model.specs.PartsOf.{PartsOf, HasUnitRoom, IsRunning}
 use Rattle.sim_steps_model.specs.StandsFor.{StandsForSome}
-use Rattle.sim_steps_model.specs.Becoming.{AreAllKept, most_held}
+use Rattle.sim_steps_model.specs.Becoming.{AreFew, most_held}
 use Rattle.sim_steps_model.specs.Calling.{TakesCallback}
-use Rattle.sim_steps_model.specs.Polling.{Asks}
+use Rattle.sim_steps_model.specs.Holding.{TakesHolder}
+use Rattle.sim_steps_model.specs.Polling.{Asks, AsksOwing}
 use Rattle.sim_steps_model.specs.Resources.{AreResourcesReady, TakesMoves, TakesRequests}
-use Rattle.sim_steps_law.proofs.Keeping.{are_few}
-use Rattle.sim_steps_law.proofs.Becoming.{shown_with}
+use Rattle.sim_steps_law.proofs.Keeping.{held_by_few}
+use Rattle.sim_steps_law.proofs.Becoming.{lawful_stands, shown_with}
 use Rattle.sim_steps_law.proofs.Running.{KeepsLaw, running_can_be_told}
 use Rattle.sim_steps_law.proofs.WaitingRequests.{resources_ready}
 
@@ -47,18 +47,49 @@ abbrev pub AsksAt : CodeFacts → (ResourceKind → Bool) → ℕ → Op → Typ
 AsksAt facts test res asked =
     (own : ProcId) (places : List Place) (scopes : List EventId) → may_ask facts own places scopes asked ≡ true → has_resource facts.resources test res ≡ true
 
-module _ {B Code : Type 0} (body : BodyOf B Code) (old mid : PartsOf B Code) (p : ProcId) (told : Signal) (asked : Op) (a : Asks body p told old asked mid)
-    (h : StandsForSome body old) where
-  pub polled_ready : AreAllKept (2 ^ 40) (held old.shared.happen) → HasUnitRoom old → length old.shared.happen.events + 1 < 2 ^ 62 → AreResourcesReady mid
-  polled_ready all room number = subst (λ k. AreResourcesReady k) (sym a.others) (unpolled old _ (resources_ready body old h all room number))
-    where
-      unpolled : {B Code : Type 0} (k : PartsOf B Code) (live : List (RecordOf B)) → AreResourcesReady k → AreResourcesReady (record k { live = live })
-      unpolled k live r = record { waiting = r.waiting; shown = r.shown; room = record { events = r.room.events; callbacks = r.room.callbacks; conditions = r.room.conditions; places = r.room.places; processes = r.room.processes }; number = r.number }
+-- what was open before a holder was taken is open then
+pub open_still : (a b : HappenOf) (e : EventId) → TakesHolder a b → IsOpen a e → IsOpen b e
+open_still a b e t k = record {
+  kept = t.kept e k.kept;
+  pending = ap (λ (x : EventOf). x.outcome) (t.event e k.kept) ∙ k.pending;
+  not_cancelled = ap (λ (x : EventOf). x.cancelled) (t.event e k.kept) ∙ k.not_cancelled;
+}
+
+module _ {B Code : Type 0} (body : BodyOf B Code) (old mid : PartsOf B Code) (p : ProcId) (told : Signal) (left : EventId) (asked : Op)
+    (a : AsksOwing body p told left old asked mid) where
+  pub polled_ready : StandsForSome body old → AreNeeded old.shared.happen.events → HasUnitRoom old → length old.shared.happen.events + 1 < 2 ^ 62 →
+      AreResourcesReady mid
+  polled_ready h needed room number =
+      let r : AreResourcesReady old = resources_ready body old h needed room number in
+      let s : SharedOf = record old.shared { happen = mid.shared.happen } in
+      let is : mid.shared ≡ s = ap (λ (k : PartsOf B Code). k.shared) a.asks.others in
+      let waits : AreAllOpen s = record {
+        each = λ res z there. All-weaker (IsOpen old.shared.happen) (IsOpen mid.shared.happen) (λ e. open_still old.shared.happen mid.shared.happen e a.asks.takes) (waiting_at z) (r.waiting.each res z there);
+      } in
+      let shown = (a.owes.each h.state (lawful_stands body old h.state h.lawful h.stands)).stands.facilities in
+      record {
+        waiting = subst AreAllOpen (sym is) waits;
+        shown = record { facilities = h.state.facilities; shown = shown };
+        room = record {
+          events = subst (λ (z : Spare). 40 ≤ z.events) (sym a.asks.takes.spare) room.events;
+          callbacks = subst (λ (z : Spare). 64 ≤ z.callbacks) (sym a.asks.takes.spare) room.callbacks;
+          conditions = subst (λ (z : Spare). 40 ≤ z.conditions) (sym a.asks.takes.spare) room.conditions;
+          places = ap (λ (z : SharedOf). z.used) is ∙ room.places;
+          processes = subst (λ (k : PartsOf B Code). 1 ≤ k.spare) (sym a.asks.others) room.processes;
+          ready = subst (λ (k : PartsOf B Code). k.ready ≡ true) (sym a.asks.others) room.ready;
+        };
+        number = omega (arith, number, a.asks.takes.made);
+      }
 
   -- each event has few holders
-  pub polled_few : AreAllKept (2 ^ 40) (held old.shared.happen) → (e : EventId) → (kept_at mid.shared.happen.events e).holders < 2 ^ 60
-  polled_few all e = rw a.others (are_few old.shared.happen all e)
+  pub still_few : (most : ℕ) → AreFew most (held old.shared.happen) → AreFew (most + 1) (held mid.shared.happen)
+  still_few most few = a.owes.few.few most few
 
+  pub polled_few : AreFew (2 ^ 40) (held old.shared.happen) → (e : EventId) → (kept_at mid.shared.happen.events e).holders < 2 ^ 60
+  polled_few few e = held_by_few (2 ^ 40 + 1) mid.shared.happen (omega arith) (still_few (2 ^ 40) few) e
+
+module _ {B Code : Type 0} (body : BodyOf B Code) (old mid : PartsOf B Code) (p : ProcId) (told : Signal) (asked : Op) (a : Asks body p told old asked mid)
+    (h : StandsForSome body old) where
   module _ (event : EventId) (law : KeepsLaw body old.code) (fits : FitsCode (body.facts old.code) old.setup) (few : length old.shared.happen.events < 2 ^ 62)
       (running : IsRunning event p told old.control) where
     -- what it asked for it may ask for
@@ -103,10 +134,10 @@ shows_taken h left spare c s =
 
 module _ {B Code : Type 0} (body : BodyOf B Code) (a m : PartsOf B Code) (event : EventId) (x : Callback) (t : TakesCallback event x a m)
     (h : StandsForSome body a) where
-  pub taken_ready : AreAllKept (2 ^ 40) (held a.shared.happen) → HasUnitRoom a → m.shared.happen.spare ≡ more_callbacks 1 a.shared.happen.spare →
+  pub taken_ready : AreNeeded a.shared.happen.events → HasUnitRoom a → m.shared.happen.spare ≡ more_callbacks 1 a.shared.happen.spare →
       length a.shared.happen.events + 1 < 2 ^ 62 → AreResourcesReady m
-  taken_ready all room more number =
-      let r = resources_ready body a h all room number in
+  taken_ready needed room more number =
+      let r = resources_ready body a h needed room number in
       let y : HappenOf = record a.shared.happen { left = m.shared.happen.left; spare = m.shared.happen.spare } in
       let s : SharedOf = record a.shared { happen = y } in
       let is : m.shared ≡ s = ap (λ (k : PartsOf B Code). k.shared) t.others ∙ ap (λ (z : HappenOf). let u : SharedOf = record a.shared { happen = z } in u) t.happen in
@@ -124,6 +155,7 @@ module _ {B Code : Type 0} (body : BodyOf B Code) (a m : PartsOf B Code) (event 
           conditions = subst (λ (z : Spare). 40 ≤ z.conditions) (sym more) room.conditions;
           places = ap (λ (z : SharedOf). z.used) is ∙ room.places;
           processes = subst (λ (k : PartsOf B Code). 1 ≤ k.spare) (sym t.others) room.processes;
+          ready = subst (λ (k : PartsOf B Code). k.ready ≡ true) (sym t.others) room.ready;
         };
         number = subst (λ (z : SharedOf). length z.happen.events + 1 < 2 ^ 62) (sym is) number;
       }

@@ -1,11 +1,11 @@
 -- What is known of the open scopes of the process that asked to enter one, to leave its innermost or to release a request.
-use Rattle.std.proofs.Common.{◌≡◌, ℕ, ◌<◌, ◌^◌, ℤ, Bool, true, false, ◌&&◌, ◌||◌, List, [], ◌∷◌, length, refl, sym, ap, subst, ◌∙◌, arith, map, filter, Option, Some, None, cond}
-use Rattle.std.specs.Prelude.{All, ◌==◌, nat_lt, reverse, IsSome, IsSomeAnd, option_and_then}
+use Rattle.std.proofs.Common.{◌≡◌, ℕ, ◌<◌, ◌^◌, ℤ, Bool, true, false, ◌&&◌, ◌||◌, List, [], ◌∷◌, length, refl, sym, ap, subst, ◌∙◌, arith, map, filter, Some, cond}
+use Rattle.std.specs.Prelude.{All, ◌==◌, nat_lt, IsSome, IsSomeAnd}
 use Rattle.std.specs.Option.{option_map}
 use Rattle.std.specs.List.{list_any}
 use Rattle.std.proofs.lemmas.Bool.{and_parts, eqb-true, eq-eqb, false≢true, ltb-true}
-use Rattle.std.proofs.lemmas.List.{length-map, reverse-reverse}
-use Rattle.std.proofs.lemmas.List.Elements.{All-cons, All-nil}
+use Rattle.std.proofs.lemmas.List.{length-map}
+use Rattle.std.proofs.lemmas.List.Elements.{All-weaker}
 use Rattle.sim_types.specs.declared.event.EventId.{EventId}
 use Rattle.sim_types.specs.declared.event.ProcId.{ProcId}
 use Rattle.sim_types.specs.declared.event.Scope.{Scope}
@@ -21,25 +21,20 @@ use Rattle.sim_machine.specs.MayAsk.{takes_requests, has_resource, most_scopes}
 use Rattle.sim_machine.specs.Setups.{FitsCode}
 use Rattle.sim_machine.specs.Tellings.{CodeFacts}
 use Rattle.sim_machine.specs.LawfulWaiting.{requests_of}
-use Rattle.sim_machine_law.proofs.DroppedWaiting.{All-reverse}
-use Rattle.sim_machine_law.proofs.KeptBodies.{find_has}
 use Rattle.sim_machine_law.proofs.KeptProcessesParts.{is_process-self}
 use Rattle.sim_machine_law.proofs.KeptWaitingPolls.{own_scopes}
 use Rattle.sim_machine_law.proofs.LawfulBasis.{basis_of}
-use Rattle.sim_procs.specs.RecordOf.{RecordOf, record_of, innermost, without_innermost, scope_of}
+use Rattle.sim_procs.specs.RecordOf.{RecordOf, record_of, innermost, scope_of}
+use Rattle.sim_events.specs.TableOf.{AreNeeded, IsKept}
 use Rattle.sim_happen_model.specs.HappenOf.{held}
-use Rattle.sim_shared_model.specs.SharedOf.{SharedOf}
 use Rattle.sim_steps_model.specs.PartsOf.{PartsOf, IsRunning, plan_of}
 use Rattle.sim_steps_model.specs.StandsFor.{StandsForSome, process_of, scopes_of}
-use Rattle.sim_steps_model.specs.Becoming.{AreAllKept}
-use Rattle.sim_steps_model.specs.Dropping.{CanBeLeft, CanLeave}
+use Rattle.sim_steps_model.specs.Becoming.{AreFew}
 use Rattle.sim_steps_model.specs.Polling.{Asks}
-use Rattle.sim_steps_law.proofs.Running.{KeepsLaw, process_found}
-use Rattle.sim_steps_law.proofs.Polls.{running_is}
+use Rattle.sim_steps_law.proofs.Running.{KeepsLaw, process_found, running_is}
+use Rattle.sim_steps_law.proofs.KeptNames.{own_scopes_kept}
 use Rattle.sim_steps_law.proofs.Ending.{record_polled, scopes_found}
 use Rattle.sim_steps_law.proofs.AskedResources.{AsksAt}
-use Rattle.sim_steps_law.proofs.LeavingEach.{can_first, innermost_first, none_innermost}
-use Rattle.sim_steps_law.proofs.DroppableProcesses.{can_be_dropped}
 use Rattle.sim_steps_law.proofs.EnteredScopes.{scope_in}
 
 -- the scope of a request that is among these is found
@@ -60,17 +55,11 @@ scope_some request (y ∷ ys) h = at (y.request.0 == request.0) refl (scope_some
     at true is others = refl
     at false is others = others (later (request.0 == y.request.0) is refl h)
 
--- one of the scopes that can be left
-one_can : (xs : List Scope) (x : Scope) (request : EventId) (a : SharedOf) → CanLeave (reverse xs) a → scope_of request xs ≡ Some x → CanLeave (x ∷ []) a
-one_can xs x request a can found =
-    let P : Scope → Type 0 = CanBeLeft a.setup can.facilities in
-    let all : All P xs = subst (All P) (reverse-reverse xs) (All-reverse P (reverse xs) can.each) in
-    record {
-      facilities = can.facilities;
-      shown = can.shown;
-      waiting = can.waiting;
-      each = All-cons P x [] (find_has P (λ s. s.request.0 == request.0) xs x found all) (All-nil P);
-    }
+-- where scopes are open, one is the innermost
+innermost_some : (xs : List Scope) → 0 < length xs → IsSome (innermost xs)
+innermost_some [] h = absurd (omega (arith, h))
+innermost_some (x ∷ []) h = refl
+innermost_some (x ∷ y ∷ xs) h = innermost_some (y ∷ xs) (omega arith)
 
 -- who asks to enter does so at a resource that takes requests
 pub entered_at : (facts : CodeFacts) (res : ℕ) (priority : ℤ) (preempts : Bool) → AsksAt facts takes_requests res (op.Enter res priority preempts)
@@ -79,20 +68,22 @@ entered_at facts res priority preempts own places scopes h = (and_parts (nat_lt 
 module _ {B Code : Type 0} (body : BodyOf B Code) (old mid : PartsOf B Code) (p : ProcId) (told : Signal) (asked : Op) (a : Asks body p told old asked mid)
     (h : StandsForSome body old) (event : EventId) (law : KeepsLaw body old.code) (fits : FitsCode (body.facts old.code) old.setup)
     (few : length old.shared.happen.events < 2 ^ 62) (running : IsRunning event p told old.control) where
-  abbrev entered : List EventId
+  -- the requests of the scopes that its body knows of
+  abbrev pub entered : List EventId
   entered = scopes_told ((body.tell old.code).scopes a.before) ((body.tell old.code).last a.before) told
 
-  abbrev r : RecordOf B
+  -- the record of the process that was polled
+  abbrev pub r : RecordOf B
   r = (record_polled body old mid p told asked a).0
 
-  found : record_of p old.live ≡ Some r
+  pub found : record_of p old.live ≡ Some r
   found = (record_polled body old mid p told asked a).1
 
-  found_now : record_of p mid.live ≡ Some (record r { body = a.later })
+  pub found_now : record_of p mid.live ≡ Some (record r { body = a.later })
   found_now = (record_polled body old mid p told asked a).3
 
   -- its scopes are those that its body knows of
-  own : requests_of p h.state ≡ entered
+  pub own : requests_of p h.state ≡ entered
   own =
       let s = h.state in
       let tell = body.tell old.code in
@@ -102,10 +93,10 @@ module _ {B Code : Type 0} (body : BodyOf B Code) (old mid : PartsOf B Code) (p 
       (own_scopes (plan_of body old) tell s event is.0 p told (process_of r) (sym h.stands.control ∙ is.1) here waiting p (is_process-self p)).0
       ∙ ap (λ (b : B). scopes_told (tell.scopes b) (tell.last b) told) (record_polled body old mid p told asked a).2
 
-  told_scopes : scopes_of p h.state ≡ r.scopes
+  pub told_scopes : scopes_of p h.state ≡ r.scopes
   told_scopes = scopes_found p old.live r h.state found h.stands.scopes
 
-  count : length r.scopes ≡ length entered
+  pub count : length r.scopes ≡ length entered
   count =
       let ys : List OpenScope = filter (λ y. is_process y.process p) h.state.scopes in
       sym (ap (λ (xs : List Scope). length xs) told_scopes)
@@ -117,38 +108,18 @@ module _ {B Code : Type 0} (body : BodyOf B Code) (old mid : PartsOf B Code) (p 
   polled_scopes res may =
       rw found_now (omega (arith, count, ltb-true (length entered) most_scopes (and_parts (nat_lt (length entered) most_scopes) (has_resource (body.facts old.code).resources takes_requests res) may).0))
 
-  module _ (all : AreAllKept (2 ^ 40) (held old.shared.happen)) (resources : mid.shared.setup ≡ mid.setup.resources) where
-    can : CanLeave (reverse r.scopes) mid.shared
-    can =
-        let same : old.shared.setup ≡ old.setup.resources = subst (λ (k : PartsOf B Code). k.shared.setup ≡ k.setup.resources) a.others resources in
-        subst (λ (k : SharedOf). CanLeave (reverse r.scopes) k) (sym (ap (λ (k : PartsOf B Code). k.shared) a.others)) (can_be_dropped body old h all same p r found).can
+  -- who asks to leave has one
+  pub has_innermost : nat_lt 0 (length entered) ≡ true → IsSome (innermost r.scopes)
+  has_innermost may = innermost_some r.scopes (omega (arith, count, ltb-true 0 (length entered) may))
 
-    -- who asks to leave has a scope, which can be left
-    pub polled_innermost : nat_lt 0 (length entered) ≡ true →
-        IsSomeAnd (option_and_then (λ q. innermost q.scopes) (record_of p mid.live)) (λ x. CanLeave (x ∷ []) mid.shared)
-    polled_innermost may = rw found_now (at (innermost r.scopes) refl)
-      where
-        at : (o : Option Scope) → innermost r.scopes ≡ o → IsSomeAnd o (λ x. CanLeave (x ∷ []) mid.shared)
-        at None is =
-            absurd (omega (arith, count, ltb-true 0 (length entered) may, ap (λ (xs : List Scope). length xs) (none_innermost r.scopes is)))
-        at (Some x) is =
-            can_first x (reverse (without_innermost r.scopes)) mid.shared (subst (λ (xs : List Scope). CanLeave xs mid.shared) (innermost_first r.scopes x is) can)
+  -- and who asks to release a request has it in a scope
+  pub has_scope : (request : EventId) → list_any (is_same request) entered ≡ true → IsSome (scope_of request r.scopes)
+  has_scope request may =
+      subst (λ (xs : List Scope). IsSome (scope_of request xs)) told_scopes
+      (scope_some request (filter (λ y. is_process y.process p) h.state.scopes) (subst (λ (es : List EventId). list_any (is_same request) es ≡ true) (sym own) may))
 
-    -- and who asks to release a request has it in a scope
-    pub polled_scope : (request : EventId) → list_any (is_same request) entered ≡ true →
-        IsSomeAnd (option_and_then (λ q. scope_of request q.scopes) (record_of p mid.live)) (λ x. CanLeave (x ∷ []) mid.shared)
-    polled_scope request may = rw found_now (at (scope_of request r.scopes) refl some)
-      where
-        some : IsSome (scope_of request r.scopes)
-        some =
-            subst (λ (xs : List Scope). IsSome (scope_of request xs)) told_scopes
-            (scope_some request (filter (λ y. is_process y.process p) h.state.scopes) (subst (λ (es : List EventId). list_any (is_same request) es ≡ true) (sym own) may))
-
-        at : (o : Option Scope) → scope_of request r.scopes ≡ o → IsSome o → IsSomeAnd o (λ x. CanLeave (x ∷ []) mid.shared)
-        at None is k = absurd (false≢true k)
-        at (Some x) is k = one_can r.scopes x request mid.shared can is
-
--- a poll changes no holders
-pub polled_kept : {B Code : Type 0} (body : BodyOf B Code) (old mid : PartsOf B Code) (p : ProcId) (told : Signal) (asked : Op) → Asks body p told old asked mid →
-    (most : ℕ) → AreAllKept most (held old.shared.happen) → AreAllKept most (held mid.shared.happen)
-polled_kept body old mid p told asked a most h = rw a.others h
+  -- the requests of all of them are kept
+  pub requests_kept : AreNeeded old.shared.happen.events →
+      IsSomeAnd (record_of p mid.live) (λ q. All (λ x. IsKept mid.shared.happen.events x.request) q.scopes)
+  requests_kept needed =
+      rw found_now (All-weaker (λ x. IsKept old.shared.happen.events x.request) (λ x. IsKept mid.shared.happen.events x.request) (λ x. a.takes.kept x.request) r.scopes (own_scopes_kept body old h needed p r found))

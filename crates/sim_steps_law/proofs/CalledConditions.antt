@@ -1,5 +1,5 @@
 -- What the callbacks of conditions are called for is known of each lawful state.
-use Rattle.std.proofs.Common.{◌≡◌, ◌<◌, ◌≤◌, ◌^◌, true, ◌&&◌, ◌||◌, not, List, ◌∷◌, length, None, refl, sym, ap, subst, ◌∙◌, arith}
+use Rattle.std.proofs.Common.{◌≡◌, ◌<◌, ◌≤◌, true, ◌&&◌, ◌||◌, not, List, ◌∷◌, length, None, refl, sym, ap, subst, ◌∙◌, arith}
 use Rattle.std.specs.Prelude.{is_none, is_some}
 use Rattle.std.specs.List.{list_any, AllPass}
 use Rattle.std.proofs.lemmas.Bool.{ltb-true}
@@ -17,23 +17,23 @@ use Rattle.sim_machine.specs.LawfulConditions.{builds_condition, checks_at, is_b
 use Rattle.sim_machine_law.proofs.EventLaws.{is_same-self}
 use Rattle.sim_machine_law.proofs.CallbackLaws.{counts_one, callbacks_at-called}
 use Rattle.sim_machine_law.proofs.KeptInterruptionsParts.{any_counted}
-use Rattle.sim_machine_law.proofs.KeptRegistrationsCalendar.{made_if}
 use Rattle.sim_machine_law.proofs.CalledCheck.{HasMember, checks_member}
 use Rattle.sim_machine_law.proofs.ConditionKinds.{condition_kind}
 use Rattle.sim_machine_law.proofs.FollowingCalendars.{uncancelled_kind}
 use Rattle.sim_machine_law.proofs.LawfulBasis.{ConditionsBasis, basis_of}
 use Rattle.sim_machine_law.proofs.TakenChanges.{cond_no_waiter}
-use Rattle.sim_events.specs.TableOf.{IsKept, kept_at}
-use Rattle.sim_happen_model.specs.HappenOf.{HappenOf, held}
+use Rattle.sim_events.specs.TableOf.{AreNeeded, IsKept, kept_at}
+use Rattle.sim_happen_model.specs.HappenOf.{HappenOf}
 use Rattle.sim_happen_model.specs.Shows.{Follows}
 use Rattle.sim_happen_law.proofs.Following.{read_is}
+use Rattle.sim_accounts.specs.Changes.{ComesPlainly}
 use Rattle.sim_steps_model.specs.PartsOf.{PartsOf, plan_of, with_happen}
 use Rattle.sim_steps_model.specs.StandsFor.{StandsForSome}
-use Rattle.sim_steps_model.specs.Becoming.{AreAllKept, Becomes}
+use Rattle.sim_steps_model.specs.Becoming.{Becomes}
 use Rattle.sim_steps_model.specs.Calling.{TakesCallback}
 use Rattle.sim_steps_model.specs.Conditions.{BuildsCondition, CallsCondition, ChecksMember}
 use Rattle.sim_steps_law.proofs.Becoming.{becomes_followed}
-use Rattle.sim_steps_law.proofs.Naming.{made_here}
+use Rattle.sim_steps_law.proofs.KeptNames.{called_kept, kept_here}
 
 -- ---- what is checked
 
@@ -54,7 +54,7 @@ below_all x is h pending =
     ltb-true (condition_of x.condition).count (length (condition_of x.condition).members) (rw (is, pending) at h)
 
 module _ {B Code : Type 0} (body : BodyOf B Code) (parts : PartsOf B Code) (h : StandsForSome body parts)
-    (all : AreAllKept (2 ^ 40) (held parts.shared.happen)) where
+    (needed : AreNeeded parts.shared.happen.events) where
   read_here : (e : EventId) → IsKept parts.shared.happen.events e → (kept_at parts.shared.happen.events e).event ≡ event_at h.state.facilities.calendar e
   read_here e kept = read_is parts.shared.happen h.state.facilities.calendar e kept h.stands.facilities.calendar
 
@@ -66,7 +66,7 @@ module _ {B Code : Type 0} (body : BodyOf B Code) (parts : PartsOf B Code) (h : 
       let basis = (basis_of (plan_of body parts) (body.tell parts.code) (body.sound parts.code) s h.lawful).conditions in
       let calling : s.control ≡ Calling event (callback.Check cond ∷ left) = sym h.stands.control ∙ is in
       let has : HasMember c cond event = checks_member c s.control event cond left calling basis in
-      let kept = made_here body parts h all cond has.made in
+      let kept = kept_here body parts h needed cond (called_kept body parts h needed event (callback.Check cond) left is) in
       let read = read_here cond kept in
       let P : EventOf → Type 0 = λ x. x.outcome ≡ None → (condition_of x.condition).count < length (condition_of x.condition).members in
       record {
@@ -90,7 +90,7 @@ module _ {B Code : Type 0} (body : BodyOf B Code) (parts : PartsOf B Code) (h : 
       let calling : s.control ≡ Calling event (callback.Build cond ∷ left) = sym h.stands.control ∙ is in
       let builds : AllPass (builds_condition c) (callback.Build cond ∷ left) = subst (λ k. AllPass (builds_condition c) (left_of k)) calling h.lawful.conditions.left_builds in
       let built : is_condition c cond ≡ true = All-head (λ x. builds_condition c x ≡ true) (callback.Build cond) left builds in
-      let kept = made_here body parts h all cond (made_if (λ x. is_some x.condition) c cond refl built) in
+      let kept = kept_here body parts h needed cond (called_kept body parts h needed event (callback.Build cond) left is) in
       record { kept = kept; is = ap (λ (x : EventOf). is_some x.condition) (read_here cond kept) ∙ built }
 
   -- what a callback is called for, whatever it is
@@ -108,6 +108,6 @@ pub condition_taken : {B Code : Type 0} (a m : PartsOf B Code) (event : EventId)
 condition_taken a m event x t h = subst (λ events. CallsCondition event x events) (sym (ap (λ (y : HappenOf). y.events) t.happen)) h
 
 -- only what happens is changed
-pub followed_becomes : {B Code : Type 0} (change : Calendar → Calendar) (a n : PartsOf B Code) (x : HappenOf) → Follows change a.shared.happen x →
-    n ≡ with_happen x a → Becomes (on_events change) a n
-followed_becomes change a n x follows is = subst (Becomes (on_events change) a) (sym is) (becomes_followed change a x follows)
+pub followed_becomes : {B Code : Type 0} {body : BodyOf B Code} (change : Calendar → Calendar) (a n : PartsOf B Code) (x : HappenOf) → ((c : Calendar) → ComesPlainly c (change c)) →
+    Follows change a.shared.happen x → n ≡ with_happen x a → Becomes body (on_events change) a n
+followed_becomes {B} {Code} {body} change a n x plainly follows is = subst (Becomes body (on_events change) a) (sym is) (becomes_followed change a x plainly follows)

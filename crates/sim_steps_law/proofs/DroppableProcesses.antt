@@ -1,45 +1,76 @@
--- What the drop of a process needs is known of each lawful state.
-use Rattle.std.proofs.Common.{◌≡◌, ◌≢◌, ◌<◌, ◌^◌, Bool, true, false, ◌&&◌, List, [], ◌∷◌, Option, Some, None, length, filter, map, refl, sym, ap, subst, ◌∙◌, arith, get_or, cond, if◌then◌else◌, All}
-use Rattle.std.specs.Prelude.{◌==◌, is_none, IfSome}
+-- What the leaving of scopes and the drop of a process need is known of each lawful state, also in the midst of a poll, when the
+-- body of the running process is in its new state.
+use Rattle.std.proofs.Common.{◌≡◌, ◌≢◌, ℕ, ◌<◌, ◌≤◌, Bool, true, false, ◌&&◌, ◌||◌, not, List, [], ◌∷◌, ◌++◌, Option, Some, None, length, filter, map, refl, sym, ap, subst, ◌∙◌, arith, get_or, if◌then◌else◌, cond, All}
+use Rattle.std.specs.Prelude.{◌==◌, find, is_none, is_some, IfSome}
 use Rattle.std.specs.Option.{option_map}
-use Rattle.std.proofs.lemmas.Bool.{and_parts, eqb-true, false≢true, ltb-true}
+use Rattle.std.specs.List.{list_any}
+use Rattle.std.proofs.lemmas.Bool.{and_parts, eqb-true, false≢true, ltb-true, not-true}
+use Rattle.std.proofs.lemmas.Option.{none-some, same_Some}
 use Rattle.std.proofs.lemmas.List.{length-map}
-use Rattle.std.proofs.lemmas.List.Elements.{All-cons, All-filter, All-head, All-nil, All-tail}
+use Rattle.std.proofs.lemmas.List.Elements.{All-cons, All-head, All-nil, All-tail}
 use Rattle.std.proofs.lemmas.List.Folds.{Any-from_list_any}
 use Rattle.sim_types.specs.declared.event.EventId.{EventId}
 use Rattle.sim_types.specs.declared.event.EventKind.{EventKind}
 use Rattle.sim_types.specs.declared.event.EventKind.TheVariants as kind
+use Rattle.sim_types.specs.declared.event.Outcome.{Outcome}
 use Rattle.sim_types.specs.declared.event.ProcId.{ProcId}
 use Rattle.sim_types.specs.declared.event.Scope.{Scope}
 use Rattle.sim_types.specs.declared.setup.Resource.{Resource}
-use Rattle.sim_types.specs.declared.event.Signal.{Signal}
-use Rattle.sim_types.specs.declared.op.Op.{Op}
-use Rattle.sim_machine.specs.State.{EventOf, Calendar, Facilities, OpenScope, State, Waiter, Want, Slot, Give, Take}
+use Rattle.sim_types.specs.declared.setup.Setup.{Setup}
+use Rattle.sim_machine.specs.State.{EventOf, Calendar, OpenScope, ProcessOf, State, Waiter, Want, Slot, Give, Take, Plan}
 use Rattle.sim_machine.specs.Events.{is_same, is_process, event_at, is_pending}
-use Rattle.sim_machine.specs.Users.{resource_at}
-use Rattle.sim_machine.specs.Processes.{event_of, is_alive, process_at}
+use Rattle.sim_machine.specs.Effect.{calendar}
+use Rattle.sim_machine.specs.KeptEvents.{is_in_body}
+use Rattle.sim_machine.specs.Processes.{event_of, is_alive, process_at, with_body}
 use Rattle.sim_machine.specs.Bodies.{BodyOf}
+use Rattle.sim_machine.specs.Lawful.{Lawful}
+use Rattle.sim_machine.specs.MayAsk.{most_scopes}
 use Rattle.sim_machine.specs.Standing.{was_made, kind_at}
+use Rattle.sim_machine.specs.Tellings.{Telling}
+use Rattle.sim_machine.specs.Users.{resource_at}
 use Rattle.sim_machine.specs.LawfulProcesses.{is_living_well, is_process_kind}
 use Rattle.sim_machine.specs.LawfulCapacities.{waits_for_fitting}
-use Rattle.sim_machine.specs.LawfulWaiting.{KnowsItsScopes, is_get_kind, is_put_kind, is_request_kind, request_has_scope}
-use Rattle.sim_machine_law.proofs.EventLaws.{same_event}
+use Rattle.sim_machine.specs.LawfulRegistrations.{turned_out}
+use Rattle.sim_machine.specs.LawfulWaiting.{is_get_kind, is_put_kind, is_request_kind, may_wait_kind, request_has_scope, requests_of, waits_well}
+use Rattle.sim_machine_law.proofs.DroppedWaiting.{alone_each, kinds_apart}
+use Rattle.sim_machine_law.proofs.EventLaws.{is_same-self, same_event}
 use Rattle.sim_machine_law.proofs.FollowingCalendars.{uncancelled_kind}
 use Rattle.sim_machine_law.proofs.KeptBodies.{find_has, four_parts}
-use Rattle.sim_machine_law.proofs.KeptTimesCases.{found_has}
 use Rattle.sim_machine_law.proofs.KeptRegistrationsCalendar.{made_below}
-use Rattle.sim_machine_law.proofs.DroppedWaiting.{All-reverse, alone_each, kinds_apart}
 use Rattle.sim_procs.specs.RecordOf.{RecordOf, record_of}
-use Rattle.sim_happen_model.specs.HappenOf.{held}
-use Rattle.sim_happen_law.proofs.Following.{read_is}
 use Rattle.sim_events.specs.TableOf.{IsKept}
+use Rattle.sim_accounts.proofs.GivenBack.{held_kept}
+use Rattle.sim_accounts.proofs.NamedEvents.{held_in_body}
+use Rattle.sim_accounts.specs.Naming.{held_alone}
 use Rattle.sim_steps_model.specs.PartsOf.{PartsOf}
 use Rattle.sim_steps_model.specs.StandsFor.{StandsForSome, process_of, scopes_of}
-use Rattle.sim_steps_model.specs.Becoming.{AreAllKept}
-use Rattle.sim_steps_model.specs.Polling.{Asks}
-use Rattle.sim_steps_model.specs.Dropping.{CanBeDropped, CanBeLeft}
-use Rattle.sim_steps_law.proofs.Keeping.{made_is_kept}
+use Rattle.sim_steps_model.specs.Becoming.{Stands, BecomesOwing}
+use Rattle.sim_steps_model.specs.Dropping.{CanBeDropped, CanBeLeft, CanLeave, IsOpenIn}
+use Rattle.sim_steps_law.proofs.Becoming.{lawful_stands}
+use Rattle.sim_steps_law.proofs.Ending.{scopes_found}
 use Rattle.sim_steps_law.proofs.Running.{process_found}
+
+-- ---- what is pending is not processed
+
+none_of : (o : Option Outcome) → is_none o ≡ true → o ≡ None
+none_of None h = refl
+none_of (Some x) h = absurd (false≢true h)
+
+unprocessed : (x : EventOf) → turned_out x ≡ true → x.outcome ≡ None → x.processed ≡ false
+unprocessed x out pending = at x.processed (ap (λ o. not x.processed || is_some o) (sym pending) ∙ out)
+  where
+    at : (b : Bool) → (not b || false) ≡ true → b ≡ false
+    at true h = absurd (false≢true h)
+    at false h = refl
+
+-- what is pending and was not cancelled is open
+pending_open : (c : Calendar) (e : EventId) → All (λ x. turned_out x ≡ true) c.events → was_made c e ≡ true → is_pending c e ≡ true →
+    (event_at c e).cancelled ≡ false → IsOpenIn c e
+pending_open c e outcomes made pending not_cancelled =
+    let below : e.0 < length c.events = made_below c e made in
+    let none : (event_at c e).outcome ≡ None = none_of (event_at c e).outcome pending in
+    let waits : (event_at c e).processed ≡ false = unprocessed (event_at c e) (outcomes e.0 _ below) none in
+    record { made = below; pending = none; not_closed = rw (waits, not_cancelled) refl }
 
 -- ---- a request waits at its own resource alone
 
@@ -50,6 +81,10 @@ request_no_put _ h put = false≢true h
 request_no_get : (k : EventKind) → is_request_kind k ≡ true → is_get_kind k ≡ true → ⊥
 request_no_get kind.Request h gets = false≢true gets
 request_no_get _ h gets = false≢true h
+
+request_no_process : (k : EventKind) → is_request_kind k ≡ true → is_process_kind k ≡ true → ⊥
+request_no_process kind.Request of process = false≢true process
+request_no_process _ of process = false≢true of
 
 waits_there_alone : (c : Calendar) (r : Resource) (scopes : List OpenScope) (x : OpenScope) (w : Waiter) (want : Want) →
     All (λ (y : OpenScope). is_same y.request x.request ≡ true → y ≡ x) scopes → is_request_kind (kind_at c x.request) ≡ true →
@@ -70,120 +105,130 @@ waits_there_alone c r scopes x w (Take least greatest) alone of has fits same =
     let is : w.event ≡ x.request = same_event w.event x.request (eqb-true w.event.0 x.request.0 same) in
     absurd (request_no_get (kind_at c x.request) of (subst (λ (e : EventId). is_get_kind (kind_at c e) ≡ true) is (and_parts (is_get_kind (kind_at c w.event)) _ fits).0))
 
--- ---- what the drop of a process needs
+-- ---- what is known of a lawful state
+
+-- the event of a process is open and no request of a scope, and it has not too many scopes
+record EndsWell {B : Type 0} (s : State B) (p : ProcId) : Type 0 where
+  is_open : IsOpenIn (calendar s) (event_of p)
+  apart : All (λ x. x.request.0 ≢ p.0) s.scopes
+  few : length (requests_of p s) ≤ most_scopes
+
+module _ {B : Type 0} (g : Plan B) (tell : Telling B) (sound : B → Type 0) (s : State B) (h : Lawful g tell sound s) where
+  abbrev c : Calendar
+  c = s.facilities.calendar
+
+  all_waiting : All (λ w. IsOpenIn s.facilities.calendar w.event) s.facilities.waiters
+  all_waiting k d below =
+      let w : Waiter = get_or s.facilities.waiters k d in
+      let e : EventId = w.event in
+      let parts = four_parts (was_made c e) (is_pending c e) (not (event_at c e).cancelled) (may_wait_kind (kind_at c e)) (h.waiting.waiters k d below) in
+      pending_open c e h.registrations.outcomes parts.0 parts.1 (not-true (event_at c e).cancelled parts.2)
+
+  all_scopes : All (CanBeLeft g.setup.resources s.facilities) s.scopes
+  all_scopes k d below =
+      let x : OpenScope = get_or s.scopes k d in
+      let outer = and_parts _ _ (h.waiting.scopes k d below) in
+      let well = four_parts (is_alive x.process s) (was_made c x.request) (is_request_kind (kind_at c x.request)) _ outer.0 in
+      record {
+        there = ltb-true x.res (length g.setup.resources) well.3;
+        slots = outer.1;
+        alone = λ i v j equal.
+            let w : Waiter = get_or s.facilities.waiters i v in
+            waits_there_alone c (resource_at g.setup.resources w.res) s.scopes x w w.want (alone_each s.scopes h.waiting.apart k d below) well.2 (h.waiting.requests i v j) (and_parts _ _ (h.capacities.waiting i v j)).1 equal;
+      }
+
+  all_end : All (λ x. EndsWell s x.id) s.processes
+  all_end k d below =
+      let x : ProcessOf B = get_or s.processes k d in
+      let e : EventId = event_of x.id in
+      let well = four_parts (was_made c x.target) (was_made c e) (is_pending c e) (is_process_kind (kind_at c e)) (h.processes.living k d below) in
+      let not_cancelled : (event_at c e).cancelled ≡ false = uncancelled_kind (event_at c e) (h.waiting.cancelled e.0 _ (made_below c e well.1)) (kinds_apart (kind_at c e) well.3) in
+      record {
+        is_open = pending_open c e h.registrations.outcomes well.1 well.2 not_cancelled;
+        apart = λ i v j is.
+            let y : OpenScope = get_or s.scopes i v in
+            let outer = and_parts _ _ (h.waiting.scopes i v j) in
+            let of = four_parts (is_alive y.process s) (was_made c y.request) (is_request_kind (kind_at c y.request)) _ outer.0 in
+            request_no_process (kind_at c y.request) of.2 (subst (λ (f : EventId). is_process_kind (kind_at c f) ≡ true) (sym (same_event y.request e is)) well.3);
+        few = (h.waiting.bodies k d below).1;
+      }
+
+-- ---- in the midst of a poll
 
 mapped_all : {X Y : Type 0} (P : Y → Type 0) (h : X → Y) (xs : List X) → All (λ x. P (h x)) xs → All P (map h xs)
 mapped_all P h [] all = All-nil P
 mapped_all P h (x ∷ xs) all = All-cons P (h x) (map h xs) (All-head (λ y. P (h y)) x xs all) (mapped_all P h xs (All-tail (λ y. P (h y)) x xs all))
 
-no_outcome : {X : Type 0} (o : Option X) → is_none o ≡ true → o ≡ None
-no_outcome None h = refl
-no_outcome (Some x) h = absurd (false≢true h)
-
-module _ {B Code : Type 0} (body : BodyOf B Code) (parts : PartsOf B Code) (h : StandsForSome body parts)
-    (all : AreAllKept (2 ^ 40) (held parts.shared.happen)) (same : parts.shared.setup ≡ parts.setup.resources) where
-  kept_here : (e : EventId) → was_made h.state.facilities.calendar e ≡ true → IsKept parts.shared.happen.events e
-  kept_here e made =
-      made_is_kept (2 ^ 40) parts.shared.happen e all (subst (λ n. e.0 < n) (sym h.stands.facilities.calendar.made) (made_below h.state.facilities.calendar e made))
-
-  -- each open scope can be left
-  scope_can : All (λ (x : OpenScope). CanBeLeft parts.shared.setup h.state.facilities (let y : Scope = record { request = x.request; res = x.res } in y)) h.state.scopes
-  scope_can =
-      let s : State B = h.state in
-      let f : Facilities = s.facilities in
-      let c : Calendar = f.calendar in
-      λ k d below.
-      let x : OpenScope = get_or s.scopes k d in
-      let outer = and_parts _ _ (h.lawful.waiting.scopes k d below) in
-      let well = four_parts (is_alive x.process s) (was_made c x.request) (is_request_kind (kind_at c x.request)) _ outer.0 in
-      record {
-        made = made_below c x.request well.1;
-        there = rw same (ltb-true x.res (length parts.setup.resources) well.3);
-        slots = rw same outer.1;
-        alone = λ i e j equal.
-            let w : Waiter = get_or f.waiters i e in
-            waits_there_alone c (resource_at parts.setup.resources w.res) s.scopes x w w.want (alone_each s.scopes h.lawful.waiting.apart k d below) well.2 (h.lawful.waiting.requests i e j) (and_parts _ _ (h.lawful.capacities.waiting i e j)).1 equal;
-      }
-
-  -- and its request is no process's event
-  scope_other : (p : ProcId) → is_process_kind (kind_at h.state.facilities.calendar (event_of p)) ≡ true →
-      All (λ (x : OpenScope). x.request.0 ≢ p.0) h.state.scopes
-  scope_other p process =
-      let s : State B = h.state in
-      let c : Calendar = s.facilities.calendar in
-      λ k d below is.
-      let x : OpenScope = get_or s.scopes k d in
-      let outer = and_parts _ _ (h.lawful.waiting.scopes k d below) in
-      let well = four_parts (is_alive x.process s) (was_made c x.request) (is_request_kind (kind_at c x.request)) _ outer.0 in
-      request_no_process (kind_at c x.request) well.2 (subst (λ (e : EventId). is_process_kind (kind_at c e) ≡ true) (sym (same_event x.request (event_of p) is)) process)
-    where
-      request_no_process : (k : EventKind) → is_request_kind k ≡ true → is_process_kind k ≡ true → ⊥
-      request_no_process kind.Request of process = false≢true process
-      request_no_process _ of process = false≢true of
-
-  pub can_be_dropped : (q : ProcId) (r : RecordOf B) → record_of q parts.live ≡ Some r → CanBeDropped r parts.shared
-  can_be_dropped q r found =
-      let s : State B = h.state in
-      let c : Calendar = s.facilities.calendar in
-      let test : OpenScope → Bool = λ x. is_process x.process r.id in
-      let here : process_at q s ≡ Some (process_of r) = process_found parts s q h.lawful.processes.distinct h.stands ∙ ap (option_map process_of) found in
-      let living = (found_has (λ x. is_living_well s x ≡ true) (λ x. is_process x.id q) s.processes (process_of r) here h.lawful.processes.living).0 in
-      let knows = (found_has (KnowsItsScopes (body.tell parts.code) s) (λ x. is_process x.id q) s.processes (process_of r) here h.lawful.waiting.bodies).0 in
-      let well = four_parts (was_made c r.target) (was_made c (event_of r.id)) (is_pending c (event_of r.id)) (is_process_kind (kind_at c (event_of r.id))) living in
-      let kept = kept_here (event_of r.id) well.1 in
-      let read = read_is parts.shared.happen c (event_of r.id) kept h.stands.facilities.calendar in
-      let below : r.id.0 < length c.events = made_below c (event_of r.id) well.1 in
-      let scopes : r.scopes ≡ scopes_of r.id s = find_has (λ x. x.scopes ≡ scopes_of x.id s) (λ x. x.id.0 == q.0) parts.live r found h.stands.scopes in
-      let scope : OpenScope → Scope = λ x. record { request = x.request; res = x.res } in
-      record {
-        target = kept_here r.target well.0;
-        is_open = record {
-          kept = kept;
-          pending = ap (λ (x : EventOf). x.outcome) read ∙ no_outcome (event_at c (event_of r.id)).outcome well.2;
-          not_cancelled = ap (λ (x : EventOf). x.cancelled) read ∙ uncancelled_kind (event_at c (event_of r.id)) (h.lawful.waiting.cancelled r.id.0 _ below) (kinds_apart (kind_at c (event_of r.id)) well.3);
-        };
-        apart = rw scopes (mapped_all (λ x. x.request.0 ≢ r.id.0) scope (filter test s.scopes) (All-filter test (λ x. x.request.0 ≢ r.id.0) s.scopes (scope_other r.id well.3)));
-        few = rw scopes (omega (arith, knows.1, length-map (filter test s.scopes) scope, length-map (filter test s.scopes) (λ (x : OpenScope). x.request)));
-        can = record {
-          facilities = s.facilities;
-          shown = h.stands.facilities;
-          waiting = h.lawful.waiting.waiters;
-          each = All-reverse (CanBeLeft parts.shared.setup s.facilities) r.scopes (rw scopes (mapped_all (CanBeLeft parts.shared.setup s.facilities) scope (filter test s.scopes) (All-filter test (λ x. CanBeLeft parts.shared.setup s.facilities (scope x)) s.scopes scope_can)));
-        };
-      }
-
--- ---- in the midst of a poll, when the body of the running process is in its new state
-
-record_either : {B : Type 0} (q : ProcId) (change : RecordOf B → RecordOf B) (r : RecordOf B) (o m : Option (RecordOf B)) (b : Bool) → (r.id.0 == q.0) ≡ b →
-    (change r).id ≡ r.id → o ≡ option_map change m →
-    cond ((change r).id.0 == q.0) (Some (change r)) o ≡ option_map change (cond b (Some r) m)
-record_either q change r o m true is id h = rw (id, is) refl
-record_either q change r o m false is id h = rw (id, is) h
-
-record_mapped : {B : Type 0} (q : ProcId) (change : RecordOf B → RecordOf B) → ((r : RecordOf B) → (change r).id ≡ r.id) → (live : List (RecordOf B)) →
-    record_of q (map change live) ≡ option_map change (record_of q live)
-record_mapped q change ids [] = refl
-record_mapped q change ids (r ∷ live) =
-    record_either q change r (record_of q (map change live)) (record_of q live) (r.id.0 == q.0) refl (ids r) (record_mapped q change ids live)
-
--- each process that is alive can be dropped
-pub polled_droppable : {B Code : Type 0} (body : BodyOf B Code) (old mid : PartsOf B Code) (p : ProcId) (told : Signal) (asked : Op) →
-    StandsForSome body old → AreAllKept (2 ^ 40) (held old.shared.happen) → old.shared.setup ≡ old.setup.resources → Asks body p told old asked mid →
-    (q : ProcId) → IfSome (record_of q mid.live) (λ r. CanBeDropped r mid.shared)
-polled_droppable {B} body old mid p told asked h all same a q =
-    let change : RecordOf B → RecordOf B = λ r. if r.id.0 == p.0 then record r { body = a.later } else r in
-    let P : Option (RecordOf B) → Type 0 = λ o. IfSome o (λ r. CanBeDropped r old.shared) in
-    rw a.others (subst P (sym (record_mapped q change (λ r. same_id_of r (r.id.0 == p.0) a.later) old.live)) (at_record (record_of q old.live) refl))
+found_any : {X : Type 0} (p test : X → Bool) (xs : List X) (x : X) → find p xs ≡ Some x → test x ≡ true → list_any test xs ≡ true
+found_any p test [] x h k = absurd (none-some x h)
+found_any {X} p test (y ∷ ys) x h k = at (p y) h (found_any p test ys x)
   where
-    same_id_of : (r : RecordOf B) (b : Bool) (later : B) → (if b then record r { body = later } else r).id ≡ r.id
-    same_id_of r true later = refl
-    same_id_of r false later = refl
+    or_later : (a b : Bool) → b ≡ true → (a || b) ≡ true
+    or_later true b q = refl
+    or_later false b q = q
 
-    polled_can : (r : RecordOf B) (b : Bool) → CanBeDropped r old.shared → CanBeDropped (if b then record r { body = a.later } else r) old.shared
-    polled_can r true can = record { target = can.target; is_open = can.is_open; apart = can.apart; few = can.few; can = can.can }
-    polled_can r false can = can
+    at : (b : Bool) → cond b (Some y) (find p ys) ≡ Some x → (find p ys ≡ Some x → test x ≡ true → list_any test ys ≡ true) → (test y || list_any test ys) ≡ true
+    at true q later = rw (ap test (same_Some y x q) ∙ k) refl
+    at false q later = or_later (test y) (list_any test ys) (later q k)
 
-    at_record : (o : Option (RecordOf B)) → record_of q old.live ≡ o →
-        IfSome (option_map (λ r. if r.id.0 == p.0 then record r { body = a.later } else r) o) (λ r. CanBeDropped r old.shared)
-    at_record None found = tt
-    at_record (Some r) found = polled_can r (r.id.0 == p.0) (can_be_dropped body old h all same q r found)
+module _ {B Code : Type 0} (body : BodyOf B Code) (old mid : PartsOf B Code) (p : ProcId) (later : B) {lost : List EventId} {more : ℕ}
+    (h : StandsForSome body old) (becomes : BecomesOwing body [] lost more (with_body p later) old mid) where
+  abbrev s : State B
+  s = h.state
+
+  abbrev t : State B
+  t = with_body p later s
+
+  setup : mid.setup ≡ old.setup
+  setup = becomes.opened.setup
+
+  mid_stands : Stands mid t
+  mid_stands = becomes.each s (lawful_stands body old s h.lawful h.stands)
+
+  -- the scopes that are open can be left
+  pub polled_can : CanLeave body mid
+  polled_can = record {
+    state = t;
+    stands = mid_stands;
+    owed = lost ++ [];
+    balances = becomes.accounts [] s (lawful_stands body old s h.lawful h.stands) h.balances;
+    waiting = all_waiting _ _ _ s h.lawful;
+    each = subst (λ (v : Setup). All (CanBeLeft v.resources s.facilities) s.scopes) (sym setup) (all_scopes _ _ _ s h.lawful);
+  }
+
+  ends_well : All (λ x. EndsWell s x.id) t.processes
+  ends_well =
+      let change : ProcessOf B → ProcessOf B = λ x. if is_process x.id p then record x { body = later } else x in
+      mapped_all (λ x. EndsWell s x.id) change s.processes (λ k d below.
+      let x : ProcessOf B = get_or s.processes k d in
+      at x (is_process x.id p) (all_end _ _ _ s h.lawful k d below))
+    where
+      at : (x : ProcessOf B) (b : Bool) → EndsWell s x.id → EndsWell s (if b then record x { body = later } else x).id
+      at x true w = w
+      at x false w = w
+
+  -- and each process that is alive can be dropped
+  pub can_be_dropped : (q : ProcId) (r : RecordOf B) → record_of q mid.live ≡ Some r → CanBeDropped body r mid
+  unfolding polled_can
+  can_be_dropped q r found =
+      let here : process_at q t ≡ Some (process_of r) = process_found mid t q mid_stands.distinct mid_stands.stands ∙ ap (option_map process_of) found in
+      let ends : EndsWell s r.id = find_has (λ x. EndsWell s x.id) (λ x. is_process x.id q) t.processes (process_of r) here ends_well in
+      let scopes : r.scopes ≡ scopes_of r.id t = find_has (λ x. x.scopes ≡ scopes_of x.id t) (λ x. x.id.0 == q.0) mid.live r found mid_stands.stands.scopes in
+      let alone : EventId → ℕ = held_alone mid.setup.events (body.tell mid.code) t in
+      let names : list_any (is_in_body (body.tell mid.code) r.target) t.processes ≡ true =
+      found_any (λ x. is_process x.id q) (is_in_body (body.tell mid.code) r.target) t.processes (process_of r) here (rw (is_same-self r.target) refl) in
+      let own : List OpenScope = filter (λ x. is_process x.process r.id) s.scopes in
+      record {
+        target = held_kept alone r.target (lost ++ []) mid.shared.happen.events polled_can.balances.holders (omega (arith, held_in_body mid.setup.events (body.tell mid.code) t r.target names));
+        few = omega (arith, ends.few, ap (λ xs. length xs) scopes, length-map own (λ (x : OpenScope). x.request), length-map own (λ (x : OpenScope). let y : Scope = record { request = x.request; res = x.res } in y));
+        can = polled_can;
+        is_open = ends.is_open;
+        apart = ends.apart;
+      }
+
+  pub polled_droppable : (q : ProcId) → IfSome (record_of q mid.live) (λ r. CanBeDropped body r mid)
+  polled_droppable q = at (record_of q mid.live) refl
+    where
+      at : (o : Option (RecordOf B)) → record_of q mid.live ≡ o → IfSome o (λ r. CanBeDropped body r mid)
+      at None found = tt
+      at (Some r) found = can_be_dropped q r found

@@ -1,57 +1,22 @@
 -- A process that ends is no longer alive, and its event has its outcome, as the machine has it.
-use Rattle.std.proofs.Common.{◌≡◌, ◌≢◌, ℕ, ◌<◌, ◌^◌, Bool, true, false, List, [], ◌∷◌, length, get_or, refl, sym, ap, subst, ◌∙◌, suc, cond, arith, map, filter, Option, Some, None, inl, inr, if◌then◌else◌}
-use Rattle.std.specs.Prelude.{All, AllPairs, not, ◌==◌, ◌&&◌, ◌||◌, is_none, IsSome, IsSomeAnd}
+use Rattle.std.proofs.Common.{◌≡◌, ℕ, Bool, true, false, List, [], ◌∷◌, refl, sym, ap, ◌∙◌, cond, Option, Some, if◌then◌else◌}
+use Rattle.std.specs.Prelude.{All, ◌==◌, IsSome}
 use Rattle.std.specs.Option.{option_map}
-use Rattle.std.specs.List.{list_any}
-use Rattle.std.specs.List.Sorted.{IsPermutation}
-use Rattle.std.proofs.lemmas.Bool.{eqb-true, false≢true, cases_Bool, and_parts}
-use Rattle.std.proofs.lemmas.List.Elements.{All-tail}
-use Rattle.std.proofs.lemmas.List.Kept.{AllPairs-filter}
-use Rattle.std.proofs.lemmas.List.Sorted.{IsPermutation-map, IsPermutation-trans, All-permutation}
-use Rattle.sim_types.specs.declared.event.EventId.{EventId}
-use Rattle.sim_types.specs.declared.event.EventKind.{EventKind}
-use Rattle.sim_types.specs.declared.event.EventKind.TheVariants as kind
+use Rattle.std.proofs.lemmas.Bool.{eqb-true}
 use Rattle.sim_types.specs.declared.event.ProcId.{ProcId}
-use Rattle.sim_types.specs.declared.event.Scope.{Scope}
-use Rattle.sim_types.specs.declared.event.Outcome.{Outcome}
 use Rattle.sim_types.specs.declared.event.Signal.{Signal}
 use Rattle.sim_types.specs.declared.op.Op.{Op}
-use Rattle.sim_types.proofs.Permutations.{Differ, IsPermutation-without}
-use Rattle.sim_machine.specs.State.{EventOf, Calendar, State}
-use Rattle.sim_machine.specs.Events.{is_process, event_at}
-use Rattle.sim_machine.specs.Triggering.{trigger}
-use Rattle.sim_machine.specs.Processes.{event_of, is_alive, process_at, not_active, rest, end_process}
-use Rattle.sim_machine.specs.Tellings.{Place, CodeFacts}
-use Rattle.sim_machine.specs.MayAsk.{may_ask}
+use Rattle.sim_machine.specs.State.{State}
 use Rattle.sim_machine.specs.Bodies.{BodyOf}
-use Rattle.sim_machine.specs.BodyLaw.{IsLawfulPoll, scopes_told}
-use Rattle.sim_machine.specs.LawfulProcesses.{is_process_kind}
-use Rattle.sim_machine.specs.LawfulWaiting.{requests_of, is_cancelled_well, may_wait_kind}
-use Rattle.sim_machine_law.proofs.LawfulBasis.{basis_of}
 use Rattle.sim_machine_law.proofs.KeptBodies.{find_has, find_passes}
-use Rattle.sim_machine_law.proofs.KeptTimes.{found_pending}
-use Rattle.sim_machine_law.proofs.KeptWaitingPolls.{own_scopes, none_passes, alive_without}
-use Rattle.sim_machine_law.proofs.KeptProcessesParts.{is_process-self, is_process-yes}
 use Rattle.sim_procs.specs.RecordOf.{RecordOf, record_of, change_record}
-use Rattle.sim_happen_model.specs.HappenOf.{HappenOf, IsOpen, as_before, held}
-use Rattle.sim_happen_model.specs.Shows.{Follows}
-use Rattle.sim_happen_law.proofs.Following.{read_is}
-use Rattle.sim_steps_model.specs.PartsOf.{PartsOf, IsRunning, plan_of, with_happen}
-use Rattle.sim_steps_model.specs.StandsFor.{StandsForSome, process_of, scopes_of}
-use Rattle.sim_steps_model.specs.Becoming.{AreAllKept, Becomes}
+use Rattle.sim_steps_model.specs.PartsOf.{PartsOf}
+use Rattle.sim_steps_model.specs.StandsFor.{scopes_of}
 use Rattle.sim_steps_model.specs.Polling.{Asks}
-use Rattle.sim_steps_law.proofs.Keeping.{adds_none, made_is_kept, keeps_same}
-use Rattle.sim_steps_law.proofs.Becoming.{entered_still, no_fewer, shown_with}
-use Rattle.sim_steps_law.proofs.Polls.{running_is, found_record}
-use Rattle.sim_steps_law.proofs.Running.{KeepsLaw, process_found, running_can_be_told}
-
--- ---- what becomes of the process
+use Rattle.sim_steps_law.proofs.Polls.{found_record}
 
 pub same_id : (p q : ProcId) → p.0 ≡ q.0 → p ≡ q
 same_id p q h = ap (λ (n : ℕ). let r : ProcId = record { 0 = n } in r) h
-
-pub differ : {B : Type 0} (s : State B) → AllPairs (λ x y. x.id ≢ y.id) s.processes → AllPairs (Differ (λ y. y.id.0)) s.processes
-differ s h = λ i j d before below. λ same. h i j d before below (same_id _ _ same)
 
 -- the record found is of this process
 pub found_id : {B : Type 0} (p : ProcId) (live : List (RecordOf B)) (r : RecordOf B) → record_of p live ≡ Some r → r.id.0 ≡ p.0
@@ -64,44 +29,6 @@ scopes_found p live r s found all =
     let told : r.scopes ≡ scopes_of r.id s = find_has (λ x. x.scopes ≡ scopes_of x.id s) (λ x. x.id.0 == p.0) live r found all in
     ap (λ q. scopes_of q s) (sym (same_id r.id p (found_id p live r found))) ∙ sym told
 
--- where p has no open scope, those that are open are of processes that stay alive when p ends
-still_owned : {B : Type 0} (s : State B) (p : ProcId) → All (λ x. is_alive x.process s ≡ true) s.scopes → scopes_of p s ≡ [] →
-    All (λ x. list_any (λ z. is_process z.id x.process) (filter (λ z. not (is_process z.id p)) s.processes) ≡ true) s.scopes
-still_owned s p owned none =
-    let others : All (λ x. is_process x.process p ≡ false) s.scopes = none_passes (λ x. is_process x.process p) (λ x. let y : Scope = record { request = x.request; res = x.res } in y) s.scopes none in
-    λ k d below. alive_without p (get_or s.scopes k d).process s (others k d below) (owned k d below)
-
-pub ended_becomes : {B Code : Type 0} (a n : PartsOf B Code) (x : HappenOf) (p : ProcId) (o : Outcome) (r : RecordOf B) (live : List (RecordOf B))
-    (spare : ℕ) → record_of p a.live ≡ Some r → r.scopes ≡ [] → IsPermutation a.live (r ∷ live) → Follows (trigger (event_of p) o) a.shared.happen x →
-    n ≡ record (with_happen x a) { live = live; control = not_active a.control; spare = spare } → Becomes (λ s. rest (end_process p o s)) a n
-ended_becomes {B} a n x p o r live spare found none others follows is =
-    rw is (record {
-      each = λ s h.
-          let id : r.id.0 ≡ p.0 = found_id p a.live r found in
-          let all : IsPermutation s.processes (process_of r ∷ map process_of live) =
-          IsPermutation-trans _ _ _ h.stands.processes (IsPermutation-map process_of a.live (r ∷ live) others) in
-          let P : ℕ → Type 0 = λ m. IsPermutation (filter (λ y. not (y.id.0 == m)) s.processes) (map process_of live) in
-          let fewer : P p.0 = subst P id (IsPermutation-without (λ y. y.id.0) (process_of r) s.processes (map process_of live) (differ s h.distinct) all) in
-          record {
-            stands = record {
-              facilities = shown_with a.shared x s.facilities (trigger (event_of p) o s.facilities.calendar) (no_fewer 0 as_before a.shared.happen x adds_none follows.held) (follows.each s.facilities.calendar h.stands.facilities.calendar) h.stands.facilities;
-              processed = h.stands.processed;
-              generator = h.stands.generator;
-              processes = fewer;
-              scopes = All-tail (λ y. y.scopes ≡ scopes_of y.id s) r live (All-permutation (λ y. y.scopes ≡ scopes_of y.id s) a.live (r ∷ live) others h.stands.scopes);
-              control = ap not_active h.stands.control;
-            };
-            distinct = AllPairs-filter (λ y z. y.id ≢ z.id) (λ y. not (is_process y.id p)) s.processes h.distinct;
-            owned = still_owned s p h.owned (scopes_found p a.live r s found h.stands.scopes ∙ none);
-            apart = h.apart;
-            entered = entered_still s.facilities.calendar (trigger (event_of p) o s.facilities.calendar) s.scopes
-                (omega (arith, no_fewer 0 as_before a.shared.happen x adds_none follows.held, h.stands.facilities.calendar.made, (follows.each s.facilities.calendar h.stands.facilities.calendar).made))
-                h.entered;
-          };
-      opened = record { code = refl; setup = refl; seed = refl };
-      kept = keeps_same a (record (with_happen x a) { live = live; control = not_active a.control; spare = spare }) follows.held;
-    })
-
 -- ---- what the ending of a process needs
 
 record_at : {B : Type 0} (p : ProcId) (change : RecordOf B → RecordOf B) (r : RecordOf B) (o q : Option (RecordOf B)) (b : Bool) → (r.id.0 == p.0) ≡ b →
@@ -110,40 +37,11 @@ record_at : {B : Type 0} (p : ProcId) (change : RecordOf B → RecordOf B) (r : 
 record_at p change r o q true is id h = rw (id, is) refl
 record_at p change r o q false is id h = rw is h
 
-record_changed : {B : Type 0} (p : ProcId) (change : RecordOf B → RecordOf B) → ((r : RecordOf B) → (change r).id ≡ r.id) → (live : List (RecordOf B)) →
+pub record_changed : {B : Type 0} (p : ProcId) (change : RecordOf B → RecordOf B) → ((r : RecordOf B) → (change r).id ≡ r.id) → (live : List (RecordOf B)) →
     record_of p (change_record p change live) ≡ option_map change (record_of p live)
 record_changed p change ids [] = refl
 record_changed p change ids (r ∷ live) =
     record_at p change r (record_of p (change_record p change live)) (record_of p live) (r.id.0 == p.0) refl (ids r) (record_changed p change ids live)
-
-map_empty : {X Y Z : Type 0} (f : X → Y) (g : X → Z) (xs : List X) → map g xs ≡ [] → map f xs ≡ []
-map_empty f g [] h = refl
-map_empty f g (x ∷ xs) h = cc
-
-length_zero : {X : Type 0} (xs : List X) → (length xs == 0) ≡ true → xs ≡ []
-length_zero [] h = refl
-length_zero (x ∷ xs) h = absurd (omega (arith, eqb-true (suc (length xs)) 0 h))
-
--- an event that is a process's is never cancelled
-uncancelled : (x : EventOf) → is_cancelled_well x ≡ true → is_process_kind x.kind ≡ true → x.cancelled ≡ false
-uncancelled x well process =
-    elim (cases_Bool x.cancelled) [
-      | inl is ↦ absurd (false≢true (sym (never_waits x.kind process) ∙ waits x.cancelled (may_wait_kind x.kind) (is_none x.outcome) is well))
-      | inr not_so ↦ not_so
-    ]
-  where
-    waits : (b k o : Bool) → b ≡ true → (not b || k && o) ≡ true → k ≡ true
-    waits true k o is h = (and_parts k o h).0
-    waits false k o is h = absurd (false≢true is)
-
-    never_waits : (k : EventKind) → is_process_kind k ≡ true → may_wait_kind k ≡ false
-    never_waits kind.Process h = refl
-    never_waits _ h = absurd (false≢true h)
-
--- an operation that comes only with no open scope
-abbrev pub AsksWithNoScope : CodeFacts → Op → Type 0
-AsksWithNoScope facts asked =
-    (own : ProcId) (places : List Place) (scopes : List EventId) → may_ask facts own places scopes asked ≡ true → (length scopes == 0) ≡ true
 
 module _ {B Code : Type 0} (body : BodyOf B Code) (old mid : PartsOf B Code) (p : ProcId) (told : Signal) (asked : Op) where
   -- the record of the process that was polled
@@ -157,47 +55,3 @@ module _ {B Code : Type 0} (body : BodyOf B Code) (old mid : PartsOf B Code) (p 
   -- it is still alive
   pub polled_alive : Asks body p told old asked mid → IsSome (record_of p mid.live)
   polled_alive a = rw (record_polled a).3 refl
-
-  -- where its operation comes only with no open scope, it has none
-  pub ended_scopes : (event : EventId) → AsksWithNoScope (body.facts old.code) asked → KeepsLaw body old.code → StandsForSome body old →
-      length old.shared.happen.events < 2 ^ 62 → IsRunning event p told old.control → Asks body p told old asked mid →
-      IsSomeAnd (record_of p mid.live) (λ r. r.scopes ≡ [])
-  ended_scopes event ends law h few running a =
-      let s = h.state in
-      let tell = body.tell old.code in
-      let r = record_polled a in
-      let is = running_is old.control event p told running in
-      let found : process_at p s ≡ Some (process_of r.0) = process_found old s p h.lawful.processes.distinct h.stands ∙ ap (λ o. option_map process_of o) r.1 in
-      let can = running_can_be_told body old event p told a.before h running a.found few in
-      let poll : IsLawfulPoll (body.facts old.code) tell a.before told asked a.later = law.polls a.before old.shared.happen.time told asked a.later can.sound can.told a.turned in
-      let none : scopes_told (tell.scopes a.before) (tell.last a.before) told ≡ [] = length_zero _ (ends (tell.own a.later) (tell.places a.later) _ poll.asks) in
-      let waiting = (basis_of (plan_of body old) tell (body.sound old.code) s h.lawful).waiting in
-      let own = (own_scopes (plan_of body old) tell s event is.0 p told (process_of r.0) (sym h.stands.control ∙ is.1) found waiting p (is_process-self p)).0 in
-      let requests : requests_of p s ≡ [] = own ∙ rw r.2 none in
-      let told_scopes : r.0.scopes ≡ scopes_of r.0.id s = find_has (λ x. x.scopes ≡ scopes_of x.id s) (λ x. x.id.0 == p.0) old.live r.0 r.1 h.stands.scopes in
-      let same : r.0.id ≡ p = is_process-yes r.0.id p (find_passes (λ x. x.id.0 == p.0) old.live r.0 r.1) in
-      let scopes : scopes_of p s ≡ [] = map_empty _ (λ x. x.request) (filter (λ x. is_process x.process p) s.scopes) requests in
-      rw r.3 (told_scopes ∙ (ap (λ q. scopes_of q s) same ∙ scopes))
-
-  -- its event is kept, pending and not cancelled
-  pub polled_open : StandsForSome body old → AreAllKept (2 ^ 40) (held old.shared.happen) → Asks body p told old asked mid → IsOpen mid.shared.happen (event_of p)
-  polled_open h all a =
-      let s = h.state in
-      let c : Calendar = s.facilities.calendar in
-      let e : EventId = event_of p in
-      let tell = body.tell old.code in
-      let r = record_polled a in
-      let found : process_at p s ≡ Some (process_of r.0) = process_found old s p h.lawful.processes.distinct h.stands ∙ ap (λ o. option_map process_of o) r.1 in
-      let own = found_pending (plan_of body old) tell (body.sound old.code) s p (process_of r.0) found (basis_of (plan_of body old) tell (body.sound old.code) s h.lawful) in
-      let kept = made_is_kept (2 ^ 40) old.shared.happen e all (subst (λ n. e.0 < n) (sym h.stands.facilities.calendar.made) own.0) in
-      let same = read_is old.shared.happen c e kept h.stands.facilities.calendar in
-      let well : is_cancelled_well (event_at c e) ≡ true = h.lawful.waiting.cancelled e.0 _ own.0 in
-      rw a.others (record {
-        kept = kept;
-        pending = ap (λ (x : EventOf). x.outcome) same ∙ none_of (event_at c e).outcome own.1;
-        not_cancelled = ap (λ (x : EventOf). x.cancelled) same ∙ uncancelled (event_at c e) well own.3;
-      })
-    where
-      none_of : (o : Option Outcome) → is_none o ≡ true → o ≡ None
-      none_of None h = refl
-      none_of (Some x) h = absurd (false≢true h)

@@ -1,214 +1,247 @@
--- Scopes are left one after another.
-use Rattle.std.proofs.Common.{◌≡◌, ◌≢◌, ℕ, ◌+◌, ◌<◌, ◌≤◌, Bool, true, false, ◌||◌, not, List, [], ◌∷◌, ◌++◌, Option, Some, None, length, filter, refl, sym, ap, subst, ◌∙◌, arith, inl, inr, All}
-use Rattle.std.specs.Prelude.{◌==◌, slice_index_or, reverse, is_none}
+-- All scopes of a process are left, one after another.
+use Rattle.std.proofs.Common.{◌≡◌, ◌≢◌, ℕ, ◌+◌, ◌<◌, ◌≤◌, Bool, true, false, not, List, [], ◌∷◌, ◌++◌, Option, Some, None, length, filter, refl, sym, ap, ◌∙◌, arith, if◌then◌else◌, All, AllPairs}
+use Rattle.std.specs.Prelude.{fold, reverse, is_some, IsSome, IsSomeAnd, option_and_then}
 use Rattle.std.specs.Option.{option_map}
-use Rattle.std.specs.List.{list_any, AllPass}
-use Rattle.std.proofs.lemmas.Bool.{cases_Bool, false≢true, false_from_ne_true, eqb-true}
+use Rattle.std.proofs.lemmas.Bool.{false≢true}
 use Rattle.std.proofs.lemmas.Option.{none-some, same_Some}
-use Rattle.std.proofs.lemmas.List.{length-append, length-map, length-set, reverse-append}
-use Rattle.std.proofs.lemmas.List.Elements.{All-cons, All-filter, All-head, All-nil, All-same, All-tail, All-weaker}
-use Rattle.std.proofs.lemmas.List.Sums.{fold-append}
+use Rattle.std.proofs.lemmas.List.{reverse-append}
+use Rattle.std.proofs.lemmas.List.Elements.{All-filter, All-head, All-tail}
+use Rattle.std.proofs.lemmas.List.Kept.{AllPairs-filter}
 use Rattle.sim_types.specs.declared.event.EventId.{EventId}
+use Rattle.sim_types.specs.declared.event.ProcId.{ProcId}
 use Rattle.sim_types.specs.declared.event.Scope.{Scope}
-use Rattle.sim_machine.specs.State.{EventOf, Calendar, Facilities, Waiter}
-use Rattle.sim_machine.specs.Events.{is_same, event_at, is_pending}
-use Rattle.sim_machine.specs.Standing.{was_made, kind_at}
-use Rattle.sim_machine.specs.LawfulWaiting.{may_wait_kind, waits_well}
-use Rattle.sim_machine.specs.Requests as requests
+use Rattle.sim_types.proofs.Permutations.{AllPairs-head, AllPairs-tail}
+use Rattle.sim_machine.specs.State.{OpenScope, State}
+use Rattle.sim_machine.specs.Bodies.{BodyOf}
+use Rattle.sim_machine.specs.Events.{is_process, is_same}
+use Rattle.sim_machine.specs.Users.{first_of_list}
+use Rattle.sim_machine.specs.Effect.{calendar}
+use Rattle.sim_machine.specs.MayAsk.{most_scopes}
+use Rattle.sim_machine.specs.Scopes.{scopes_inwards, close_scope, close_if_any, leave_innermost, leave_all}
+use Rattle.sim_machine.specs.LawfulWaiting.{AreOfTwo}
+use Rattle.sim_machine_law.proofs.DroppedWaiting.{All-reverse}
 use Rattle.sim_machine_law.proofs.EventLaws.{is_same-self, is_same-yes}
-use Rattle.sim_machine_law.proofs.KeptBodies.{four_parts}
-use Rattle.sim_machine_law.proofs.KeptRegistrationsCalendar.{made_below}
-use Rattle.sim_machine_law.proofs.KeptTimesCases.{if_cases}
-use Rattle.sim_machine_law.proofs.ClosedScopes.{All-passing, SameButOne, same_left, waits_still}
-use Rattle.sim_machine_law.proofs.ReleasedUsers.{waiters_left}
-use Rattle.sim_machine_law.proofs.TriedQueues.{IsOneOf, all_one_of}
-use Rattle.sim_procs.specs.RecordOf.{innermost, without_innermost}
-use Rattle.sim_happen_model.specs.HappenOf.{HappenOf, IsOpen, held, one_more, unheld_event, none_if_unheld, gone_if_unheld}
-use Rattle.sim_happen_model.specs.Shows.{Turns}
-use Rattle.sim_happen_law.proofs.Following.{read_is}
-use Rattle.sim_happen_law.proofs.Held.{holders_at}
-use Rattle.sim_shared_model.specs.Resources.{waiting_at}
-use Rattle.sim_shared_model.specs.SharedOf.{SharedOf}
-use Rattle.sim_shared_model.specs.ShowsAll.{ShowsAll, TurnsAll}
-use Rattle.sim_shared_model.specs.Waiting.{AreAllOpen, LeavesRoom, WaitsAtMostAt, gone_if_waits, waits_at}
-use Rattle.sim_shared_law.proofs.WaitingEvents.{is_at, is_of, waits_shown}
-use Rattle.sim_shared_law.proofs.CancelledEvents.{waits_there}
-use Rattle.sim_steps_model.specs.Becoming.{AreAllKept}
-use Rattle.sim_steps_model.specs.Dropping.{CanBeLeft, CanLeave, Leaves, leave_each}
-use Rattle.sim_steps_law.proofs.Keeping.{adds_one_more, all_kept_left, all_kept_weaker, made_is_kept}
-use Rattle.sim_steps_law.proofs.Becoming.{no_fewer, shown_with}
+use Rattle.sim_machine_law.proofs.LeftScopes.{keeps, filter_swap, innermost_later, innermost_one, none_is_some, one_is_some}
+use Rattle.sim_machine_law.proofs.TriedQueues.{one_has}
+use Rattle.sim_procs.specs.RecordOf.{RecordOf, record_of, innermost, without_innermost}
+use Rattle.sim_steps_model.specs.PartsOf.{PartsOf}
+use Rattle.sim_steps_model.specs.Becoming.{Stands, Becomes}
+use Rattle.sim_steps_model.specs.Dropping.{CanLeave, IsOpenIn, LeavesAll, LeavesInnermost, without_scopes}
+use Rattle.sim_steps_law.proofs.Keeping.{few_same}
+use Rattle.sim_steps_law.proofs.Becoming.{becomes_as, becomes_then}
+use Rattle.sim_steps_law.proofs.Ending.{record_changed}
+use Rattle.sim_steps_law.proofs.HeldScopes.{none_found, open_still}
 
--- ---- what waits, as it is shown
+-- ---- all scopes are left by leaving the innermost again and again
 
-any_one : {X : Type 0} (test : X → Bool) (xs : List X) (x : X) → test x ≡ true → IsOneOf xs x → list_any test xs ≡ true
-any_one test [] x passes none = absurd none
-any_one test (y ∷ ys) x passes (inl same) = rw (ap test same ∙ passes) refl
-any_one test (y ∷ ys) x passes (inr later) = or_second (test y) (list_any test ys) (any_one test ys x passes later)
+-- once the innermost is closed, the others stand in order
+inwards_left : (ys : List OpenScope) (x : OpenScope) → AllPairs AreOfTwo ys → first_of_list (reverse ys) ≡ Some x →
+    reverse ys ≡ x ∷ reverse (filter (keeps x.request) ys)
+inwards_left [] x k h = absurd (none_is_some x h)
+inwards_left (y ∷ []) x k h =
+    let same : y ≡ x = one_is_some y x h in
+    let out : keeps x.request y ≡ false = ap (λ (v : OpenScope). keeps x.request v) same ∙ ap not (is_same-self x.request) in
+    ap (λ (v : OpenScope). v ∷ []) same ∙ sym (ap (λ (b : Bool). x ∷ reverse (if b then y ∷ [] else [])) out)
+inwards_left (y ∷ v ∷ ys) x k h =
+    let inner : first_of_list (reverse (v ∷ ys)) ≡ Some x = sym (innermost_later y v ys) ∙ h in
+    let differ : y.request ≢ x.request = one_has (AreOfTwo y) (v ∷ ys) x (AllPairs-head AreOfTwo y (v ∷ ys) k) (innermost_one (v ∷ ys) x inner) in
+    let rest : List OpenScope = filter (keeps x.request) (v ∷ ys) in
+    let stays : keeps x.request y ≡ true = not_same (is_same y.request x.request) (λ same. differ (is_same-yes y.request x.request same)) in
+    reverse-append (y ∷ []) (v ∷ ys)
+    ∙ (ap (λ zs. zs ++ y ∷ []) (inwards_left (v ∷ ys) x (AllPairs-tail AreOfTwo y (v ∷ ys) k) inner)
+    ∙ (ap (λ zs. x ∷ zs) (sym (reverse-append (y ∷ []) rest)) ∙ sym (ap (λ (b : Bool). x ∷ reverse (if b then y ∷ rest else rest)) stays)))
   where
-    or_second : (a b : Bool) → b ≡ true → (a || b) ≡ true
-    or_second true b h = refl
-    or_second false b h = h
+    not_same : (b : Bool) → (b ≡ true → ⊥) → not b ≡ true
+    not_same true h = absurd (h refl)
+    not_same false h = refl
 
--- what waits was made, is pending and was not cancelled
-waiting_parts : (c : Calendar) (ws : List Waiter) (e : EventId) → AllPass (waits_well c) ws → list_any (is_of e) ws ≡ true →
-    (was_made c e ≡ true) × (is_pending c e ≡ true) × (not (event_at c e).cancelled ≡ true)
-waiting_parts c [] e h k = absurd (false≢true k)
-waiting_parts c (w ∷ ws) e h k =
-    elim (cases_Bool (is_same w.event e)) [
-      | inl is ↦
-          let P : EventId → Type 0 = λ n. (was_made c n ≡ true) × (is_pending c n ≡ true) × (not (event_at c n).cancelled ≡ true) in
-          let n : EventId = w.event in
-          let parts = four_parts (was_made c n) (is_pending c n) (not (event_at c n).cancelled) (may_wait_kind (kind_at c n)) (All-head (λ v. waits_well c v ≡ true) w ws h) in
-          subst P (is_same-yes w.event e is) (parts.0, parts.1, parts.2)
-      | inr other ↦ waiting_parts c ws e (All-tail (λ v. waits_well c v ≡ true) w ws h) (rw other at k)
-    ]
-
-no_outcome : (x : EventOf) → is_none x.outcome ≡ true → x.outcome ≡ None
-no_outcome x h = at x.outcome h
+-- to leave the innermost first changes nothing where all are left
+pub first_left : {B : Type 0} (p : ProcId) (s : State B) → AllPairs AreOfTwo s.scopes → leave_all p (leave_innermost p s) ≡ leave_all p s
+first_left {B} p s apart = at (first_of_list (scopes_inwards p s)) refl
   where
-    at : {X : Type 0} (o : Option X) → is_none o ≡ true → o ≡ None
-    at None h = refl
-    at (Some v) h = absurd (false≢true h)
+    at : (o : Option OpenScope) → first_of_list (scopes_inwards p s) ≡ o → leave_all p (close_if_any o s) ≡ leave_all p s
+    at None is = refl
+    at (Some z) is =
+        let mine : OpenScope → Bool = λ x. is_process x.process p in
+        let own : List OpenScope = filter mine s.scopes in
+        let whole : scopes_inwards p s ≡ z ∷ reverse (filter (keeps z.request) own) = inwards_left own z (AllPairs-filter AreOfTwo mine s.scopes apart) is in
+        ap (λ xs. fold close_scope (close_scope s z) (reverse xs)) (filter_swap mine (keeps z.request) s.scopes) ∙ sym (ap (λ xs. fold close_scope s xs) whole)
 
-not_so : (b : Bool) → not b ≡ true → b ≡ false
-not_so true h = absurd (false≢true h)
-not_so false h = refl
+-- and where none is open, nothing is done
+pub none_left : {B : Type 0} (p : ProcId) (s : State B) → filter (λ x. is_process x.process p) s.scopes ≡ [] → leave_all p s ≡ s
+none_left p s none = ap (λ xs. fold close_scope s (reverse xs)) none
 
-pub open_shown : (most : ℕ) (h : SharedOf) (f : Facilities) → AreAllKept most (held h.happen) → ShowsAll h f → AllPass (waits_well f.calendar) f.waiters →
-    AreAllOpen h
-open_shown most h f all shown waiting =
-    record {
-      each = λ res x there.
-          All-weaker (IsOneOf (waiting_at x)) (IsOpen h.happen) (λ e one.
-          let waits : waits_at e x ≡ true = any_one (λ g. is_same g e) (waiting_at x) e (is_same-self e) one in
-          let parts = waiting_parts f.calendar f.waiters e waiting (waits_there h f res x e shown there waits) in
-          let kept = made_is_kept most h.happen e all (subst (λ n. e.0 < n) (sym shown.calendar.made) (made_below f.calendar e parts.0)) in
-          let same = read_is h.happen f.calendar e kept shown.calendar in
-          record {
-            kept = kept;
-            pending = ap (λ (y : EventOf). y.outcome) same ∙ no_outcome (event_at f.calendar e) parts.1;
-            not_cancelled = ap (λ (y : EventOf). y.cancelled) same ∙ not_so (event_at f.calendar e).cancelled parts.2;
-          }) (waiting_at x) (all_one_of (waiting_at x));
-    }
+-- ---- an event that is no request of a scope stays open
 
-none_elsewhere : (e : EventId) (res n : ℕ) (ws : List Waiter) → n ≢ res → All (λ w. is_same w.event e ≡ true → w.res ≡ res) ws →
-    list_any (is_of e) (filter (is_at n) ws) ≡ false
-none_elsewhere e res n [] differ h = refl
-none_elsewhere e res n (w ∷ ws) differ h =
-    let P : Waiter → Type 0 = λ v. is_same v.event e ≡ true → v.res ≡ res in
-    let later : list_any (is_of e) (filter (is_at n) ws) ≡ false = none_elsewhere e res n ws differ (All-tail P w ws h) in
-    if_cases (λ vs. list_any (is_of e) vs ≡ false) (w.res == n) (w ∷ filter (is_at n) ws) (filter (is_at n) ws)
-    (λ here. rw (false_from_ne_true (is_same w.event e) (λ same. differ (sym (eqb-true w.res n here) ∙ All-head P w ws h same))) later)
-    (λ away. later)
+still_open : {B : Type 0} (xs : List OpenScope) (s : State B) (e : EventId) → All (λ x. x.request.0 ≢ e.0) xs → IsOpenIn (calendar s) e →
+    IsOpenIn (calendar (fold close_scope s xs)) e
+still_open [] s e apart h = h
+still_open (x ∷ xs) s e apart h =
+    let P : OpenScope → Type 0 = λ y. y.request.0 ≢ e.0 in
+    still_open xs (close_scope s x) e (All-tail P x xs apart) (open_still [] s x e (λ same. All-head P x xs apart (sym same)) h)
 
-pub alone_shown : (h : SharedOf) (f : Facilities) (e : EventId) (res : ℕ) → ShowsAll h f → All (λ w. is_same w.event e ≡ true → w.res ≡ res) f.waiters →
-    WaitsAtMostAt e res h
-alone_shown h f e res shown alone =
-    record { elsewhere = λ n x differ there. waits_shown h.setup n x f e (shown.resources n x there) ∙ none_elsewhere e res n f.waiters differ alone }
+pub open_after : {B : Type 0} (p : ProcId) (s : State B) (e : EventId) → All (λ x. x.request.0 ≢ e.0) s.scopes → IsOpenIn (calendar s) e →
+    IsOpenIn (calendar (leave_all p s)) e
+open_after p s e apart h =
+    let mine : OpenScope → Bool = λ x. is_process x.process p in
+    let P : OpenScope → Type 0 = λ x. x.request.0 ≢ e.0 in
+    still_open (scopes_inwards p s) s e (All-reverse P (filter mine s.scopes) (All-filter mine P s.scopes apart)) h
 
--- ---- one scope
+-- ---- the loop
 
-pub held_shown : (a : SharedOf) (h : HappenOf) (e : EventId) (f : Facilities) → Turns (λ c. c) (one_more e) a.happen h → ShowsAll a f →
-    ShowsAll (record a { happen = h }) f
-held_shown a h e f t s = shown_with a h f f.calendar (no_fewer 1 (one_more e) a.happen h (adds_one_more e) t.held) (t.each f.calendar s.calendar) s
+innermost_within : (xs : List Scope) (x : Scope) → innermost xs ≡ Some x → length xs ≡ length (without_innermost xs) + 1
+innermost_within [] x h = absurd (none-some x h)
+innermost_within (s ∷ []) x h = refl
+innermost_within (s ∷ t ∷ xs) x h = omega (arith, innermost_within (t ∷ xs) x h)
 
-pub leaves_one : (x : Scope) (a b : SharedOf) (h : HappenOf) (waited : Bool) → x.request.0 < length a.happen.events →
-    Turns (λ c. c) (one_more x.request) a.happen h → h.spare ≡ a.happen.spare →
-    TurnsAll (requests.leave x.res x.request) (λ hs. unheld_event (gone_if_waits waited x.request hs)) (record a { happen = h }) b → LeavesRoom h b.happen →
-    Leaves (x ∷ []) a b
-leaves_one x a b h waited made t spare l room =
-    let is : held b.happen ≡ unheld_event (gone_if_waits waited x.request (one_more x.request (held a.happen))) =
-    l.held ∙ ap (λ hs. unheld_event (gone_if_waits waited x.request hs)) t.held in
-    let below : x.request.0 < length (held a.happen) = omega (arith, made, length-map a.happen.events holders_at) in
-    record {
-      each = λ f s. l.each f (held_shown a h x.request f t s);
-      kept = λ most all. subst (AreAllKept (most + 1)) (sym is) (all_kept_left most x.request waited (held a.happen) below all);
-      left = l.left ∙ t.left;
-      setup = l.setup;
-      made = omega (arith, ap (λ (hs : List (Option ℕ)). length hs) is, length-map a.happen.events holders_at, length-map b.happen.events holders_at, length_left waited x.request (held a.happen));
-      events = subst (λ n. n.events ≤ b.happen.spare.events + 1) spare room.never_less;
-      callbacks = subst (λ n. n.callbacks ≤ b.happen.spare.callbacks + 1) spare room.callbacks;
-    }
+some_within : (xs : List Scope) → is_some (innermost xs) ≡ true → length xs ≡ length (without_innermost xs) + 1
+some_within xs h = at (innermost xs) refl h
   where
-    length_left : (w : Bool) (e : EventId) (hs : List (Option ℕ)) → length (unheld_event (gone_if_waits w e (one_more e hs))) ≡ length hs + 1
-    length_left true e hs =
-        let hold : List (Option ℕ) = one_more e hs in
-        omega (arith, length-append (gone_if_unheld e hold) (Some 0 ∷ []), length-set hold e.0 (none_if_unheld (slice_index_or hold e.0 None)), length-set hs e.0 (option_map (λ n. n + 1) (slice_index_or hs e.0 None)))
-    length_left false e hs = omega (arith, length-append (one_more e hs) (Some 0 ∷ []), length-set hs e.0 (option_map (λ n. n + 1) (slice_index_or hs e.0 None)))
+    at : (o : Option Scope) → innermost xs ≡ o → is_some o ≡ true → length xs ≡ length (without_innermost xs) + 1
+    at None is k = absurd (false≢true k)
+    at (Some x) is k = innermost_within xs x is
 
-pub can_first : (x : Scope) (xs : List Scope) (a : SharedOf) → CanLeave (x ∷ xs) a → CanLeave (x ∷ []) a
-can_first x xs a can =
-    let P : Scope → Type 0 = CanBeLeft a.setup can.facilities in
-    record { facilities = can.facilities; shown = can.shown; waiting = can.waiting; each = All-cons P x [] (All-head P x xs can.each) (All-nil P) }
+none_within : (xs : List Scope) → is_some (innermost xs) ≡ false → xs ≡ []
+none_within [] h = refl
+none_within (s ∷ []) h = absurd (false≢true (sym h))
+none_within (s ∷ t ∷ xs) h = absurd (not_none t xs h)
+  where
+    not_none : (v : Scope) (ys : List Scope) → is_some (innermost (v ∷ ys)) ≡ false → ⊥
+    not_none v [] k = false≢true (sym k)
+    not_none v (y ∷ ys) k = not_none y ys k
 
--- the others can be left then
-pub can_leave_next : (x : Scope) (xs : List Scope) (a b : SharedOf) → CanLeave (x ∷ xs) a → Leaves (x ∷ []) a b → CanLeave xs b
-can_leave_next x xs a b can l =
-    let f : Facilities = can.facilities in
-    let r : EventId = x.request in
-    let g : Facilities = requests.leave x.res r f in
-    let keep : Waiter → Bool = λ w. not (is_same w.event r) in
-    let ws : g.waiters ≡ filter keep f.waiters = waiters_left x.res r f in
-    let one : SameButOne r f.calendar g.calendar = same_left x.res r f in
+-- from a to b some scopes of p were left; r is its record, of which these scopes are still open
+pub record LeavesSome {B Code : Type 0} (body : BodyOf B Code) (p : ProcId) (a b : PartsOf B Code) : Type 0 where
+  pub does : State B → State B
+  pub becomes : Becomes body does a b
+  pub same : (s : State B) → Stands a s → leave_all p (does s) ≡ leave_all p s
+  pub can : CanLeave body b
+  pub was : RecordOf B
+  pub still : List Scope
+  pub gone : ℕ
+  pub before : record_of p a.live ≡ Some was
+  pub now : record_of p b.live ≡ Some (record was { scopes = still })
+  pub count : length was.scopes ≡ gone + length still
+  pub control : b.control ≡ a.control
+  pub made : length b.shared.happen.events ≤ length a.shared.happen.events + gone
+  pub events : a.shared.happen.spare.events ≤ b.shared.happen.spare.events + gone
+  pub callbacks : a.shared.happen.spare.callbacks ≤ b.shared.happen.spare.callbacks + gone
+
+pub leaves_first : {B Code : Type 0} {body : BodyOf B Code} (p : ProcId) (a : PartsOf B Code) (r : RecordOf B) → record_of p a.live ≡ Some r → CanLeave body a → LeavesSome body p a a
+leaves_first p a r found can =
     record {
-      facilities = g;
-      shown = l.each f can.shown;
-      waiting = All-same (λ w. waits_well g.calendar w ≡ true) g.waiters (filter keep f.waiters) ws
-          (All-passing (λ w. waits_well f.calendar w ≡ true) (λ w. waits_well g.calendar w ≡ true) keep f.waiters (λ w away h. waits_still r f.calendar g.calendar w one away h) can.waiting);
-      each = All-weaker (CanBeLeft a.setup f) (CanBeLeft b.setup g) (λ y h. record {
-        made = omega (arith, h.made, one.longer);
-        there = rw l.setup h.there;
-        slots = rw l.setup h.slots;
-        alone = let P : Waiter → Type 0 = λ w. is_same w.event y.request ≡ true → w.res ≡ y.res in All-same P g.waiters (filter keep f.waiters) ws (All-filter keep P f.waiters h.alone);
-      }) xs (All-tail (CanBeLeft a.setup f) x xs can.each);
-    }
-
--- ---- one after another
-
-pub leaves_none : (a : SharedOf) → Leaves [] a a
-leaves_none a =
-    record {
-      each = λ f s. s;
-      kept = λ most h. all_kept_weaker most (most + 0) (held a.happen) (omega arith) h;
-      left = refl;
-      setup = refl;
+      does = λ s. s;
+      becomes = record { each = λ s h. h; accounts = λ todo s h k. k; opened = record { code = refl; setup = refl; seed = refl }; few = few_same a a refl };
+      same = λ s h. refl;
+      can = can;
+      was = r;
+      still = r.scopes;
+      gone = 0;
+      before = found;
+      now = found;
+      count = omega arith;
+      control = refl;
       made = omega arith;
       events = omega arith;
       callbacks = omega arith;
     }
 
-pub leaves_then : (xs ys : List Scope) (a b c : SharedOf) → Leaves xs a b → Leaves ys b c → Leaves (xs ++ ys) a c
-leaves_then xs ys a b c p q =
+-- whether one is still open
+pub still_some : {B Code : Type 0} {body : BodyOf B Code} (p : ProcId) (a b : PartsOf B Code) (l : LeavesSome body p a b) →
+    is_some (option_and_then (λ r. innermost r.scopes) (record_of p b.live)) ≡ is_some (innermost l.still)
+still_some {B} p a b l = ap (λ (o : Option (RecordOf B)). is_some (option_and_then (λ r. innermost r.scopes) o)) l.now
+
+pub leaves_next : {B Code : Type 0} {body : BodyOf B Code} (p : ProcId) (a b c : PartsOf B Code) (l : LeavesSome body p a b) → is_some (innermost l.still) ≡ true → LeavesInnermost body p b c →
+    LeavesSome body p a c
+leaves_next {B} {Code} p a b c l some k =
+    let fewer : length l.still ≡ length (without_innermost l.still) + 1 = some_within l.still some in
+    let popped : RecordOf B → RecordOf B = λ r. record r { scopes = without_innermost r.scopes } in
     record {
-      each = λ f s. subst (ShowsAll c) (sym (fold-append (λ (g : Facilities) (x : Scope). requests.leave x.res x.request g) f xs ys)) (q.each (leave_each xs f) (p.each f s));
-      kept = λ most h. all_kept_weaker (most + length xs + length ys) (most + length (xs ++ ys)) (held c.happen) (omega (arith, length-append xs ys)) (q.kept (most + length xs) (p.kept most h));
-      left = q.left ∙ p.left;
-      setup = q.setup ∙ p.setup;
-      made = omega (arith, p.made, q.made, length-append xs ys);
-      events = omega (arith, p.events, q.events, length-append xs ys);
-      callbacks = omega (arith, p.callbacks, q.callbacks, length-append xs ys);
+      does = λ s. leave_innermost p (l.does s);
+      becomes = becomes_then l.does (leave_innermost p) a b c l.becomes k.becomes;
+      same = λ s h. first_left p (l.does s) (l.becomes.each s h).apart ∙ l.same s h;
+      can = k.can;
+      was = l.was;
+      still = without_innermost l.still;
+      gone = l.gone + 1;
+      before = l.before;
+      now = ap (λ (live : List (RecordOf B)). record_of p live) k.live
+          ∙ (record_changed p popped (λ r. refl) b.live ∙ ap (λ (o : Option (RecordOf B)). option_map popped o) l.now);
+      count = omega (arith, l.count, fewer);
+      control = k.control ∙ l.control;
+      made = omega (arith, l.made, k.made);
+      events = omega (arith, l.events, k.events);
+      callbacks = omega (arith, l.callbacks, k.callbacks);
     }
 
--- ---- from the innermost outwards
+-- fewer scopes are open than before
+pub leaves_fewer : {B Code : Type 0} {body : BodyOf B Code} (p : ProcId) (a b : PartsOf B Code) (l : LeavesSome body p a b) → is_some (innermost l.still) ≡ true →
+    length (without_innermost l.still) < length l.still
+leaves_fewer p a b l some = omega (arith, some_within l.still some)
 
-pub innermost_first : (xs : List Scope) (x : Scope) → innermost xs ≡ Some x → reverse xs ≡ x ∷ reverse (without_innermost xs)
-innermost_first [] x h = absurd (none-some x h)
-innermost_first (s ∷ []) x h = ap (λ y. y ∷ []) (same_Some s x h)
-innermost_first (s ∷ t ∷ xs) x h =
-    reverse-append (s ∷ []) (t ∷ xs)
-    ∙ (ap (λ zs. zs ++ s ∷ []) (innermost_first (t ∷ xs) x h) ∙ ap (λ zs. x ∷ zs) (sym (reverse-append (s ∷ []) (without_innermost (t ∷ xs)))))
+-- when none is open any more, all were left
+pub leaves_last : {B Code : Type 0} {body : BodyOf B Code} (p : ProcId) (a b c : PartsOf B Code) (l : LeavesSome body p a b) → is_some (innermost l.still) ≡ false → LeavesInnermost body p b c →
+    LeavesAll body p a c
+leaves_last {B} {Code} p a b c l none k =
+    let over : l.still ≡ [] = none_within l.still none in
+    let with_scopes : List Scope → RecordOf B = λ xs. record l.was { scopes = xs } in
+    let popped : RecordOf B → RecordOf B = λ r. record r { scopes = without_innermost r.scopes } in
+    let now : record_of p b.live ≡ Some (with_scopes []) = l.now ∙ ap (λ xs. Some (with_scopes xs)) over in
+    let later : record_of p c.live ≡ Some (with_scopes []) =
+    ap (λ (live : List (RecordOf B)). record_of p live) k.live ∙ (record_changed p popped (λ r. refl) b.live ∙ ap (λ (o : Option (RecordOf B)). option_map popped o) now) in
+    record {
+      becomes = becomes_as (λ s. leave_innermost p (l.does s)) (leave_all p) a c
+          (λ s h.
+          let t : State B = l.does s in
+          let at : Stands b t = l.becomes.each s h in
+          sym (none_left p (leave_innermost p t) (none_found c p (with_scopes []) later refl (leave_innermost p t) (k.becomes.each t at))) ∙ (first_left p t at.apart ∙ l.same s h))
+          (becomes_then l.does (leave_innermost p) a b c l.becomes k.becomes);
+      can = k.can;
+      found = later ∙ sym (ap (λ (o : Option (RecordOf B)). option_map without_scopes o) l.before);
+      control = k.control ∙ l.control;
+    }
 
-pub none_innermost : (xs : List Scope) → innermost xs ≡ None → xs ≡ []
-none_innermost [] h = refl
-none_innermost (s ∷ []) h = absurd (none-some s (sym h))
-none_innermost (s ∷ t ∷ xs) h = absurd (some_innermost (t ∷ xs) s t xs refl h)
+-- ---- by the record of the process, if it has one
+
+-- how many scopes are open
+abbrev pub scope_count : {B : Type 0} → Option (RecordOf B) → ℕ
+scope_count None = 0
+scope_count (Some r) = length r.scopes
+
+module _ {B Code : Type 0} {body : BodyOf B Code} (p : ProcId) {a b : PartsOf B Code} (l : LeavesSome body p a b) where
+  -- the process is alive
+  pub some_alive : IsSome (record_of p b.live)
+  some_alive = rw l.now refl
+
+  -- so many may be open as were at most
+  pub gone_few : IsSomeAnd (record_of p a.live) (λ r. length r.scopes ≤ most_scopes) → l.gone + length l.still ≤ most_scopes
+  gone_few few = let h : length l.was.scopes ≤ most_scopes = rw l.before at few in omega (arith, h, l.count)
+
+  abbrev HasOne : Bool → Type 0
+  HasOne v = is_some (option_and_then (λ r. innermost r.scopes) (record_of p b.live)) ≡ v
+
+  module _ (c : PartsOf B Code) (k : LeavesInnermost body p b c) where
+    -- where one was open, there is one fewer
+    pub some_next : HasOne true → LeavesSome body p a c
+    some_next one = leaves_next p a b c l (sym (still_some p a b l) ∙ one) k
+
+    pub some_fewer : HasOne true → scope_count (record_of p c.live) < scope_count (record_of p b.live)
+    some_fewer one =
+        let next : LeavesSome body p a c = some_next one in
+        let over : is_some (innermost l.still) ≡ true = sym (still_some p a b l) ∙ one in
+        let popped : RecordOf B → RecordOf B = λ r. record r { scopes = without_innermost r.scopes } in
+        let later : record_of p c.live ≡ Some (record l.was { scopes = without_innermost l.still }) =
+        ap (λ (live : List (RecordOf B)). record_of p live) k.live ∙ (record_changed p popped (λ r. refl) b.live ∙ ap (λ (o : Option (RecordOf B)). option_map popped o) l.now) in
+        omega (arith, ap scope_count later, ap scope_count l.now, leaves_fewer p a b l over)
+
+    -- where none was, all were left
+    pub some_last : HasOne false → LeavesAll body p a c
+    some_last none = leaves_last p a b c l (sym (still_some p a b l) ∙ none) k
+
+pub leaves_start : {B Code : Type 0} {body : BodyOf B Code} (p : ProcId) (a : PartsOf B Code) → IsSomeAnd (record_of p a.live) (λ r. length r.scopes ≤ most_scopes) →
+    CanLeave body a → LeavesSome body p a a
+leaves_start {B} {Code} {body} p a few can = at (record_of p a.live) refl few
   where
-    some_innermost : (ys : List Scope) (u v : Scope) (zs : List Scope) → ys ≡ v ∷ zs → innermost ys ≡ None → ⊥
-    some_innermost [] u v zs is none = cc
-    some_innermost (w ∷ []) u v zs is none = none-some w (sym none)
-    some_innermost (w ∷ y ∷ ys) u v zs is none = some_innermost (y ∷ ys) u y ys refl none
-
-pub innermost_within : (xs : List Scope) (x : Scope) → innermost xs ≡ Some x → length xs ≡ length (without_innermost xs) + 1
-innermost_within [] x h = absurd (none-some x h)
-innermost_within (s ∷ []) x h = refl
-innermost_within (s ∷ t ∷ xs) x h = omega (arith, innermost_within (t ∷ xs) x h)
+    at : (o : Option (RecordOf B)) → record_of p a.live ≡ o → IsSomeAnd o (λ r. length r.scopes ≤ most_scopes) → LeavesSome body p a a
+    at None found h = absurd h
+    at (Some r) found h = leaves_first p a r found can

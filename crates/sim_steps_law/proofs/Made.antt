@@ -1,9 +1,7 @@
 -- What is made where a kernel is opened is what the machine makes.
-use Rattle.std.proofs.Common.{◌≡◌, ℕ, ◌+◌, ◌≤◌, ◌^◌, ℤ, pos, ◌+ℤ◌, ◌<ℤ◌, ◌≤ℤ◌, List, [], ◌∷◌, length, refl, sym, ap, subst, ◌∙◌, arith, Option, Some}
-use Rattle.std.specs.Prelude.{IsSomeAnd}
+use Rattle.std.proofs.Common.{◌≡◌, ℕ, ◌+◌, ◌≤◌, ◌^◌, ℤ, pos, ◌+ℤ◌, ◌<ℤ◌, ◌≤ℤ◌, List, [], ◌∷◌, length, refl, sym, ap, subst, ◌∙◌, arith}
 use Rattle.std.proofs.lemmas.Int.{ints}
 use Rattle.std.proofs.lemmas.List.{length-replicate, replicate-append-replicate}
-use Rattle.std.proofs.lemmas.List.Elements.{All-cons, All-nil}
 use Rattle.sim_types.specs.declared.event.EventId.{EventId}
 use Rattle.sim_types.specs.declared.event.EventKind.{EventKind}
 use Rattle.sim_types.specs.declared.event.EventKind.TheVariants as kind
@@ -16,15 +14,13 @@ use Rattle.sim_machine.specs.Events.{next_event, pending_event, register}
 use Rattle.sim_machine.specs.Triggering.{urgent, make, schedule}
 use Rattle.sim_machine.specs.Processes.{make_events_of_process}
 use Rattle.sim_machine.specs.Runs.{event_zero, first_calendar}
-use Rattle.sim_happen_model.specs.HappenOf.{HappenOf, IsOpen, held, as_before, unheld_event}
+use Rattle.sim_happen_model.specs.HappenOf.{HappenOf, IsOpen, as_before, unheld_event}
 use Rattle.sim_happen_model.specs.Shows.{Shows, Turns, Follows}
 use Rattle.sim_happen_law.proofs.Following.{turns_then, turns_as, time_then}
 use Rattle.sim_happen_law.proofs.NewEvents.{IsNew, is_new, new_registered, next_is}
 use Rattle.sim_shared_model.specs.SharedOf.{SharedOf}
 use Rattle.sim_shared_model.specs.ShowsAll.{ShowsAll}
-use Rattle.sim_steps_model.specs.Becoming.{AreAllKept}
 use Rattle.sim_steps_model.specs.Opening.{two_unheld, SetsStop}
-use Rattle.sim_steps_law.proofs.Keeping.{all_kept_made}
 use Rattle.sim_steps_law.proofs.Becoming.{shown_with}
 
 -- an event that was just made may get its outcome
@@ -82,6 +78,7 @@ turns_process a m i r b event init made is begun is_init registered scheduled =
 abbrev steps_of_stop : EventId → ℤ → Calendar → Calendar
 steps_of_stop e time c = schedule e (outcome.Ok (pos 0)) urgent time (register e callback.Stop (make kind.Stop c))
 
+-- at a time one event is made
 pub sets_stop : (time : ℤ) (a m r b : HappenOf) (e : EventId) → Turns (make kind.Stop) unheld_event a m → e.0 ≡ length a.events →
     Follows (register e callback.Stop) m r → Follows (schedule e (outcome.Ok (pos 0)) urgent time) r b → SetsStop (until.At time) a b
 sets_stop time a m r b e made is registered scheduled =
@@ -90,9 +87,8 @@ sets_stop time a m r b e made is registered scheduled =
     let all : Turns (steps_of_stop e time) unheld_event a b =
     turns_then (λ c. register e callback.Stop (make kind.Stop c)) (schedule e (outcome.Ok (pos 0)) urgent time) unheld_event as_before a r b two scheduled in
     record {
-      each = λ c s. subst (λ f. Shows b (steps_of_stop f time c)) (sym (next_is a c e is s)) (all.each c s);
-      left = all.left;
-      kept = λ most h. subst (AreAllKept most) (sym all.held) (all_kept_made most (held a) h);
+      made = 1;
+      turns = record { each = λ c s. subst (λ f. Shows b (steps_of_stop f time c)) (sym (next_is a c e is s)) (all.each c s); held = all.held; left = all.left };
     }
 
 -- ---- named events
@@ -108,16 +104,6 @@ events_named n = omega (arith, length-replicate n (pending_event kind.Plain))
 
 pub named_shown : (n : ℕ) (a b : HappenOf) → Turns (make kind.Plain) unheld_event a b → Shows a (first_calendar n) → Shows b (first_calendar (n + 1))
 named_shown n a b t s = subst (Shows b) (named_more n) (t.each (first_calendar n) s)
-
-pub named_kept : (a b : HappenOf) (k : EventKind) → Turns (make k) unheld_event a b → AreAllKept 1 (held a) → AreAllKept 1 (held b)
-named_kept a b k t h = subst (AreAllKept 1) (sym t.held) (all_kept_made 1 (held a) h)
-
--- event 0 has its holder for good
-pub first_kept : (a : HappenOf) → held a ≡ Some 1 ∷ [] → AreAllKept 1 (held a)
-first_kept a is =
-    let P : Option ℕ → Type 0 = λ x. IsSomeAnd x (λ n. n ≤ 1) in
-    let one : P (Some 1) = omega arith in
-    subst (AreAllKept 1) (sym is) (record { each = All-cons P (Some 1) [] one (All-nil P) })
 
 -- the resources as they open stay so while named events are made
 pub named_all : (n : ℕ) (a b : SharedOf) → b ≡ record a { happen = b.happen } → ShowsAll a (record { calendar = first_calendar 0; waiters = []; ledger = [] }) →

@@ -1,9 +1,9 @@
--- What operations and callbacks name is kept, and what they give an outcome was not cancelled.
-use Rattle.std.proofs.Common.{◌≡◌, ℕ, zero, suc, ◌<◌, ◌≤◌, ◌^◌, true, false, List, [], ◌∷◌, length, refl, sym, ap, subst, ◌∙◌, arith, Option, Some, None, if◌then◌else◌}
+-- What operations and callbacks name is kept, what they give an outcome was not cancelled, and what they cancel is no condition.
+use Rattle.std.proofs.Common.{◌≡◌, ◌<◌, ◌^◌, true, false, List, [], ◌∷◌, length, refl, sym, ap, subst, ◌∙◌, Option, Some, None, arith}
 use Rattle.std.specs.Prelude.{All, IfSome, ◌&&◌, ◌||◌}
 use Rattle.std.specs.Option.{option_map}
 use Rattle.std.specs.List.{AllPass}
-use Rattle.std.proofs.lemmas.Bool.{and_parts, false≢true, ltb-true}
+use Rattle.std.proofs.lemmas.Bool.{and_parts, false≢true}
 use Rattle.std.proofs.lemmas.List.Elements.{All-cons, All-head, All-tail, All-nil, All-weaker}
 use Rattle.sim_types.specs.declared.event.EventId.{EventId}
 use Rattle.sim_types.specs.declared.event.EventKind.{EventKind}
@@ -12,16 +12,16 @@ use Rattle.sim_types.specs.declared.event.ProcId.{ProcId}
 use Rattle.sim_types.specs.declared.event.Callback.{Callback}
 use Rattle.sim_types.specs.declared.event.Callback.TheVariants as callback
 use Rattle.sim_types.specs.declared.event.Signal.{Signal}
+use Rattle.sim_types.specs.declared.setup.Class.TheVariants as class
 use Rattle.sim_types.specs.declared.op.Op.{Op}
 use Rattle.sim_types.specs.declared.op.Op.TheVariants as op
-use Rattle.sim_machine.specs.State.{EventOf, Calendar, ProcessOf, Control, Calling, Active, State, Plan}
-use Rattle.sim_machine.specs.Events.{event_at, is_same, is_process}
+use Rattle.sim_machine.specs.State.{EventOf, Calendar, ProcessOf, Control, Calling, Active, Plan}
+use Rattle.sim_machine.specs.Events.{event_at}
 use Rattle.sim_machine.specs.Processes.{process_at}
-use Rattle.sim_machine.specs.Effect.{calendar}
 use Rattle.sim_machine.specs.Standing.{kind_at, was_made, left_of}
-use Rattle.sim_machine.specs.Tellings.{CodeFacts, Telling}
-use Rattle.sim_machine.specs.MayAsk.{is_known_event}
-use Rattle.sim_machine.specs.KeptEvents.{is_kept_alone, is_member_of_any, kept_below, is_kept}
+use Rattle.sim_machine.specs.Tellings.{CodeFacts}
+use Rattle.sim_machine.specs.MayAsk.{is_in_place, is_known_event, is_zero}
+use Rattle.sim_machine.specs.KeptEvents.{is_kept}
 use Rattle.sim_machine.specs.Bodies.{BodyOf}
 use Rattle.sim_machine.specs.BodyLaw.{IsLawfulPoll, scopes_told, scopes_asked}
 use Rattle.sim_machine.specs.Setups.{FitsCode}
@@ -32,45 +32,20 @@ use Rattle.sim_machine_law.proofs.ChangedCalendars.{HasAsked}
 use Rattle.sim_machine_law.proofs.FollowingCalendars.{uncancelled_kind}
 use Rattle.sim_machine_law.proofs.KeptAsked.{asked_kept}
 use Rattle.sim_machine_law.proofs.KeptInterruptionsParts.{passes_at}
-use Rattle.sim_machine.specs.LawfulProcesses.{is_living_well}
-use Rattle.sim_machine_law.proofs.KeptBodies.{find_has}
-use Rattle.sim_machine_law.proofs.KeptProcessesParts.{lives_well}
-use Rattle.sim_machine_law.proofs.KeptTimesCases.{if_cases}
-use Rattle.sim_machine_law.proofs.KnownEvents.{known_event_made}
+use Rattle.sim_machine_law.proofs.KnownEvents.{known_event_made, places_fit}
 use Rattle.sim_machine_law.proofs.LawfulBasis.{basis_of}
-use Rattle.sim_machine_law.proofs.PolledCancel.{any_gives}
-use Rattle.sim_machine_law.proofs.EventLaws.{is_same-self, is_same-yes}
+use Rattle.sim_machine_law.proofs.EventLaws.{is_same-self}
 use Rattle.sim_procs.specs.RecordOf.{RecordOf, record_of}
-use Rattle.sim_events.specs.TableOf.{IsKept, kept_at}
-use Rattle.sim_happen_model.specs.HappenOf.{held}
+use Rattle.sim_events.specs.TableOf.{AreNeeded, IsKept, kept_at}
 use Rattle.sim_happen_law.proofs.Following.{read_is}
 use Rattle.sim_steps_model.specs.PartsOf.{PartsOf, IsRunning, plan_of}
 use Rattle.sim_steps_model.specs.StandsFor.{StandsForSome, process_of}
-use Rattle.sim_steps_model.specs.Becoming.{AreAllKept}
-use Rattle.sim_steps_model.specs.Polling.{Asks, NamesKept, events_triggered}
+use Rattle.sim_steps_model.specs.Polling.{Asks, NamesKept, events_cancelled, events_triggered}
 use Rattle.sim_steps_model.specs.Calling.{CallsKept, target_in}
-use Rattle.sim_steps_law.proofs.Keeping.{made_is_kept}
-use Rattle.sim_steps_law.proofs.Polls.{running_is}
-use Rattle.sim_steps_law.proofs.Running.{KeepsLaw, process_found, running_can_be_told}
+use Rattle.sim_steps_law.proofs.CancelledEvents.{cancelled_plain}
+use Rattle.sim_steps_law.proofs.Running.{KeepsLaw, process_found, running_can_be_told, running_is}
+use Rattle.sim_steps_law.proofs.KeptNames.{called_kept, kept_here, target_kept as waited_kept}
 use Rattle.sim_steps_law.proofs.Ending.{record_polled}
-
--- ---- what the machine keeps was made
-
-below_all : {B : Type 0} (named : ℕ) (tell : Telling B) (s : State B) (n m : ℕ) (found : List EventId) → n ≤ m → All (λ e. e.0 < m) found →
-    All (λ e. e.0 < m) (kept_below named tell s n found)
-below_all named tell s zero m found few h = h
-below_all named tell s (suc n) m found few h =
-    let e : EventId = record { 0 = n } in
-    let P : EventId → Type 0 = λ f. f.0 < m in
-    let test = is_kept_alone named tell s e || is_member_of_any s.facilities.calendar e found in
-    below_all named tell s n m (if test then e ∷ found else found) (omega (arith, few)) (if_cases (λ (xs : List EventId). All P xs) test (e ∷ found) found (λ is. All-cons P e found (omega (arith, few)) h) (λ not_so. h))
-
-kept_was_made : {B : Type 0} (named : ℕ) (tell : Telling B) (s : State B) (e : EventId) → is_kept named tell s e ≡ true →
-    e.0 < length (calendar s).events
-kept_was_made named tell s e kept =
-    let n : ℕ = length (calendar s).events in
-    any_gives (λ (f : EventId). f.0 < n) (e.0 < n) (is_same e) (kept_below named tell s n []) (λ f below same. subst (λ (x : EventId). x.0 < n) (sym (is_same-yes e f same)) below)
-    (below_all named tell s n n [] (omega arith) (All-nil (λ (f : EventId). f.0 < n))) kept
 
 -- ---- what gets an outcome was not cancelled
 
@@ -79,20 +54,21 @@ waits_not kind.Plain h = refl
 waits_not kind.Timeout h = refl
 waits_not _ h = absurd (false≢true h)
 
--- an event that was made is kept, and not cancelled where it is plain or a timeout
-module _ {B Code : Type 0} (body : BodyOf B Code) (parts : PartsOf B Code) (h : StandsForSome body parts) (all : AreAllKept (2 ^ 40) (held parts.shared.happen)) where
+-- from a lawful state of a kernel whose accounts are right
+module _ {B Code : Type 0} (body : BodyOf B Code) (parts : PartsOf B Code) (h : StandsForSome body parts) (needed : AreNeeded parts.shared.happen.events) where
   abbrev c : Calendar
   c = h.state.facilities.calendar
 
   abbrev Uncancelled : EventId → Type 0
   Uncancelled e = (kept_at parts.shared.happen.events e).event.cancelled ≡ false
 
-  pub made_here : (e : EventId) → e.0 < length c.events → IsKept parts.shared.happen.events e
-  made_here e made = made_is_kept (2 ^ 40) parts.shared.happen e all (subst (λ n. e.0 < n) (sym h.stands.facilities.calendar.made) made)
+  abbrev IsPlain : EventId → Type 0
+  IsPlain e = (kept_at parts.shared.happen.events e).event.condition ≡ None
 
-  pub not_cancelled : (e : EventId) → e.0 < length c.events → is_triggered_kind (kind_at c e) ≡ true → Uncancelled e
-  not_cancelled e made triggered =
-      ap (λ (x : EventOf). x.cancelled) (read_is parts.shared.happen c e (made_here e made) h.stands.facilities.calendar)
+  -- what is kept was not cancelled where it is plain or a timeout
+  pub not_cancelled : (e : EventId) → IsKept parts.shared.happen.events e → is_triggered_kind (kind_at c e) ≡ true → Uncancelled e
+  not_cancelled e kept triggered =
+      ap (λ (x : EventOf). x.cancelled) (read_is parts.shared.happen c e kept h.stands.facilities.calendar)
       ∙ uncancelled_kind (event_at c e) (passes_at is_cancelled_well c e refl h.lawful.waiting.cancelled) (waits_not (kind_at c e) triggered)
 
   -- ---- operations
@@ -126,7 +102,7 @@ module _ {B Code : Type 0} (body : BodyOf B Code) (parts : PartsOf B Code) (h : 
     named_kept mid asked a =
         let y = asked_by mid asked a in
         let tell = body.tell parts.code in
-        All-weaker (λ e. is_kept parts.setup.events tell h.state e ≡ true) (IsKept parts.shared.happen.events) (λ e kept. made_here e (kept_was_made parts.setup.events tell h.state e kept)) (events_named (body.facts parts.code) asked)
+        All-weaker (λ e. is_kept parts.setup.events tell h.state e ≡ true) (IsKept parts.shared.happen.events) (kept_here body parts h needed) (events_named (body.facts parts.code) asked)
         (asked_kept g tell (body.sound parts.code) (body.facts parts.code) h.state h.lawful event active.0 p told y.0 active.1 y.1 asked y.2 fits y.3)
 
     module _ (asked : Op) (y : ProcessOf B) (b : B) (found : process_at p h.state ≡ Some y)
@@ -134,31 +110,75 @@ module _ {B Code : Type 0} (body : BodyOf B Code) (parts : PartsOf B Code) (h : 
       abbrev entered : List EventId
       entered = scopes_told ((body.tell parts.code).scopes y.body) ((body.tell parts.code).last y.body) told
 
-      -- what may be triggered, by an operation that leaves no scope
-      known_well : scopes_asked entered asked ≡ entered → (n : EventId) → is_known_event (body.facts parts.code) ((body.tell parts.code).places b) n ≡ true →
-          Uncancelled n
-      known_well stays n known =
-          let tell = body.tell parts.code in
-          let asks : HasAsked g tell (body.sound parts.code) h.state (body.facts parts.code) event active.0 p told y b asked =
-          record { active = active.1; found = found; is_sound = well; lawful = basis_of g tell (body.sound parts.code) h.state h.lawful; poll = poll; scopes = poll.scopes ∙ stays } in
-          let made = known_event_made g tell (body.sound parts.code) h.state (body.facts parts.code) event active.0 p told y b asked n fits asks known in
-          not_cancelled n made.made made.kind
+      -- by an operation that leaves no scope
+      has_asked : scopes_asked entered asked ≡ entered → HasAsked g (body.tell parts.code) (body.sound parts.code) h.state (body.facts parts.code) event active.0 p told y b asked
+      has_asked stays =
+          record { active = active.1; found = found; is_sound = well; lawful = basis_of g (body.tell parts.code) (body.sound parts.code) h.state h.lawful; poll = poll; scopes = poll.scopes ∙ stays }
 
-    one_well : (e : EventId) → Uncancelled e → All Uncancelled (e ∷ [])
-    one_well e is = All-cons Uncancelled e [] is (All-nil Uncancelled)
+      -- what may be triggered
+      known_well : scopes_asked entered asked ≡ entered → (n : EventId) → IsKept parts.shared.happen.events n →
+          is_known_event (body.facts parts.code) ((body.tell parts.code).places b) n ≡ true → Uncancelled n
+      known_well stays n kept known =
+          let tell = body.tell parts.code in
+          let made = known_event_made g tell (body.sound parts.code) h.state (body.facts parts.code) event active.0 p told y b asked n fits (has_asked stays) known in
+          not_cancelled n kept made.kind
+
+      -- what may be cancelled
+      cancelled_well : scopes_asked entered asked ≡ entered → (n : EventId) → IsKept parts.shared.happen.events n →
+          (is_zero n || is_in_place ((body.tell parts.code).places b) class.Move n) ≡ true → IsPlain n
+      cancelled_well stays n kept may =
+          let tell = body.tell parts.code in
+          let fit = places_fit g tell (body.sound parts.code) h.state (body.facts parts.code) event active.0 p told y b asked (has_asked stays) in
+          ap (λ (x : EventOf). x.condition) (read_is parts.shared.happen c n kept h.stands.facilities.calendar)
+          ∙ cancelled_plain c (λ m below. h.lawful.conditions.kinds m _ below) (omega (arith, h.lawful.processes.named_made)) (h.lawful.processes.named_plain 0 (omega arith)) n (tell.places b) fit may
+
+    -- what is kept and was not cancelled
+    abbrev KeptUncancelled : EventId → Type 0
+    KeptUncancelled e = IsKept parts.shared.happen.events e × Uncancelled e
+
+    one_well : (e : EventId) → IsKept parts.shared.happen.events e → Uncancelled e → All KeptUncancelled (e ∷ [])
+    one_well e kept is = All-cons KeptUncancelled e [] (kept, is) (All-nil KeptUncancelled)
 
     triggered_well : (asked : Op) (y : ProcessOf B) (b : B) → process_at p h.state ≡ Some y →
-        IsLawfulPoll (body.facts parts.code) (body.tell parts.code) y.body told asked b → body.sound parts.code b → All Uncancelled (events_triggered asked)
-    triggered_well (op.Succeed e value) y b found poll well = one_well e (known_well (op.Succeed e value) y b found poll well refl e poll.asks)
-    triggered_well (op.Fail e code) y b found poll well = one_well e (known_well (op.Fail e code) y b found poll well refl e poll.asks)
-    triggered_well (op.Chain e n) y b found poll well =
-        one_well n (known_well (op.Chain e n) y b found poll well refl n (and_parts _ (is_known_event (body.facts parts.code) ((body.tell parts.code).places b) n) poll.asks).1)
-    triggered_well _ y b found poll well = All-nil Uncancelled
+        IsLawfulPoll (body.facts parts.code) (body.tell parts.code) y.body told asked b → body.sound parts.code b →
+        All (IsKept parts.shared.happen.events) (events_named (body.facts parts.code) asked) → All KeptUncancelled (events_triggered asked)
+    triggered_well (op.Succeed e value) y b found poll well kept =
+        let here = All-head (IsKept parts.shared.happen.events) e [] kept in
+        one_well e here (known_well (op.Succeed e value) y b found poll well refl e here poll.asks)
+    triggered_well (op.Fail e code) y b found poll well kept =
+        let here = All-head (IsKept parts.shared.happen.events) e [] kept in
+        one_well e here (known_well (op.Fail e code) y b found poll well refl e here poll.asks)
+    triggered_well (op.Chain e n) y b found poll well kept =
+        let P : EventId → Type 0 = IsKept parts.shared.happen.events in
+        let here = All-head P n [] (All-tail P e (n ∷ []) kept) in
+        one_well n here
+        (known_well (op.Chain e n) y b found poll well refl n here
+        (and_parts _ (is_known_event (body.facts parts.code) ((body.tell parts.code).places b) n) poll.asks).1)
+    triggered_well _ y b found poll well kept = All-nil KeptUncancelled
+
+    -- what is kept and no condition
+    abbrev KeptPlain : EventId → Type 0
+    KeptPlain e = IsKept parts.shared.happen.events e × IsPlain e
+
+    plain_well : (asked : Op) (y : ProcessOf B) (b : B) → process_at p h.state ≡ Some y →
+        IsLawfulPoll (body.facts parts.code) (body.tell parts.code) y.body told asked b → body.sound parts.code b →
+        All (IsKept parts.shared.happen.events) (events_named (body.facts parts.code) asked) → All KeptPlain (events_cancelled asked)
+    plain_well (op.Cancel e) y b found poll well kept =
+        let here = All-head (IsKept parts.shared.happen.events) e [] kept in
+        All-cons KeptPlain e [] (here, cancelled_well (op.Cancel e) y b found poll well refl e here poll.asks) (All-nil KeptPlain)
+    plain_well _ y b found poll well kept = All-nil KeptPlain
 
     pub asked_names : (mid : PartsOf B Code) (asked : Op) → Asks body p told parts asked mid → NamesKept (body.facts parts.code) asked mid
     asked_names mid asked a =
         let y = asked_by mid asked a in
-        rw a.others (record { kept = named_kept mid asked a; not_cancelled = triggered_well asked y.0 y.2 y.1 y.3 y.4 })
+        let kept = named_kept mid asked a in
+        record {
+          kept = All-weaker (IsKept parts.shared.happen.events) (IsKept mid.shared.happen.events) a.takes.kept (events_named (body.facts parts.code) asked) kept;
+          not_cancelled = All-weaker KeptUncancelled (λ e. (kept_at mid.shared.happen.events e).event.cancelled ≡ false) (λ e was. ap (λ (x : EventOf). x.cancelled) (a.takes.event e was.0) ∙ was.1)
+              (events_triggered asked) (triggered_well asked y.0 y.2 y.1 y.3 y.4 kept);
+          plain = All-weaker KeptPlain (λ e. (kept_at mid.shared.happen.events e).event.condition ≡ None) (λ e was. ap (λ (x : EventOf). x.condition) (a.takes.event e was.0) ∙ was.1)
+              (events_cancelled asked) (plain_well asked y.0 y.2 y.1 y.3 y.4 kept);
+        }
 
   -- ---- callbacks
 
@@ -166,10 +186,7 @@ module _ {B Code : Type 0} (body : BodyOf B Code) (parts : PartsOf B Code) (h : 
   target_kept : (p : ProcId) (o : Option (RecordOf B)) → record_of p parts.live ≡ o → All (IsKept parts.shared.happen.events) (target_in o)
   target_kept p None is = All-nil (IsKept parts.shared.happen.events)
   target_kept p (Some r) is =
-      let s = h.state in
-      let found : process_at p s ≡ Some (process_of r) = process_found parts s p h.lawful.processes.distinct h.stands ∙ ap (λ o. option_map process_of o) is in
-      let well : is_living_well s (process_of r) ≡ true = find_has (λ z. is_living_well s z ≡ true) (λ z. is_process z.id p) s.processes (process_of r) found h.lawful.processes.living in
-      All-cons (IsKept parts.shared.happen.events) r.target [] (made_here r.target (lives_well s (process_of r) well).waits_for) (All-nil (IsKept parts.shared.happen.events))
+      All-cons (IsKept parts.shared.happen.events) r.target [] (waited_kept body parts h needed p r is) (All-nil (IsKept parts.shared.happen.events))
 
   pub called_names : (event : EventId) (x : Callback) (left : List Callback) → parts.control ≡ Calling event (x ∷ left) → CallsKept x parts
   called_names event (callback.Trigger y) left is =
@@ -177,11 +194,11 @@ module _ {B Code : Type 0} (body : BodyOf B Code) (parts : PartsOf B Code) (h : 
       let chains = h.lawful.chains.calling event (rw control (is_same-self event)) in
       let first : chains_well c event (callback.Trigger y) ≡ true = All-head (λ z. chains_well c event z ≡ true) (callback.Trigger y) left (subst (λ (k : Control). AllPass (chains_well c event) (left_of k)) control chains) in
       let outer = and_parts (is_trigger_kind (kind_at c event) && was_made c y) (is_triggered_kind (kind_at c y)) first in
-      let made : y.0 < length c.events = ltb-true y.0 (length c.events) (and_parts (is_trigger_kind (kind_at c event)) (was_made c y) outer.0).1 in
+      let kept : IsKept parts.shared.happen.events y = kept_here body parts h needed y (called_kept body parts h needed event (callback.Trigger y) left is) in
       record {
-        kept = All-cons (IsKept parts.shared.happen.events) y [] (made_here y made) (All-nil (IsKept parts.shared.happen.events));
+        kept = All-cons (IsKept parts.shared.happen.events) y [] kept (All-nil (IsKept parts.shared.happen.events));
         left = All-nil (IsKept parts.shared.happen.events);
-        not_cancelled = All-cons Uncancelled y [] (not_cancelled y made outer.1) (All-nil Uncancelled);
+        not_cancelled = All-cons Uncancelled y [] (not_cancelled y kept outer.1) (All-nil Uncancelled);
       }
   called_names event (callback.Strike p) left is =
       record {
@@ -215,3 +232,9 @@ module _ {B Code : Type 0} (f : CodeFacts) (parts : PartsOf B Code) (asked : Op)
   first_triggered es is h =
       let P : EventId → Type 0 = λ x. (kept_at parts.shared.happen.events x).event.cancelled ≡ false in
       All-head P e es (subst (λ xs. All P xs) is h.not_cancelled)
+
+  pub first_cancelled : (es : List EventId) → events_cancelled asked ≡ e ∷ es → NamesKept f asked parts →
+      (kept_at parts.shared.happen.events e).event.condition ≡ None
+  first_cancelled es is h =
+      let P : EventId → Type 0 = λ x. (kept_at parts.shared.happen.events x).event.condition ≡ None in
+      All-head P e es (subst (λ xs. All P xs) is h.plain)

@@ -1,11 +1,14 @@
 -- More room changes nothing else.
-use Rattle.std.proofs.Common.{◌≡◌, ℕ, List, [], ◌∷◌, Some, refl, sym, ap, subst, ◌∙◌, map, slice_get}
+use Rattle.std.proofs.Common.{◌≡◌, ℕ, ◌<◌, List, [], ◌∷◌, ◌++◌, Some, length, refl, sym, ap, subst, ◌∙◌, map, slice_get}
+use Rattle.std.specs.Prelude.{All}
 use Rattle.std.specs.Option.{option_map}
 use Rattle.std.proofs.lemmas.Option.{slice_get-map}
+use Rattle.sim_types.specs.declared.event.EventId.{EventId}
 use Rattle.sim_types.specs.declared.setup.Until.{Until}
 use Rattle.sim_machine.specs.State.{Calendar, Facilities, State}
 use Rattle.sim_machine.specs.Bodies.{BodyOf}
-use Rattle.sim_events.specs.TableOf.{Spare}
+use Rattle.sim_procs.specs.RecordOf.{RecordOf}
+use Rattle.sim_events.specs.TableOf.{Spare, AreNeeded}
 use Rattle.sim_happen_model.specs.HappenOf.{HappenOf, held}
 use Rattle.sim_happen_model.specs.Shows.{Shows}
 use Rattle.sim_shared_model.specs.declared.resource.SharedResource.{SharedResource}
@@ -15,8 +18,10 @@ use Rattle.sim_shared_model.specs.ShowsAll.{ShowsAt, ShowsAll}
 use Rattle.sim_shared_law.proofs.ResourcePlaces.{declared_alike}
 use Rattle.sim_shared_law.proofs.CancelledEvents.{shown_alike}
 use Rattle.sim_steps_model.specs.PartsOf.{PartsOf, KeepsButRoom}
-use Rattle.sim_steps_model.specs.StandsFor.{StandsFor, StandsForSome, LawfulOf}
-use Rattle.sim_steps_model.specs.Opening.{SetsStop}
+use Rattle.sim_steps_model.specs.StandsFor.{StandsFor, Balances, StandsForSome, LawfulOf, process_of}
+use Rattle.sim_steps_model.specs.Becoming.{Becomes, IsOwing}
+use Rattle.sim_steps_model.specs.Opening.{IsOpening, SetsStop}
+use Rattle.sim_steps_law.proofs.Keeping.{few_same}
 use Rattle.sim_steps_law.proofs.Running.{mapped_is}
 
 pub roomier_shows : (h : HappenOf) (room : Spare) (c : Calendar) → Shows h c → Shows (record h { spare = room }) c
@@ -74,10 +79,66 @@ pub roomier_lawful : {B Code : Type 0} (body : BodyOf B Code) (old new : PartsOf
     LawfulOf body new s
 roomier_lawful body old new s k h = rw k.others h
 
+-- what holds which event, and what is gone, is not told by room
+pub roomier_balances : {B Code : Type 0} {body : BodyOf B Code} (todo : List EventId) (old new : PartsOf B Code) (s : State B) → KeepsButRoom old new → Balances body todo old s →
+    Balances body todo new s
+roomier_balances {B} {Code} {body} todo old new s k h =
+    subst (λ p. Balances body todo p s) (sym k.others)
+    (let same : new.shared.happen.events ≡ old.shared.happen.events = ap (λ (x : HappenOf). x.events) k.shared.happen in
+    record { holders = rw same h.holders; gone = rw same h.gone })
+
 pub roomier_stands_for_some : {B Code : Type 0} (body : BodyOf B Code) (old new : PartsOf B Code) → KeepsButRoom old new → StandsForSome body old →
     StandsForSome body new
 roomier_stands_for_some body old new k h =
-    record { state = h.state; lawful = roomier_lawful body old new h.state k h.lawful; stands = roomier_stands old new h.state k h.stands }
+    record {
+      state = h.state;
+      lawful = roomier_lawful body old new h.state k h.lawful;
+      stands = roomier_stands old new h.state k h.stands;
+      balances = roomier_balances [] old new h.state k h.balances;
+    }
+
+-- so it is in the midst of a unit
+pub roomier_owing : {B Code : Type 0} {body : BodyOf B Code} (owed : List EventId) (old new : PartsOf B Code) → KeepsButRoom old new → IsOwing body owed old → IsOwing body owed new
+roomier_owing owed old new k h =
+    record {
+      state = h.state;
+      stands = record {
+        stands = roomier_stands old new h.state k h.stands.stands;
+        distinct = h.stands.distinct;
+        owned = h.stands.owned;
+        apart = h.stands.apart;
+        entered = h.stands.entered;
+      };
+      others = h.others;
+      balances = roomier_balances (owed ++ h.others) old new h.state k h.balances;
+    }
+
+pub roomier_becomes : {B Code : Type 0} {body : BodyOf B Code} (old new : PartsOf B Code) → KeepsButRoom old new → Becomes body (λ s. s) old new
+roomier_becomes {B} {Code} {body} old new k = record {
+  each = λ s h. record { stands = roomier_stands old new s k h.stands; distinct = h.distinct; owned = h.owned; apart = h.apart; entered = h.entered };
+  accounts = λ todo s h b. roomier_balances todo old new s k b;
+  opened = rw k.others (record { code = refl; setup = refl; seed = refl });
+  few = few_same old new (ap held k.shared.happen);
+}
+
+-- and so it is where only processes that run from the start were made
+pub roomier_opening : {B Code : Type 0} {body : BodyOf B Code} (old new : PartsOf B Code) → KeepsButRoom old new → IsOpening body old → IsOpening body new
+roomier_opening {B} {Code} {body} old new k h =
+    let older : List (RecordOf B) → ℕ → Type 0 = λ live n. All (λ x. x.id.0 < n) (map process_of live) in
+    let same_live : new.live ≡ old.live = ap (λ (p : PartsOf B Code). p.live) k.others in
+    let same_made : length new.shared.happen.events ≡ length old.shared.happen.events = ap (λ (x : HappenOf). length x.events) k.shared.happen in
+    record {
+      time = ap (λ (x : HappenOf). x.time) k.shared.happen ∙ h.time;
+      older = subst (λ live. older live (length new.shared.happen.events)) (sym same_live) (subst (λ n. older old.live n) (sym same_made) h.older);
+      owing = roomier_owing [] old new k h.owing;
+    }
+
+-- what is kept is to be kept as before
+pub roomier_needed : {B Code : Type 0} (old new : PartsOf B Code) → KeepsButRoom old new → AreNeeded old.shared.happen.events →
+    AreNeeded new.shared.happen.events
+roomier_needed old new k h =
+    let same : new.shared.happen.events ≡ old.shared.happen.events = ap (λ (x : HappenOf). x.events) k.shared.happen in
+    subst AreNeeded (sym same) h
 
 pub roomier_held : {B Code : Type 0} (old new : PartsOf B Code) → KeepsButRoom old new → held new.shared.happen ≡ held old.shared.happen
 roomier_held old new k = ap held k.shared.happen
@@ -87,4 +148,7 @@ pub sets_stop_then : (x : Until) (old mid new : HappenOf) → mid ≡ record old
 sets_stop_then x old mid new is k =
     let P : HappenOf → Type 0 = λ h. SetsStop x h new in
     let here : SetsStop x (record old { spare = mid.spare }) new = subst P is k in
-    record { each = λ c s. here.each c (roomier_shows old mid.spare c s); left = here.left; kept = here.kept }
+    record {
+      made = here.made;
+      turns = record { each = λ c s. here.turns.each c (roomier_shows old mid.spare c s); held = here.turns.held; left = here.turns.left };
+    }

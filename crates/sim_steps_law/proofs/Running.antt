@@ -7,6 +7,7 @@ use Rattle.std.proofs.lemmas.Option.{none-some, same_Some}
 use Rattle.std.proofs.lemmas.Bool.{false≢true, ltb-true, lt-ltb}
 use Rattle.sim_types.specs.declared.event.EventId.{EventId}
 use Rattle.sim_types.specs.declared.event.ProcId.{ProcId}
+use Rattle.sim_types.specs.declared.event.Callback.{Callback}
 use Rattle.sim_types.specs.declared.event.Signal.{Signal}
 use Rattle.sim_types.specs.declared.event.Signal.TheVariants as signal
 use Rattle.sim_types.proofs.Permutations.{find-IsPermutation}
@@ -64,6 +65,14 @@ mapped_is f None y h = absurd (none-some y h)
 mapped_is f (Some x) y h = (x, refl, same_Some (f x) y h)
 
 -- ---- what is known by the control
+
+-- the process that runs, and what is left to call
+pub running_is : (c : Control) (event : EventId) (p : ProcId) (told : Signal) → IsRunning event p told c →
+    (left : List Callback) × (c ≡ Active event left p told)
+running_is Idle event p told h = absurd h
+running_is (Calling e left) event p told h = absurd h
+running_is (Active e left q x) event p told h = (left, rw (h.0, h.1, h.2) refl)
+running_is (Over why e left) event p told h = absurd h
 
 running_active : (event : EventId) (p : ProcId) (told : Signal) (c : Control) → IsRunning event p told c → is_active c p ≡ true
 running_active event p told Idle h = absurd h

@@ -1,11 +1,12 @@
 -- What is known where a process is to be started.
 use Rattle.std.proofs.Common.{◌≡◌, ℕ, ◌+◌, ◌<◌, ◌≤◌, ℤ, pos, negsuc, true, false, ◌||◌, List, [], ◌∷◌, length, refl, arith, Some, None, map}
-use Rattle.std.specs.Prelude.{All, ◌==◌, IsTrue, int_lt, slice_index_or}
+use Rattle.std.specs.Prelude.{All, ◌==◌, IsTrue, int_lt, nat_le, slice_index_or}
 use Rattle.std.proofs.lemmas.Bool.{false≢true, and_parts, and_from}
 use Rattle.std.proofs.lemmas.Bool.Decides.{nat_tests}
 use Rattle.std.proofs.lemmas.Int.{ints}
-use Rattle.std.proofs.lemmas.List.Elements.{All-head, All-tail, All-nil}
+use Rattle.std.proofs.lemmas.List.Elements.{All-cons, All-head, All-tail, All-nil}
 use Rattle.std.proofs.lemmas.List.Sorted.{IsPermutation-refl}
+use Rattle.sim_types.specs.declared.event.EventId.{EventId}
 use Rattle.sim_types.specs.declared.event.ProcId.{ProcId}
 use Rattle.sim_types.specs.declared.event.EventKind.TheVariants as kind
 use Rattle.sim_types.specs.declared.event.Outcome.TheVariants as outcome
@@ -22,16 +23,20 @@ use Rattle.sim_machine.specs.Triggering.{make}
 use Rattle.sim_machine.specs.Processes.{make_events_of_process}
 use Rattle.sim_machine.specs.Runs.{blank_state}
 use Rattle.sim_machine.specs.RandomWords.{generator_of}
+use Rattle.sim_machine_law.specs.NamedEvents.{arguments_name}
 use Rattle.sim_machine_law.proofs.EventLaws.{change_event-length, make-length}
 use Rattle.sim_machine_law.proofs.KeptRegistrations.{named_within}
 use Rattle.sim_machine_law.proofs.OpeningLaws.{start_fits_starts}
+use Rattle.sim_events.specs.TableOf.{IsKept}
 use Rattle.sim_procs.specs.Premises.{CanBegin}
 use Rattle.sim_procs.specs.RecordOf.{RecordOf, record_of}
 use Rattle.sim_shared_model.specs.ShowsAll.{ShowsAll}
 use Rattle.sim_machine.specs.Bodies.{BodyOf}
 use Rattle.sim_steps_model.specs.PartsOf.{PartsOf, plan_of}
 use Rattle.sim_steps_model.specs.StandsFor.{StandsFor, process_of, scopes_of}
-use Rattle.sim_steps_model.specs.Opening.{next_process, IsOpening}
+use Rattle.sim_steps_model.specs.Becoming.{IsOwing}
+use Rattle.sim_steps_model.specs.Opening.{AreArgumentsKept, next_process, IsOpening}
+use Rattle.sim_steps_law.proofs.CountedHolders.{owing_named, owing_zero}
 
 -- ---- what is given at the start is within the bounds
 
@@ -56,6 +61,30 @@ start_can_begin f setup x fits h =
     let few : f.named ≤ 1024 = omega (arith, fits.events, fits.few_events) in
     record { fits = start_fits_starts f x h; bound = arguments_within f.named (slice_index_or f.params x.kind []) x.args few (and_parts _ _ h).1 }
 
+-- what is given at the start names events that the setup names
+start_names : (P : EventId → Type 0) (named : ℕ) (cs : List Class) (vs : List ℤ) → ((e : EventId) → e.0 ≤ named → P e) → start_arguments_fit named cs vs ≡ true →
+    All P (arguments_name cs vs)
+start_names P named [] vs each h = All-nil P
+start_names P named (class.Number ∷ cs) [] each h = All-nil P
+start_names P named (c ∷ cs) [] each h = All-nil P
+start_names P named (class.Number ∷ cs) (v ∷ vs) each h = start_names P named cs vs each (and_parts (start_argument_fits named class.Number v) (start_arguments_fit named cs vs) h).1
+start_names P named (class.Event ∷ cs) (pos n ∷ vs) each h =
+    let parts = and_parts (start_argument_fits named class.Event (pos n)) (start_arguments_fit named cs vs) h in
+    All-cons P (record { 0 = n }) (arguments_name cs vs) (each (record { 0 = n }) (named_within n named parts.0)) (start_names P named cs vs each parts.1)
+start_names P named (c ∷ cs) (v ∷ vs) each h = absurd (false≢true h)
+
+pub start_kept : {B Code : Type 0} {body : BodyOf B Code} (f : CodeFacts) (parts : PartsOf B Code) (x : Start) → FitsCode f parts.setup → IsTrue (start_fits f x) → IsOwing body [] parts →
+    AreArgumentsKept f x.kind x.args parts.shared.happen.events
+start_kept f parts x fits h owing =
+    record {
+      zero = owing_zero [] parts owing;
+      named = start_names (IsKept parts.shared.happen.events) f.named (slice_index_or f.params x.kind []) x.args
+          (λ e few. owing_named [] parts e (within e few fits.events) owing) (and_parts _ _ h).1;
+    }
+  where
+    within : (e : EventId) → e.0 ≤ f.named → parts.setup.events ≡ f.named → nat_le e.0 parts.setup.events ≡ true
+    within e few same = grind (arith, nat_tests)
+
 -- ---- the process that is made next is not alive
 
 pub none_of : {B : Type 0} (p : ProcId) (live : List (RecordOf B)) → All (λ x. x.id.0 < p.0) (map process_of live) → record_of p live ≡ None
@@ -66,7 +95,7 @@ none_of {B} p (r ∷ live) h =
     let other : (r.id.0 == p.0) ≡ false = grind (arith, nat_tests) in
     rw other (none_of p live (All-tail P (process_of r) (map process_of live) h))
 
-pub next_not_alive : {B Code : Type 0} (parts : PartsOf B Code) → IsOpening parts → record_of (next_process parts.shared.happen) parts.live ≡ None
+pub next_not_alive : {B Code : Type 0} {body : BodyOf B Code} (parts : PartsOf B Code) → IsOpening body parts → record_of (next_process parts.shared.happen) parts.live ≡ None
 next_not_alive parts h = none_of (next_process parts.shared.happen) parts.live h.older
 
 -- ---- before any process is made

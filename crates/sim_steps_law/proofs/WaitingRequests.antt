@@ -1,7 +1,7 @@
 -- What the resources of a kernel need is known of each lawful state.
-use Rattle.std.proofs.Common.{◌≡◌, ℕ, ◌+◌, ◌<◌, ◌^◌, true, not, length, refl, sym, ap, subst, ◌∙◌, Option, Some, None}
-use Rattle.std.specs.Prelude.{is_none}
-use Rattle.std.proofs.lemmas.Bool.{false≢true, not-true, ltb-true}
+use Rattle.std.proofs.Common.{◌≡◌, ◌+◌, ◌<◌, ◌^◌, true, not, length, get_or, refl, ap, subst, ◌∙◌, Option, Some, None}
+use Rattle.std.specs.Prelude.{All, is_none}
+use Rattle.std.proofs.lemmas.Bool.{false≢true, not-true}
 use Rattle.sim_types.specs.declared.event.EventId.{EventId}
 use Rattle.sim_types.specs.declared.event.Outcome.{Outcome}
 use Rattle.sim_machine.specs.State.{EventOf, Calendar, Waiter, Facilities}
@@ -12,8 +12,8 @@ use Rattle.sim_machine.specs.LawfulWaiting.{waits_well, may_wait_kind}
 use Rattle.sim_machine_law.proofs.EventLaws.{is_same-yes}
 use Rattle.sim_machine_law.proofs.KeptBodies.{four_parts}
 use Rattle.sim_machine_law.proofs.PolledCancel.{any_gives}
-use Rattle.sim_events.specs.TableOf.{kept_at}
-use Rattle.sim_happen_model.specs.HappenOf.{HappenOf, IsOpen, held}
+use Rattle.sim_events.specs.TableOf.{AreNeeded, IsKept, kept_at}
+use Rattle.sim_happen_model.specs.HappenOf.{HappenOf, IsOpen}
 use Rattle.sim_happen_model.specs.Shows.{Shows}
 use Rattle.sim_happen_law.proofs.Following.{read_is}
 use Rattle.sim_shared_model.specs.Resources.{waiting_at}
@@ -22,9 +22,8 @@ use Rattle.sim_shared_law.proofs.CancelledEvents.{waits_there}
 use Rattle.sim_shared_law.proofs.JoinedEvents.{all_from_each}
 use Rattle.sim_steps_model.specs.PartsOf.{PartsOf, HasUnitRoom}
 use Rattle.sim_steps_model.specs.StandsFor.{StandsForSome}
-use Rattle.sim_steps_model.specs.Becoming.{AreAllKept}
 use Rattle.sim_steps_model.specs.Resources.{AreResourcesReady}
-use Rattle.sim_steps_law.proofs.Keeping.{made_is_kept}
+use Rattle.sim_steps_law.proofs.KeptNames.{all_waiters_kept}
 
 -- ---- what waits is open
 
@@ -32,11 +31,10 @@ none_of : (o : Option Outcome) → is_none o ≡ true → o ≡ None
 none_of None h = refl
 none_of (Some x) h = absurd (false≢true h)
 
-waiter_open : (most : ℕ) (h : HappenOf) (c : Calendar) (w : Waiter) → AreAllKept most (held h) → Shows h c → waits_well c w ≡ true → IsOpen h w.event
-waiter_open most h c w all shows well =
+-- what waits in the calendar that is shown is open, where it is kept
+waiter_open : (h : HappenOf) (c : Calendar) (w : Waiter) → IsKept h.events w.event → Shows h c → waits_well c w ≡ true → IsOpen h w.event
+waiter_open h c w kept shows well =
     let parts = four_parts (was_made c w.event) (is_pending c w.event) (not (event_at c w.event).cancelled) (may_wait_kind (kind_at c w.event)) well in
-    let made : w.event.0 < length h.events = subst (λ n. w.event.0 < n) (sym shows.made) (ltb-true w.event.0 (length c.events) parts.0) in
-    let kept = made_is_kept most h w.event all made in
     let same : (kept_at h.events w.event).event ≡ event_at c w.event = read_is h c w.event kept shows in
     record {
       kept = kept;
@@ -44,16 +42,23 @@ waiter_open most h c w all shows well =
       not_cancelled = ap (λ (x : EventOf). x.cancelled) same ∙ not-true (event_at c w.event).cancelled parts.2;
     }
 
-module _ {B Code : Type 0} (body : BodyOf B Code) (parts : PartsOf B Code) (h : StandsForSome body parts)
-    (all : AreAllKept (2 ^ 40) (held parts.shared.happen)) where
+module _ {B Code : Type 0} (body : BodyOf B Code) (parts : PartsOf B Code) (h : StandsForSome body parts) (needed : AreNeeded parts.shared.happen.events) where
+  abbrev f : Facilities
+  f = h.state.facilities
+
+  -- each that waits, in the state that the kernel stands for
+  pub waiters_open : All (λ w. IsOpen parts.shared.happen w.event) h.state.facilities.waiters
+  waiters_open k w below =
+      let v : Waiter = get_or f.waiters k w in
+      waiter_open parts.shared.happen f.calendar v (all_waiters_kept body parts h needed k w below) h.stands.facilities.calendar (h.lawful.waiting.waiters k w below)
+
   pub all_open : AreAllOpen parts.shared
   all_open =
-      let f : Facilities = h.state.facilities in
       let opened : EventId → Type 0 = λ e. IsOpen parts.shared.happen e in
       record {
         each = λ res x there. all_from_each opened (waiting_at x) (λ e among.
-            any_gives (λ (w : Waiter). waits_well f.calendar w ≡ true) (opened e) (λ w. is_same w.event e) f.waiters
-            (λ w well same. subst opened (is_same-yes w.event e same) (waiter_open (2 ^ 40) parts.shared.happen f.calendar w all h.stands.facilities.calendar well)) h.lawful.waiting.waiters
+            any_gives (λ (w : Waiter). opened w.event) (opened e) (λ w. is_same w.event e) f.waiters
+            (λ w is same. subst opened (is_same-yes w.event e same) is) waiters_open
             (waits_there parts.shared f res x e h.stands.facilities there among));
       }
 

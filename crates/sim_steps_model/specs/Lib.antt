@@ -1,6 +1,7 @@
 pub mod PartsOf
 pub mod StandsFor
 pub mod Becoming
+pub mod Holding
 pub mod Resources
 pub mod Calling
 pub mod Conditions

@@ -1,5 +1,5 @@
 -- What contracts see of a kernel.
-use Rattle.std.specs.Prelude.{◌≡◌, ◌≤◌, ℕ, List, [], Option, Some, None}
+use Rattle.std.specs.Prelude.{◌≡◌, ◌≤◌, ℕ, Bool, List, [], Option, None, IfSome, IsTrue}
 use Rattle.rand_pcg.specs.Lcg.{Lcg}
 use Rattle.sim_types.specs.declared.event.EventId.{EventId}
 use Rattle.sim_types.specs.declared.event.ProcId.{ProcId}
@@ -29,21 +29,18 @@ NoneLeftIdle (mode.Calling event) left = Unit {0}
 NoneLeftIdle (mode.Active event process told) left = Unit {0}
 NoneLeftIdle (mode.Over why event) left = Unit {0}
 
--- what holds of the parts of every kernel: where nothing is being done no callbacks are left to call, and the resources
--- and the kinds that the ports start are those of its setup
-pub record AreSoundParts
-    (mode : Mode) (shared : SharedOf) (kinds : List ℕ) (setup : Setup) : Type 0 where
+-- what holds of the parts of every kernel: where nothing is being done no callbacks are left to call, the resources and
+-- the kinds that the ports start are those of its setup, and a body that is there, yet to be filled, is for its code
+pub record AreSoundParts {B : Type 0}
+    (mode : Mode) (shared : SharedOf) (kinds : List ℕ) (setup : Setup)
+    (is_for : B → Type 0) (body : Option B) : Type 0 where
   pub none_left : NoneLeftIdle mode shared.happen.left
   pub resources : shared.setup ≡ setup.resources
   pub ports : kinds ≡ setup.ports
-
--- for how many more processes there is room, by whether the body of the next one is there, yet to be filled
-abbrev pub room_with : {B : Type 0} → Option B → ℕ → ℕ
-room_with None room = 0
-room_with (Some body) room = room
+  pub ready : IfSome body is_for
 
 -- a kernel: time, what happens in it and the resources, its lists and numbers, what it was opened with, and for how many
--- more live processes there is room
+-- more live processes there is room, and whether the body of the process that is made next is there, yet to be filled
 pub record PartsOf (B Code : Type 0) : Type 0 where
   pub shared : SharedOf
   pub processed : ℕ
@@ -55,6 +52,7 @@ pub record PartsOf (B Code : Type 0) : Type 0 where
   pub setup : Setup
   pub seed : ℕ
   pub spare : ℕ
+  pub ready : Bool
 
 -- the callbacks of this event are being called
 abbrev pub IsCalling : EventId → Control → Type 0
@@ -93,16 +91,17 @@ KeepsButHappen old new = new ≡ with_happen new.shared.happen old
 -- all stays but the room
 pub record KeepsButRoom {B Code : Type 0} (old new : PartsOf B Code) : Type 0 where
   pub shared : IsSameButRoom old.shared new.shared
-  pub others : new ≡ record old { shared = new.shared; spare = new.spare }
+  pub others : new ≡ record old { shared = new.shared; spare = new.spare; ready = new.ready }
 
 -- room for all that one unit takes: for so many events, each of which may be a condition, for so many callbacks, for one
--- more to wait at each resource, and for one more process
+-- more to wait at each resource, and for one more process, whose body is there
 pub record HasUnitRoom {B Code : Type 0} (parts : PartsOf B Code) : Type 0 where
   pub events : 40 ≤ parts.shared.happen.spare.events
   pub callbacks : 64 ≤ parts.shared.happen.spare.callbacks
   pub conditions : 40 ≤ parts.shared.happen.spare.conditions
   pub places : parts.shared.used ≡ None
   pub processes : 1 ≤ parts.spare
+  pub ready : IsTrue parts.ready
 
 -- the plan of the machine that a kernel was opened with
 abbrev pub plan_of : {B Code : Type 0} → BodyOf B Code → PartsOf B Code → Plan B

@@ -1,6 +1,7 @@
 -- Which states of the machine a kernel stands for, and what it means that it makes a unit of the machine.
 use Rattle.std.specs.Prelude.{◌≡◌, List, [], ◌∷◌, map, filter, All}
 use Rattle.std.specs.List.Sorted.{IsPermutation}
+use Rattle.sim_types.specs.declared.event.EventId.{EventId}
 use Rattle.sim_types.specs.declared.event.ProcId.{ProcId}
 use Rattle.sim_types.specs.declared.event.Scope.{Scope}
 use Rattle.sim_types.specs.declared.line.Line.{Line}
@@ -13,6 +14,8 @@ use Rattle.sim_machine.specs.Runs.{opening}
 use Rattle.sim_machine.specs.Lawful.{Lawful}
 use Rattle.sim_procs.specs.RecordOf.{RecordOf}
 use Rattle.sim_shared_model.specs.ShowsAll.{ShowsAll}
+use Rattle.sim_accounts.specs.Naming.{held_alone}
+use Rattle.sim_accounts.specs.Accounts.{AreGoneClosed, Balanced}
 use Rattle.sim_steps_model.specs.PartsOf.{PartsOf, plan_of}
 use Rattle.sim_steps_model.specs.declared.mode.Unit.{Unit}
 use Rattle.sim_steps_model.specs.declared.mode.Unit.TheVariants as unit
@@ -39,6 +42,13 @@ pub record StandsFor {B Code : Type 0} (parts : PartsOf B Code) (s : State B) : 
   pub scopes : All (λ r. r.scopes ≡ scopes_of r.id s) parts.live
   pub control : parts.control ≡ s.control
 
+-- the accounts of holders balance for the state, where a holder of each of these events is still to be given back; and what
+-- is kept no more is closed
+pub record Balances {B Code : Type 0}
+    (body : BodyOf B Code) (todo : List EventId) (parts : PartsOf B Code) (s : State B) : Type 0 where
+  pub holders : Balanced (held_alone parts.setup.events (body.tell parts.code) s) todo parts.shared.happen.events
+  pub gone : AreGoneClosed parts.shared.happen.events s.facilities.calendar
+
 -- a lawful state of the machine that the kernel was opened with, for bodies of this kind
 abbrev pub LawfulOf : {B Code : Type 0} → BodyOf B Code → PartsOf B Code → State B → Type 0
 LawfulOf body parts s = Lawful (plan_of body parts) (body.tell parts.code) (body.sound parts.code) s
@@ -47,12 +57,13 @@ LawfulOf body parts s = Lawful (plan_of body parts) (body.tell parts.code) (body
 abbrev pub StepOf : {B Code : Type 0} → BodyOf B Code → PartsOf B Code → State B → State B → Type 0
 StepOf body parts = IsStep (plan_of body parts) (body.turn parts.code)
 
--- the kernel stands for some lawful state
+-- the kernel stands for some lawful state, for which its accounts balance with nothing to give back
 pub record StandsForSome {B Code : Type 0}
     (body : BodyOf B Code) (parts : PartsOf B Code) : Type 0 where
   pub state : State B
   pub lawful : LawfulOf body parts state
   pub stands : StandsFor parts state
+  pub balances : Balances body [] parts state
 
 -- the kernel stands for the opening state of its machine
 abbrev pub StandsForOpening : {B Code : Type 0} → BodyOf B Code → PartsOf B Code → Type 0

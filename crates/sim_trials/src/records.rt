@@ -72,7 +72,7 @@ fn live(rt: &impl Abort, procs: &mut Procs<u8>) {
     comes(rt, procs, goes, 11);
     comes(rt, procs, stays, 12);
     assert!(rt; procs.is_alive(stays));
-    procs.set_target(stays, EventId(30));
+    let _before = procs.replace_target(stays, EventId(30));
     assert!(rt; waits(procs, goes, 11) && waits(procs, stays, 30));
     assert!(rt; leaves(procs, stays) && !leaves(procs, stays));
     assert!(rt; has_scope(procs, goes) && !has_scope(procs, stays));

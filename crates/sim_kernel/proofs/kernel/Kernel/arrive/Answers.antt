@@ -1,7 +1,7 @@
 use Rattle.std.proofs.Common.{FitsSigned, w64, rules}
 use Rattle.std.proofs.lemmas.Int.{to_z-of_z}
 use Rattle.sim_steps_law.proofs.Rooms.{roomier_stands_for_some}
-use Rattle.sim_kernel.proofs.Arrivals.{makes_arrival, arrival_holds}
+use Rattle.sim_kernel.proofs.Arrivals.{arrival_holds, begun_is_few, makes_arrival}
 use Rattle.sim_kernel.proofs.Units.{roomier_holds}
 use Rattle.sim_kernel.proofs.kernel.Kernel.arrive.Goals as goal
 
@@ -11,7 +11,7 @@ invariant_of-self g c = roomier_holds g.B.LawfulBody.body c.self.inside.units c.
 pub arrive-line-requires-clause-stands : goal.arrive-line-requires-clause-stands
 arrive-line-requires-clause-stands g c =
     let h = c.self.invariant in
-    roomier_stands_for_some g.B.LawfulBody.body c.self.inside.parts c.reserve.new.self c.reserve.ensures.kept (record { state = h.state; lawful = h.lawful; stands = h.stands })
+    roomier_stands_for_some g.B.LawfulBody.body c.self.inside.parts c.reserve.new.self c.reserve.ensures.kept (record { state = h.state; lawful = h.lawful; stands = h.stands; balances = h.balances })
 
 pub invariant_of-self-2 : goal.invariant_of-self-2
 invariant_of-self-2 g c =
@@ -19,7 +19,7 @@ invariant_of-self-2 g c =
     let fits : FitsSigned w64 c.args.value = search rules in
     let becomes = rw (to_z-of_z w64 c.args.value fits) at c.arrive-line.ensures.becomes in
     arrival_holds g.B.LawfulBody.body c.args.port c.args.value old c.reserve.new.self c.arrive-line.new.self c.self.invariant.fits (g.B.LawfulBody.lawful old.code)
-    (rw (← c.self.view_is) at c.requires.port) c.reserve.ensures.kept becomes c.self.inside.units c.self.invariant
+    (rw (← c.self.view_is) at c.requires.port) c.reserve.ensures.kept begun_is_few becomes c.slots-kept.ensures.needed c.self.inside.units c.self.invariant
 
 pub returns-clause-arrives : goal.returns-clause-arrives
 returns-clause-arrives g c =
@@ -29,4 +29,4 @@ returns-clause-arrives g c =
     let line = rw (to_z-of_z w64 c.args.value fits) at c.arrive-line.ensures.line in
     rw (← c.self.view_is)
     (makes_arrival g.B.LawfulBody.body c.args.port c.args.value old c.reserve.new.self c.arrive-line.new.self c.self.invariant.fits (g.B.LawfulBody.lawful old.code)
-    (rw (← c.self.view_is) at c.requires.port) c.reserve.ensures.kept becomes c.arrive-line.result line)
+    (rw (← c.self.view_is) at c.requires.port) c.reserve.ensures.kept begun_is_few becomes c.slots-kept.ensures.needed c.arrive-line.result line)

@@ -1,5 +1,8 @@
 use Rattle.std.proofs.Common.{◌≡◌, ◌∙◌}
 use Rattle.sim_kernel.proofs.OpeningHolds.{opens_lawfully}
+use Rattle.sim_kernel.proofs.Units.{balance_accounts}
+use Rattle.sim_machine.specs.Runs.{opening}
+use Rattle.sim_steps_model.specs.PartsOf.{plan_of}
 use Rattle.sim_kernel.proofs.kernel.Kernel.new.Goals as goal
 
 pub returns-in-Ok-clause-lawful : goal.returns-in-Ok-clause-lawful
@@ -8,3 +11,9 @@ returns-in-Ok-clause-lawful g c =
     let code : new.code ≡ c.args.code.now = c.in-Ok.ensures.opened.code ∙ c.in_ok-parts.ensures.code in
     let setup : new.setup ≡ c.args.setup.now = c.in-Ok.ensures.opened.setup ∙ c.in_ok-parts.ensures.setup in
     opens_lawfully g.B.LawfulBody.body new (g.B.LawfulBody.lawful new.code) (rw (code, setup) c.requires.fits)
+
+pub returns-in-Ok-clause-accounts : goal.returns-in-Ok-clause-accounts
+returns-in-Ok-clause-accounts g c =
+    let body = g.B.LawfulBody.body in
+    let new = c.open.new.parts in
+    balance_accounts body new (opening (plan_of body new)) c.slots-kept.ensures.needed c.in-Ok.ensures.balances

@@ -8,7 +8,7 @@ invariant_of-self g c = roomier_holds g.B.LawfulBody.body c.self.inside.units c.
 pub unit-unit-requires-clause-stands : goal.unit-unit-requires-clause-stands
 unit-unit-requires-clause-stands g c =
     let h = c.self.invariant in
-    roomier_stands_for_some g.B.LawfulBody.body c.self.inside.parts c.reserve.new.self c.reserve.ensures.kept (record { state = h.state; lawful = h.lawful; stands = h.stands })
+    roomier_stands_for_some g.B.LawfulBody.body c.self.inside.parts c.reserve.new.self c.reserve.ensures.kept (record { state = h.state; lawful = h.lawful; stands = h.stands; balances = h.balances })
 
 pub invariant_of-self-2 : goal.invariant_of-self-2
 invariant_of-self-2 g c =
@@ -20,4 +20,4 @@ pub returns-clause-steps : goal.returns-clause-steps
 returns-clause-steps g c =
     let old = c.self.inside.parts in
     rw (← c.self.view_is)
-    (unit_steps g.B.LawfulBody.body old c.self.invariant.fits (g.B.LawfulBody.lawful old.code) c.reserve.new.self c.unit-unit.result c.unit-unit.new.self c.reserve.ensures.kept c.unit-unit.ensures.moves)
+    (unit_steps g.B.LawfulBody.body old c.self.invariant.fits (g.B.LawfulBody.lawful old.code) c.reserve.new.self c.unit-unit.result c.unit-unit.new.self c.reserve.ensures.kept c.unit-unit.ensures.moves c.slots-kept.ensures.needed)

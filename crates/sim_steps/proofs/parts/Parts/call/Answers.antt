@@ -1,6 +1,9 @@
 use Rattle.std.proofs.Common.{[], arith}
-use Rattle.sim_steps_law.proofs.Keeping.{made_is_kept, none_is_few}
-use Rattle.sim_steps_law.proofs.Calls.{calling_made, called_moves, taken_moves, taken_names}
+use Rattle.sim_steps_law.proofs.Accounting.{owing_after}
+use Rattle.sim_steps_law.proofs.Becoming.{some_owing}
+use Rattle.sim_steps_law.proofs.KeptNames.{calling_kept}
+use Rattle.sim_steps_law.proofs.Keeping.{none_is_few}
+use Rattle.sim_steps_law.proofs.Calls.{becomes_taken, called_moves, taken_moves, taken_names}
 use Rattle.sim_steps_law.proofs.CalledConditions.{condition_known, condition_taken}
 use Rattle.sim_steps_law.proofs.Naming.{called_names}
 use Rattle.sim_steps_law.proofs.AskedResources.{taken_ready, taken_tries}
@@ -8,21 +11,21 @@ use Rattle.sim_steps.proofs.parts.Parts.call.Goals as goal
 
 pub settle-requires-clause-kept : goal.settle-requires-clause-kept
 settle-requires-clause-kept g c =
-    rw c.in-None.ensures.same (made_is_kept _ c.args.self.now.shared.happen c.args.event c.requires.kept (calling_made g.B.LawfulBody.body c.args.self.now c.args.event c.requires.stands c.requires.calling))
+    rw c.in-None.ensures.same (calling_kept g.B.LawfulBody.body c.args.self.now c.requires.stands c.requires.needed c.args.event c.requires.calling)
 
 pub answer-requires-clause-kept : goal.answer-requires-clause-kept
 answer-requires-clause-kept g c =
-    rw c.in-Some.ensures.taken.happen (made_is_kept _ c.args.self.now.shared.happen c.args.event c.requires.kept (calling_made g.B.LawfulBody.body c.args.self.now c.args.event c.requires.stands c.requires.calling))
+    rw c.in-Some.ensures.taken.happen (calling_kept g.B.LawfulBody.body c.args.self.now c.requires.stands c.requires.needed c.args.event c.requires.calling)
 
 pub answer-requires-clause-names : goal.answer-requires-clause-names
 answer-requires-clause-names g c =
     taken_names c.args.self.now c.take_callback.new.self c.args.event c.in-Some.callback c.in-Some.ensures.taken
-    (called_names g.B.LawfulBody.body c.args.self.now c.requires.stands c.requires.kept c.args.event c.in-Some.callback _ c.in-Some.ensures.taken.before)
+    (called_names g.B.LawfulBody.body c.args.self.now c.requires.stands c.requires.needed c.args.event c.in-Some.callback _ c.in-Some.ensures.taken.before)
 
 pub answer-requires-clause-conditions : goal.answer-requires-clause-conditions
 answer-requires-clause-conditions g c =
     condition_taken c.args.self.now c.take_callback.new.self c.args.event c.in-Some.callback c.in-Some.ensures.taken
-    (condition_known g.B.LawfulBody.body c.args.self.now c.requires.stands c.requires.kept c.args.event c.in-Some.callback _ c.in-Some.ensures.taken.before)
+    (condition_known g.B.LawfulBody.body c.args.self.now c.requires.stands c.requires.needed c.args.event c.in-Some.callback _ c.in-Some.ensures.taken.before)
 
 pub answer-requires-clause-tries : goal.answer-requires-clause-tries
 answer-requires-clause-tries g c =
@@ -30,7 +33,15 @@ answer-requires-clause-tries g c =
 
 pub answer-requires-clause-ready : goal.answer-requires-clause-ready
 answer-requires-clause-ready g c =
-    taken_ready g.B.LawfulBody.body c.args.self.now c.take_callback.new.self c.args.event c.in-Some.callback c.in-Some.ensures.taken c.requires.stands c.requires.kept c.requires.room c.in-Some.ensures.spare (omega (arith, c.requires.events))
+    taken_ready g.B.LawfulBody.body c.args.self.now c.take_callback.new.self c.args.event c.in-Some.callback c.in-Some.ensures.taken c.requires.stands c.requires.needed c.requires.room c.in-Some.ensures.spare (omega (arith, c.requires.events))
+
+pub settle-requires-clause-owing : goal.settle-requires-clause-owing
+settle-requires-clause-owing g c = rw c.in-None.ensures.same (some_owing g.B.LawfulBody.body c.args.self.now c.requires.stands)
+
+pub answer-requires-clause-owing : goal.answer-requires-clause-owing
+answer-requires-clause-owing g c =
+    owing_after _ c.args.self.now c.take_callback.new.self (becomes_taken c.args.self.now c.take_callback.new.self c.args.event c.in-Some.callback c.in-Some.ensures.taken)
+    (some_owing g.B.LawfulBody.body c.args.self.now c.requires.stands)
 
 pub returns-in-None : goal.returns-in-None
 returns-in-None g c =
@@ -40,5 +51,5 @@ returns-in-None g c =
 pub returns-in-Some : goal.returns-in-Some
 returns-in-Some g c =
     record {
-      moves = taken_moves g.B.LawfulBody.body c.args.self.now c.take_callback.new.self c.answer.new.self c.args.event c.in-Some.callback c.in-Some.ensures.taken c.answer.ensures.becomes;
+      moves = taken_moves g.B.LawfulBody.body c.args.self.now c.take_callback.new.self c.answer.new.self c.args.event c.in-Some.callback c.in-Some.ensures.taken c.answer.ensures.owes;
     }

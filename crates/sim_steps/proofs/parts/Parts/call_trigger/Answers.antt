@@ -1,10 +1,19 @@
+use Rattle.std.proofs.Common.{refl, ap}
+use Rattle.sim_happen_model.specs.HappenOf.{HappenOf}
 use Rattle.sim_steps_model.specs.PartsOf.{plan_of}
+use Rattle.sim_steps_law.proofs.Accounting.{owing_holder}
 use Rattle.sim_steps_law.proofs.Calls.{trigger_called}
 use Rattle.sim_steps.proofs.parts.Parts.call_trigger.Goals as goal
 
+pub trigger-requires-clause-held : goal.trigger-requires-clause-held
+trigger-requires-clause-held g c = rw c.happen_mut.ensures.value (owing_holder c.args.other _ (rw (← c.self.view_is) at c.requires.owing))
+
 pub returns : goal.returns
 returns g c =
-    let follows = rw c.outcome.ensures at c.pass_on.ensures.follows in
-    record {
-      becomes = trigger_called (plan_of g.B.LawfulBody.body c.args.self.now) c.args.self.now c.pass_on.new.self c.pass_on.new.self.shared.happen c.args.event c.args.other c.requires.calling c.requires.kept follows c.pass_on.ensures.rest;
-    }
+    let calling = rw (← c.self.view_is) at c.requires.calling in
+    let kept = rw (← c.self.view_is) at c.requires.kept in
+    let owing = rw (← c.self.view_is) at c.requires.owing in
+    let passes = rw c.happen_mut.ensures.value at c.trigger.ensures.passes in
+    rw (← c.self.view_is) (record {
+      owes = trigger_called (plan_of g.B.LawfulBody.body c.args.self.now) _ _ c.trigger.new.self c.args.event c.args.other calling kept owing passes (rw (passes.rest, passes.follows.left) refl);
+    })

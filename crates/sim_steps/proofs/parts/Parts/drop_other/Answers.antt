@@ -1,55 +1,70 @@
-use Rattle.std.proofs.Common.{rules, refl, sym, subst, ap, ◌∙◌, w64, FitsSigned}
+use Rattle.std.proofs.Common.{rules, ◌≡◌, refl, sym, ap, ◌∙◌, w64, FitsSigned, Some}
+use Rattle.std.specs.Option.{option_map}
 use Rattle.std.proofs.lemmas.Int.{to_z-of_z}
-use Rattle.std.proofs.lemmas.Option.{same_Some}
-use Rattle.sim_types.specs.declared.event.EventId.{EventId}
-use Rattle.sim_steps_model.specs.PartsOf.{control_of, room_with}
+use Rattle.sim_procs.specs.RecordOf.{record_of}
+use Rattle.sim_steps_model.specs.PartsOf.{control_of}
 use Rattle.sim_steps_model.specs.Dropping.{StopsWaiting}
-use Rattle.sim_steps_law.proofs.Running.{mapped_is}
-use Rattle.sim_steps_law.proofs.DroppedProcesses.{can_stopped, known_dropped, none_not_some, open_dropped, other_dropped, stripped_is}
+use Rattle.sim_steps_law.proofs.DroppedProcesses.{drops_then, ends_well_then, scopes_few, stand_then, stops_well, stripped_is}
 use Rattle.sim_steps.proofs.parts.Parts.drop_other.Goals as goal
+
+pub leave_scopes-requires-clause-scopes : goal.leave_scopes-requires-clause-scopes
+leave_scopes-requires-clause-scopes g c =
+    rw (← c.self.view_is) at (scopes_few g.B.LawfulBody.body c.args.other c.args.self.now c.requires.can)
 
 pub leave_scopes-requires-clause-can : goal.leave_scopes-requires-clause-can
 leave_scopes-requires-clause-can g c =
-    let can = rw (← c.self.view_is) at c.requires.can in
-    let known = known_dropped _ _ c.in-Some-take.record (sym c.in-Some-take.ensures.taken) can in
-    let stops = rw c.happen_mut.ensures.value at c.stop_waiting.ensures.stops in
-    can_stopped _ _ c.stop_waiting.new.happen _ _ stops known.can
+    let told = rw c.happen_mut.ensures.value at c.stop_waiting.ensures.stops in
+    let stops : StopsWaiting c.in-Some.target c.args.other c.args.self.now.shared.happen c.stop_waiting.new.happen = rw (← c.self.view_is) told in
+    let waits : Some c.in-Some.target ≡ option_map (λ r. r.target) (record_of c.args.other c.args.self.now.live) = rw (← c.self.view_is) c.in-Some.ensures in
+    let running = rw (← c.self.view_is) at c.requires.running in
+    let control = ap (control_of c.self.inside.mode) told.left ∙ sym (stripped_is c.args.other c.self.inside.mode c.self.inside.shared.happen.left c.args.event c.args.process running) in
+    stops_well g.B.LawfulBody.body c.args.other c.in-Some.target c.args.self.now c.stop_waiting.new.happen c.requires.can stops waits (rw (← c.self.view_is, control) refl) c.requires.room c.requires.number
 
-pub succeed-requires-clause-kept : goal.succeed-requires-clause-kept
-succeed-requires-clause-kept g c =
-    let can = rw (← c.self.view_is) at c.requires.can in
-    let held = rw (← c.self.view_is) at c.requires.held in
-    let stops = rw c.happen_mut.ensures.value at c.stop_waiting.ensures.stops in
-    rw c.happen_mut-2.ensures.value ((open_dropped c.args.other _ c.in-Some-take.record _ _ _ _ (sym c.in-Some-take.ensures.taken) held can stops c.leave_scopes.ensures.leaves).kept)
+pub end_process-requires-clause-alive : goal.end_process-requires-clause-alive
+end_process-requires-clause-alive g c =
+    let told = rw c.happen_mut.ensures.value at c.stop_waiting.ensures.stops in
+    let stops : StopsWaiting c.in-Some.target c.args.other c.args.self.now.shared.happen c.stop_waiting.new.happen = rw (← c.self.view_is) told in
+    let waits : Some c.in-Some.target ≡ option_map (λ r. r.target) (record_of c.args.other c.args.self.now.live) = rw (← c.self.view_is) c.in-Some.ensures in
+    let running = rw (← c.self.view_is) at c.requires.running in
+    let control = ap (control_of c.self.inside.mode) told.left ∙ sym (stripped_is c.args.other c.self.inside.mode c.self.inside.shared.happen.left c.args.event c.args.process running) in
+    (ends_well_then g.B.LawfulBody.body c.args.other c.in-Some.target c.args.self.now c.stop_waiting.new.happen c.leave_scopes.new.self c.leave_scopes.ensures.leaves c.requires.can stops waits (rw (← c.self.view_is, control) refl)).alive
 
-pub succeed-requires-clause-not_cancelled : goal.succeed-requires-clause-not_cancelled
-succeed-requires-clause-not_cancelled g c =
-    let can = rw (← c.self.view_is) at c.requires.can in
-    let held = rw (← c.self.view_is) at c.requires.held in
-    let stops = rw c.happen_mut.ensures.value at c.stop_waiting.ensures.stops in
-    rw c.happen_mut-2.ensures.value ((open_dropped c.args.other _ c.in-Some-take.record _ _ _ _ (sym c.in-Some-take.ensures.taken) held can stops c.leave_scopes.ensures.leaves).not_cancelled)
+pub end_process-requires-clause-is_open : goal.end_process-requires-clause-is_open
+end_process-requires-clause-is_open g c =
+    let told = rw c.happen_mut.ensures.value at c.stop_waiting.ensures.stops in
+    let stops : StopsWaiting c.in-Some.target c.args.other c.args.self.now.shared.happen c.stop_waiting.new.happen = rw (← c.self.view_is) told in
+    let waits : Some c.in-Some.target ≡ option_map (λ r. r.target) (record_of c.args.other c.args.self.now.live) = rw (← c.self.view_is) c.in-Some.ensures in
+    let running = rw (← c.self.view_is) at c.requires.running in
+    let control = ap (control_of c.self.inside.mode) told.left ∙ sym (stripped_is c.args.other c.self.inside.mode c.self.inside.shared.happen.left c.args.event c.args.process running) in
+    (ends_well_then g.B.LawfulBody.body c.args.other c.in-Some.target c.args.self.now c.stop_waiting.new.happen c.leave_scopes.new.self c.leave_scopes.ensures.leaves c.requires.can stops waits (rw (← c.self.view_is, control) refl)).is_open
 
-pub unreachable-requires-in-Err : goal.unreachable-requires-in-Err
-unreachable-requires-in-Err g c =
-    let can = rw (← c.self.view_is) at c.requires.can in
-    let held = rw (← c.self.view_is) at c.requires.held in
-    let stops = rw c.happen_mut.ensures.value at c.stop_waiting.ensures.stops in
-    let is_open = open_dropped c.args.other _ c.in-Some-take.record _ _ _ _ (sym c.in-Some-take.ensures.taken) held can stops c.leave_scopes.ensures.leaves in
-    none_not_some _ is_open.pending (rw c.happen_mut-2.ensures.value at (c.in-Err.ensures.refused.0 refl))
+pub end_process-requires-clause-owing : goal.end_process-requires-clause-owing
+end_process-requires-clause-owing g c =
+    let told = rw c.happen_mut.ensures.value at c.stop_waiting.ensures.stops in
+    let stops : StopsWaiting c.in-Some.target c.args.other c.args.self.now.shared.happen c.stop_waiting.new.happen = rw (← c.self.view_is) told in
+    let waits : Some c.in-Some.target ≡ option_map (λ r. r.target) (record_of c.args.other c.args.self.now.live) = rw (← c.self.view_is) c.in-Some.ensures in
+    let running = rw (← c.self.view_is) at c.requires.running in
+    let control = ap (control_of c.self.inside.mode) told.left ∙ sym (stripped_is c.args.other c.self.inside.mode c.self.inside.shared.happen.left c.args.event c.args.process running) in
+    (ends_well_then g.B.LawfulBody.body c.args.other c.in-Some.target c.args.self.now c.stop_waiting.new.happen c.leave_scopes.new.self c.leave_scopes.ensures.leaves c.requires.can stops waits (rw (← c.self.view_is, control) refl)).owing
+
+pub end_process-requires-clause-places : goal.end_process-requires-clause-places
+end_process-requires-clause-places g c =
+    let told = rw c.happen_mut.ensures.value at c.stop_waiting.ensures.stops in
+    let stops : StopsWaiting c.in-Some.target c.args.other c.args.self.now.shared.happen c.stop_waiting.new.happen = rw (← c.self.view_is) told in
+    let waits : Some c.in-Some.target ≡ option_map (λ r. r.target) (record_of c.args.other c.args.self.now.live) = rw (← c.self.view_is) c.in-Some.ensures in
+    let running = rw (← c.self.view_is) at c.requires.running in
+    let control = ap (control_of c.self.inside.mode) told.left ∙ sym (stripped_is c.args.other c.self.inside.mode c.self.inside.shared.happen.left c.args.event c.args.process running) in
+    stand_then g.B.LawfulBody.body c.args.other c.in-Some.target c.args.self.now c.stop_waiting.new.happen c.leave_scopes.new.self c.leave_scopes.ensures.leaves c.requires.can stops waits (rw (← c.self.view_is, control) refl) g.B.Body.events_held c.requires.places
 
 pub returns : goal.returns
 returns g c =
-    let can = rw (← c.self.view_is) at c.requires.can in
+    let told = rw c.happen_mut.ensures.value at c.stop_waiting.ensures.stops in
+    let stops : StopsWaiting c.in-Some.target c.args.other c.args.self.now.shared.happen c.stop_waiting.new.happen = rw (← c.self.view_is) told in
+    let waits : Some c.in-Some.target ≡ option_map (λ r. r.target) (record_of c.args.other c.args.self.now.live) = rw (← c.self.view_is) c.in-Some.ensures in
     let running = rw (← c.self.view_is) at c.requires.running in
+    let control = ap (control_of c.self.inside.mode) told.left ∙ sym (stripped_is c.args.other c.self.inside.mode c.self.inside.shared.happen.left c.args.event c.args.process running) in
     let value : FitsSigned w64 c.args.value = search rules in
-    let found = sym c.in-Some-take.ensures.taken in
-    let known = known_dropped _ _ c.in-Some-take.record found can in
-    let stops = rw c.happen_mut.ensures.value at c.stop_waiting.ensures.stops in
-    let target = mapped_is _ _ c.in-Some.target (sym c.in-Some.ensures) in
-    let same = same_Some _ _ (sym found ∙ target.1) in
-    let follows = rw (to_z-of_z w64 c.args.value value, c.happen_mut-2.ensures.value) at c.in-Ok.ensures.ok in
-    let left = follows.left ∙ (c.leave_scopes.ensures.leaves.left ∙ stops.left) in
-    let control = ap (control_of c.self.inside.mode) left ∙ sym (stripped_is c.args.other c.self.inside.mode c.self.inside.shared.happen.left c.args.event c.args.process running) in
-    rw (← c.self.view_is) (record {
-      becomes = other_dropped c.args.other c.args.value _ c.tell.new.self c.in-Some-take.record c.stop_waiting.new.happen c.leave_scopes.new.shared c.succeed.new.self c.take.new.self.live (room_with c.self.inside.ready c.take.new.self.spare) found (subst (λ (e : EventId). StopsWaiting e c.args.other c.self.inside.shared.happen c.stop_waiting.new.happen) (sym (ap (λ x. x.target) same ∙ target.2)) stops) c.leave_scopes.ensures.leaves known.few c.in-Some-take.ensures.live follows (c.tell.ensures ∙ rw control refl);
-    })
+    let ends = rw (to_z-of_z w64 c.args.value value) at c.end_process.ensures.becomes in
+    record {
+      becomes = drops_then g.B.LawfulBody.body c.args.other c.in-Some.target c.args.self.now c.stop_waiting.new.happen c.leave_scopes.new.self c.leave_scopes.ensures.leaves c.requires.can stops waits (rw (← c.self.view_is, control) refl) c.args.value c.end_process.new.self c.tell.new.self ends c.tell.ensures;
+    }

@@ -1,10 +1,6 @@
-use Rattle.std.proofs.Common.{rules, sym, ◌∙◌, w64, FitsSigned, eq-eqb, arith}
+use Rattle.std.proofs.Common.{rules, sym, ◌∙◌, w64, FitsSigned, eq-eqb}
 use Rattle.std.proofs.lemmas.Int.{to_z-of_z}
-use Rattle.sim_machine.specs.MayAsk.{most_scopes}
-use Rattle.sim_machine.specs.Effect.{to_another}
-use Rattle.sim_machine.specs.Processes.{drop_process}
 use Rattle.sim_machine_law.proofs.KeptProcessesParts.{is_process-no}
-use Rattle.sim_steps_law.proofs.Becoming.{becomes_within}
 use Rattle.sim_steps_law.proofs.Interruptions.{another_ended, another_itself}
 use Rattle.sim_steps_law.proofs.DroppedProcesses.{another_done}
 use Rattle.sim_steps.proofs.parts.Parts.drop_process.Goals as goal
@@ -13,16 +9,14 @@ pub returns-then-not-is_alive : goal.returns-then-not-is_alive
 returns-then-not-is_alive g c =
     let ended = sym c.is_alive.ensures ∙ c.if-not-is_alive.true in
     record {
-      becomes = becomes_within 0 most_scopes (to_another c.args.process c.args.other (drop_process c.args.other c.args.value)) _ c.tell.new.self (omega arith)
-          (another_ended c.args.process c.args.other _ _ c.tell.new.self (rw (← c.self.view_is) ended) c.tell.ensures);
+      becomes = another_ended c.args.process c.args.other _ _ c.tell.new.self (rw (← c.self.view_is) ended) c.tell.ensures;
     }
 
 pub returns-then-other-process : goal.returns-then-other-process
 returns-then-other-process g c =
     let lives = sym c.is_alive.ensures ∙ c.if-not-is_alive.false in
     record {
-      becomes = becomes_within 0 most_scopes (to_another c.args.process c.args.other (drop_process c.args.other c.args.value)) _ c.tell-then-other-process.new.self (omega arith)
-          (another_itself c.args.process c.args.other _ _ c.tell-then-other-process.new.self (rw (← c.self.view_is) lives) (eq-eqb c.args.other.0 c.args.process.0 c.if-other-process.true) c.tell-then-other-process.ensures);
+      becomes = another_itself c.args.process c.args.other _ _ c.tell-then-other-process.new.self (rw (← c.self.view_is) lives) (eq-eqb c.args.other.0 c.args.process.0 c.if-other-process.true) c.tell-then-other-process.ensures;
     }
 
 pub returns-else-other-process : goal.returns-else-other-process
@@ -30,5 +24,5 @@ returns-else-other-process g c =
     let lives = sym c.is_alive.ensures ∙ c.if-not-is_alive.false in
     let value : FitsSigned w64 c.args.value = search rules in
     record {
-      becomes = another_done most_scopes c.args.process c.args.other _ _ c.drop_other.new.self (rw (← c.self.view_is) lives) (is_process-no c.args.other c.args.process c.if-other-process.false) (rw (to_z-of_z w64 c.args.value value) at c.drop_other.ensures.becomes);
+      becomes = another_done c.args.process c.args.other _ _ c.drop_other.new.self (rw (← c.self.view_is) lives) (is_process-no c.args.other c.args.process c.if-other-process.false) (rw (to_z-of_z w64 c.args.value value) at c.drop_other.ensures.becomes);
     }

@@ -10,7 +10,7 @@ returns-in-Some g c =
     let least : FitsSigned w64 c.args.least = search rules in
     let greatest : FitsSigned w64 c.args.greatest = search rules in
     let made = rw (to_z-of_z w64 c.args.least least, to_z-of_z w64 c.args.greatest greatest) at c.in-Some.ensures.made in
-    record { becomes = made.each tell_made c.tell.new.self (rw c.tell.ensures (becomes_told (signal.Made c.in-Some.get) c.make_get.new.self)) }
+    record { becomes = made.each 0 tell_made c.tell.new.self (rw c.tell.ensures (becomes_told (signal.Made c.in-Some.get) c.make_get.new.self)) }
 
 pub returns-in-None : goal.returns-in-None
 returns-in-None g c =

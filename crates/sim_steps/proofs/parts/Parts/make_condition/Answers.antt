@@ -7,7 +7,7 @@ pub returns-in-Ok : goal.returns-in-Ok
 returns-in-Ok g c =
     let x = c.add_condition.new.self.shared.happen in
     record {
-      becomes = condition_becomes _ _ x c.in-Ok.condition _ c.args.members c.in-Ok.ensures.few (λ d s. false_from_ne_true _ (λ wide. false≢true ((c.in-Ok.ensures.wide d s).1 wide))) c.in-Ok.ensures.ok c.in-Ok.ensures.id (c.tell.ensures ∙ rw (c.in-Ok.ensures.rest, c.in-Ok.ensures.ok.left) refl);
+      becomes = condition_becomes _ _ x c.in-Ok.condition _ c.args.members c.in-Ok.ensures.few c.requires.members (λ d s. false_from_ne_true _ (λ wide. false≢true ((c.in-Ok.ensures.wide d s).1 wide))) c.in-Ok.ensures.ok c.in-Ok.ensures.id (c.tell.ensures ∙ rw (c.in-Ok.ensures.rest, c.in-Ok.ensures.ok.left) refl);
     }
 
 pub returns-in-Err : goal.returns-in-Err

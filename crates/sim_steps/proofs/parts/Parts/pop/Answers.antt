@@ -6,7 +6,7 @@ use Rattle.sim_steps_law.proofs.Calls.{popped_moves, told_of}
 use Rattle.sim_steps.proofs.parts.Parts.pop.Goals as goal
 
 pub step-requires-clause-few : goal.step-requires-clause-few
-step-requires-clause-few g c = rw c.happen_mut.ensures.value (are_few c.self.inside.shared.happen (rw (← c.self.view_is) at c.requires.kept))
+step-requires-clause-few g c = rw c.happen_mut.ensures.value (are_few c.self.inside.shared.happen (rw (← c.self.view_is) at c.requires.few))
 
 pub unreachable-requires-in_default : goal.unreachable-requires-in_default
 unreachable-requires-in_default g c =

@@ -10,7 +10,7 @@ returns-in-Some g c =
     let amount : FitsSigned w64 c.args.amount = search rules in
     let priority : FitsSigned w64 c.args.priority = search rules in
     let made = rw (to_z-of_z w64 c.args.amount amount, to_z-of_z w64 c.args.priority priority) at c.in-Some.ensures.made in
-    record { becomes = made.each tell_made c.tell.new.self (rw c.tell.ensures (becomes_told (signal.Made c.in-Some.put) c.make_put.new.self)) }
+    record { becomes = made.each 0 tell_made c.tell.new.self (rw c.tell.ensures (becomes_told (signal.Made c.in-Some.put) c.make_put.new.self)) }
 
 pub returns-in-None : goal.returns-in-None
 returns-in-None g c =

@@ -1,14 +1,17 @@
-use Rattle.std.proofs.Common.{[], ◌∙◌, refl}
-use Rattle.std.proofs.lemmas.List.Elements.{All-head}
+use Rattle.std.proofs.Common.{◌∙◌, refl}
 use Rattle.sim_procs.specs.RecordOf.{record_of, scope_of}
-use Rattle.sim_steps_model.specs.Dropping.{CanBeLeft}
 use Rattle.sim_steps_law.proofs.HeldScopes.{found_scope, released_becomes}
 use Rattle.sim_steps.proofs.parts.Parts.release.Goals as goal
 
+pub release-requires-clause-res : goal.release-requires-clause-res
+release-requires-clause-res g c =
+    let takes = rw (← c.self.view_is, ← c.in-Some.ensures) at c.requires.scope in
+    rw c.self.invariant.resources takes.within
+
 pub release-requires-clause-slots : goal.release-requires-clause-slots
 release-requires-clause-slots g c =
-    let can = rw (← c.self.view_is, ← c.in-Some.ensures) at c.requires.scope in
-    (All-head (CanBeLeft c.self.inside.shared.setup can.facilities) c.in-Some.scope [] can.each).slots
+    let takes = rw (← c.self.view_is, ← c.in-Some.ensures) at c.requires.scope in
+    rw c.self.invariant.resources takes.slots
 
 pub returns : goal.returns
 returns g c =

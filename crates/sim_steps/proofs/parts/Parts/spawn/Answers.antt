@@ -7,5 +7,5 @@ pub returns : goal.returns
 returns g c =
     let number = ap (λ (p : ProcId). p.0) c.begin-made.ensures.process in
     record {
-      becomes = spawned_becomes g.B.LawfulBody.body c.args.self.now c.begin-made.new.self c.tell.new.self c.args.process c.args.kind c.args.args _ c.requires.not_alive c.begin-made.ensures.begins number c.tell.ensures;
+      becomes = spawned_becomes g.B.LawfulBody.body c.args.self.now c.begin-made.new.self c.tell.new.self c.args.process c.args.kind c.args.args _ c.begin-made.ensures.becomes number c.tell.ensures;
     }

@@ -19,7 +19,7 @@ returns-in-Some g c =
     let follows = subst (λ e. Follows (unregister e (is_resume_of p)) c.self.inside.shared.happen c.unregister.new.self) (sym r.2) taken in
     let left = left_calling c.self.inside.mode c.self.inside.shared.happen.left c.args.event calling ∙ sym taken.left in
     rw (← c.self.view_is) (record {
-      becomes = struck_becomes (plan_of g.B.LawfulBody.body c.args.self.now) _ _ c.unregister.new.self c.args.event p r.0 c.signal_of-told.result kept r.1 follows told left refl;
+      becomes = struck_becomes (plan_of g.B.LawfulBody.body c.args.self.now) _ _ c.unregister.new.self c.args.event p r.0 c.signal_of-told.result calling kept r.1 follows told left refl;
     })
 
 pub returns-in_default : goal.returns-in_default

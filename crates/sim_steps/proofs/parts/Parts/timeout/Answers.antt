@@ -10,7 +10,7 @@ returns-in-Some g c =
     let delay : FitsSigned w64 c.args.delay = search rules in
     let value : FitsSigned w64 c.args.value = search rules in
     let made = rw (to_z-of_z w64 c.args.delay delay, to_z-of_z w64 c.args.value value) at c.in-Some.ensures.made in
-    record { becomes = made.each tell_made c.tell.new.self (rw c.tell.ensures (becomes_told (signal.Made c.in-Some.timeout) c.make_timeout.new.self)) }
+    record { becomes = made.each 0 tell_made c.tell.new.self (rw c.tell.ensures (becomes_told (signal.Made c.in-Some.timeout) c.make_timeout.new.self)) }
 
 pub returns-in-None : goal.returns-in-None
 returns-in-None g c =

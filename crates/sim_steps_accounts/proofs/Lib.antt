@@ -1,4 +1,0 @@
--- one lift for each part
-pub mod Accounting
--- pops, callbacks that are taken, chains and conditions
-pub mod AccountedCalls
