@@ -109,11 +109,11 @@ none_added scenario n answer h is = rw h (rw is refl)
 
 -- the line on the end, as the kernel tells it
 abbrev pub finish_of : Until → PartsOf Script ScenarioOf → Line
-finish_of until parts = line.Finish (stopped_at until (rest_of parts.control parts.shared.happen.agenda)) parts.shared.happen.time parts.processed
+finish_of until parts = line.Finish parts.shared.happen.time parts.processed (stopped_at until (rest_of parts.control parts.shared.happen.agenda))
 
 pub finish_is : (until : Until) (parts : PartsOf Script ScenarioOf) (rest : Rest) (end : End) (finish : Line)
     → rest ≡ rest_of parts.control parts.shared.happen.agenda → end ≡ stopped_at until rest
-    → finish ≡ line.Finish end parts.shared.happen.time parts.processed → finish ≡ finish_of until parts
+    → finish ≡ line.Finish parts.shared.happen.time parts.processed end → finish ≡ finish_of until parts
 finish_is until parts rest end finish stands ended is = is ∙ rw (ended, stands) refl
 
 -- the text of the whole trace
@@ -122,7 +122,7 @@ pub trace_is : (scenario : ScenarioOf) (limit : ℕ) (parts : PartsOf Script Sce
     → trace_text [] (trace_of_scenario scenario limit) ≡ text_after scenario limit ++ line_text [] finish
 trace_is scenario limit parts finish h is =
     let m = run_of_scenario scenario limit in
-    let last : Line = line.Finish (end_of_scenario scenario limit) (calendar m.state).time m.state.processed in
+    let last : Line = line.Finish (calendar m.state).time m.state.processed (end_of_scenario scenario limit) in
     let same : finish ≡ last = is ∙ rw (end_is scenario limit parts h, h.stands.facilities.calendar.time, h.stands.processed) refl in
     text_append (lines_after scenario limit) (last ∷ []) ∙ ap (λ t. trace_text [] (lines_after scenario limit) ++ t) (text_one last ∙ ap (line_text []) (sym same))
 
@@ -130,7 +130,7 @@ trace_is scenario limit parts finish h is =
 abbrev pub finish_text : ScenarioOf → ℕ → List ℕ
 finish_text scenario limit =
     let m = run_of_scenario scenario limit in
-    trace_text [] (line.Finish (end_of_scenario scenario limit) (calendar m.state).time m.state.processed ∷ [])
+    trace_text [] (line.Finish (calendar m.state).time m.state.processed (end_of_scenario scenario limit) ∷ [])
 
 pub trace_begins : (scenario : ScenarioOf) (limit : ℕ)
     → trace_text [] (trace_of_scenario scenario limit) ≡ text_after scenario limit ++ finish_text scenario limit

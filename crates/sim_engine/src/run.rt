@@ -124,7 +124,7 @@ fn write_line<K: Sink>(line: &Line, buffer: &mut LineBuf, out: &mut K) -> Result
 /// The line on the end of a run that ended so.
 fn finish_line(end: End, kernel: &Kernel<Script>) -> Line
     ensures { result
-        ≡ Line.Finish end kernel.now.parts.shared.happen.time kernel.now.parts.processed }
+        ≡ Line.Finish kernel.now.parts.shared.happen.time kernel.now.parts.processed end }
 {
     Line::Finish {
         end,

@@ -20,7 +20,7 @@ use Rattle.sim_happen_law.proofs.Due.{AreApart, due_shown, others_shown}
 pub pops_entry : (h n : HappenOf) (x : Entry) (told : Line) → TakesFirst h.agenda x n.agenda → AreApart h.agenda → IsKept h.events x.event
     → n.time ≡ x.key.time → n.scheduled ≡ h.scheduled → n.events ≡ slice_set h.events x.event.0 (Some (with_processed (with_holder (kept_at h.events x.event))))
     → n.left ≡ (kept_at h.events x.event).callbacks
-    → ((y : EventOf) → y ≡ (kept_at h.events x.event).event → told ≡ line.Event x.key.time x.key.priority x.key.number y.kind x.event (outcome_or_zero y.outcome))
+    → ((y : EventOf) → y ≡ (kept_at h.events x.event).event → told ≡ line.Event x.key.time x.key.number x.event (outcome_or_zero y.outcome) x.key.priority y.kind)
     → PopsEntry x told h n
 pops_entry h n x told takes apart kept time scheduled is left says =
     let k : Kept = kept_at h.events x.event in

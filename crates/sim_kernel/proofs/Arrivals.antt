@@ -59,12 +59,12 @@ module _ {B Code : Type 0} (body : BodyOf B Code) (port : ℕ) (value : ℤ) (ol
       subst (λ (g : Plan B). Balances body [] new (arrive g port value s)) plan
       (becomes.accounts [] s (lawful_stands body mid s (roomier_lawful body old mid s room h) (roomier_stands old mid s room st)) (roomier_balances [] old mid s room k))
 
-  pub makes_arrival : (answer : Line) → answer ≡ line.Arrive mid.processed port value → MakesArrival body port value old answer new
+  pub makes_arrival : (answer : Line) → answer ≡ line.Arrive mid.processed value port → MakesArrival body port value old answer new
   makes_arrival answer is =
       record {
         each = λ s lawful st.
             let before : mid.processed ≡ s.processed = ap (λ (k : PartsOf B Code). k.processed) room.others ∙ st.processed in
-            let told : answer ≡ line.Arrive s.processed port value = is ∙ ap (λ n. line.Arrive n port value) before in
+            let told : answer ≡ line.Arrive s.processed value port = is ∙ ap (λ n. line.Arrive n value port) before in
             record {
               lawful = arrived_lawful s lawful;
               stands = arrived_stands s lawful st;

@@ -116,7 +116,7 @@ end_word g m = unwrap_or (end_of g m) end.Limit
 
 -- the lines that a run wrote, and one on its end
 abbrev pub trace_of : {B : Type 0} → Plan B → Course B → List Line
-trace_of g m = m.state.lines ++ line.Finish (end_word g m) (calendar m.state).time m.state.processed ∷ []
+trace_of g m = m.state.lines ++ line.Finish (calendar m.state).time m.state.processed (end_word g m) ∷ []
 
 -- the values of the `log` lines
 abbrev pub logged : List Line → List ℤ

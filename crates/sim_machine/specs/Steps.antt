@@ -46,7 +46,7 @@ outcome_or_zero (Some x) = x
 
 -- the line of an event that is popped
 abbrev pub line_of : Entry → Calendar → Line
-line_of x c = line.Event x.key.time x.key.priority x.key.number (event_at c x.event).kind x.event (outcome_or_zero (event_at c x.event).outcome)
+line_of x c = line.Event x.key.time x.key.number x.event (outcome_or_zero (event_at c x.event).outcome) x.key.priority (event_at c x.event).kind
 
 -- the entry that is due is popped, and its event's callbacks are to be called
 abbrev pub pop_entry : {B : Type 0} → Entry → State B → State B

@@ -10,7 +10,7 @@ use Rattle.sim_machine.specs.Steps.{Turn, TurnFunction, IsStep, step_of}
 
 -- a value comes in by a port: a process of the port's kind is made, with the value as its argument
 abbrev pub arrive : {B : Type 0} → Plan B → ℕ → ℤ → State B → State B
-arrive g port value s = write_line (line.Arrive s.processed port value) (make_process g (slice_index_or g.setup.ports port 0) (value ∷ []) s)
+arrive g port value s = write_line (line.Arrive s.processed value port) (make_process g (slice_index_or g.setup.ports port 0) (value ∷ []) s)
 
 -- a run under way: the state, and the journal's entries that are left
 pub record Course (B : Type 0) : Type 0 where

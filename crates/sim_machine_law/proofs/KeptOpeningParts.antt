@@ -69,4 +69,4 @@ lawful-arrived {B} f tell sound g turn s port value law fits below h =
     let may : IsTrue (may_begin f k (value ∷ [])) = port_fits_starts f k value (fits.ports port 0 below) in
     let begun = law.starts k (value ∷ []) p may in
     let made : LawfulBasis g tell sound (make_process g k (value ∷ []) s) = lawful-made_process g tell sound s f k (value ∷ []) may begun (port_placed f tell (calendar s) k value p (g.start k (value ∷ []) p) (fits.ports port 0 below) begun) (law.begins k (value ∷ []) p may) h in
-    lawful_noted g tell sound (make_process g k (value ∷ []) s) s.drawn (s.lines ++ line.Arrive s.processed port value ∷ []) made
+    lawful_noted g tell sound (make_process g k (value ∷ []) s) s.drawn (s.lines ++ line.Arrive s.processed value port ∷ []) made

@@ -36,7 +36,7 @@ later_lines g turn m n (suc k) =
 
 -- the last line of a trace
 abbrev last_line : {B : Type 0} → Plan B → Course B → Line
-last_line g m = line.Finish (end_word g m) (calendar m.state).time m.state.processed
+last_line g m = line.Finish (calendar m.state).time m.state.processed (end_word g m)
 
 pub trace_is : {B : Type 0} (g : Plan B) (m : Course B) → (last : Line) × (trace_of g m ≡ m.state.lines ++ last ∷ [])
 trace_is g m = (last_line g m, refl)

@@ -27,7 +27,7 @@ impl<B: Body> Parts<B> {
         ensures becomes { BecomesWith B.body most_begun
             (units.arrive (plan_of B.body self.old) port value)
             self.old self.new }
-        ensures line { result ≡ line.Arrive self.old.processed port value }
+        ensures line { result ≡ line.Arrive self.old.processed value port }
     {
         let kind = self.ports[port as usize];
         let mut args = Args::new();

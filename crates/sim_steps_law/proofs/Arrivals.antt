@@ -77,5 +77,5 @@ pub arrived_becomes : {B Code : Type 0} (body : BodyOf B Code) (old new : PartsO
 arrived_becomes {B} body old new port value begins =
     let k = slice_index_or old.setup.ports port 0 in
     let makes : State B → State B = make_process (plan_of body old) k (value ∷ []) in
-    let writes : State B → State B = λ s. write_line (line.Arrive s.processed port value) s in
-    becomes_then makes writes old new new begins (becomes_written (λ s. line.Arrive s.processed port value) new)
+    let writes : State B → State B = λ s. write_line (line.Arrive s.processed value port) s in
+    becomes_then makes writes old new new begins (becomes_written (λ s. line.Arrive s.processed value port) new)

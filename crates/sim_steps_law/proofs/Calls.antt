@@ -149,7 +149,7 @@ module _ {B Code : Type 0} (body : BodyOf B Code) (a n : PartsOf B Code) (x : En
 
 -- the event that a line tells of, if it does
 abbrev told_event : Line → EventId
-told_event (line.Event time priority number k e o) = e
+told_event (line.Event time number e o priority k) = e
 told_event _ = record { 0 = 0 }
 
 -- the line of an entry tells its event

@@ -80,13 +80,13 @@ AreNamesShort names = All (λ name. length name ≤ 32) names
 
 -- an event that is processed, a number that a process logs, a value that comes in by a port, the end of the run
 abbrev pub line_text : List (List ℕ) → Line → List ℕ
-line_text ports (line.Event time priority number kind event outcome) =
+line_text ports (line.Event time number event outcome priority kind) =
     written ((64 ∷ signed_decimal time) ∷ decimal priority ∷ decimal number ∷ kind_word kind ∷ decimal event.0 ∷ outcome_words outcome)
 line_text ports (line.Log time process value) =
     written (codes "log" ∷ signed_decimal time ∷ decimal process.0 ∷ signed_decimal value ∷ [])
-line_text ports (line.Arrive after port value) =
+line_text ports (line.Arrive after value port) =
     written (codes "arrive" ∷ decimal after ∷ port_word ports port ∷ signed_decimal value ∷ [])
-line_text ports (line.Finish how time processed) =
+line_text ports (line.Finish time processed how) =
     written (codes "end" ∷ end_word how ∷ signed_decimal time ∷ decimal processed ∷ [])
 
 abbrev pub trace_text : List (List ℕ) → List Line → List ℕ

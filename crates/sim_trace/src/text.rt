@@ -49,7 +49,7 @@ fn append_event(
     out: &mut LineBuf,
 )
     requires { out.old ≡ [] }
-    ensures { out.new ≡ line_text [] (Line.Event time priority number kind event outcome) }
+    ensures { out.new ≡ line_text [] (Line.Event time number event outcome priority kind) }
 {
     append_key(time, priority, number, out);
     append_word(kind_word(kind), out);
@@ -104,7 +104,7 @@ fn append_log(time: i64, process: ProcId, value: i64, out: &mut LineBuf)
 fn append_arrival(after: u64, port: u32, value: i64, ports: &[Name], out: &mut LineBuf)
     requires empty { out.old ≡ [] }
     requires names { AreNamesShort ports.now }
-    ensures { out.new ≡ line_text ports.now (Line.Arrive after port value) }
+    ensures { out.new ≡ line_text ports.now (Line.Arrive after value port) }
 {
     out.append(b"arrive");
     append_number(after, out);
@@ -127,7 +127,7 @@ fn port_word<'a>(ports: &'a [Name], port: u32) -> &'a [u8]
 
 fn append_finish(end: End, time: i64, processed: u64, out: &mut LineBuf)
     requires { out.old ≡ [] }
-    ensures { out.new ≡ line_text [] (Line.Finish end time processed) }
+    ensures { out.new ≡ line_text [] (Line.Finish time processed end) }
 {
     out.append(b"end");
     append_word(end_word(end), out);
