@@ -1,10 +1,11 @@
 -- What is to hold where a body begins and where it is polled, and the events that it remembers.
-use Rattle.std.specs.Prelude.{◌≡◌, ◌≢◌, ℕ, ℤ, List, [], length, map, slice_index_or, Option, Some, IsTrue}
+use Rattle.std.specs.Prelude.{◌≡◌, ◌≢◌, ◌<◌, ℕ, ℤ, Bool, List, [], length, map, slice_index_or, Option, Some, IsTrue}
 use Rattle.sim_types.specs.declared.event.EventId.{EventId}
 use Rattle.sim_types.specs.declared.event.Signal.{Signal}
 use Rattle.sim_machine.specs.Tellings.{CodeFacts}
 use Rattle.sim_machine.specs.Bodies.{BodyOf}
-use Rattle.sim_machine.specs.BodyLaw.{may_begin}
+use Rattle.sim_types.specs.declared.op.Op.TheVariants as op
+use Rattle.sim_machine.specs.BodyLaw.{may_begin, scopes_told}
 use Rattle.sim_machine.specs.MayFollow.{may_be_told}
 use Rattle.sim_machine.specs.NumberBounds.{arguments_within_bound, tells_within_bound}
 
@@ -28,3 +29,9 @@ pub record CanBeTold {B Code : Type 0} (body : BodyOf B Code) (code : Code) (b :
   pub sound : body.sound code b
   pub told : IsTrue (may_be_told ((body.tell code).last b) x)
   pub bound : IsTrue (tells_within_bound x)
+
+-- whoever asks to enter a resource holds fewer scopes open than so many, with the one that it is just told of
+pub record EntersWithin {B Code : Type 0} (body : BodyOf B Code) (code : Code) (most : ℕ) : Type 0 where
+  pub fewer : (b : B) (time : ℤ) (x : Signal) (res : ℕ) (priority : ℤ) (preempts : Bool) (d : B)
+      → CanBeTold body code b x → body.turn code b time x (op.Enter res priority preempts) d
+      → length (scopes_told ((body.tell code).scopes b) ((body.tell code).last b) x) < most

@@ -1,9 +1,10 @@
-ghost use Rattle.std.specs.Prelude.{◌≤◌, ◌≡◌, ◌<◌, ℕ, ℤ, List, Option, Some, length, slice_index_or, IfOk};
+ghost use Rattle.std.specs.Prelude.{◌≤◌, ◌≡◌, ◌<◌, ℕ, ℤ, List, Option, Some, length, slice_index_or, IfOk, IsFalse, IsTrue};
 ghost use Rattle.sim_types.specs.declared.event.EventId.{EventId};
 ghost use Rattle.sim_types.specs.declared.event.Signal.TheVariants as signal;
 ghost use Rattle.sim_types.specs.declared.op.Op.{Op};
+ghost use Rattle.sim_types.specs.declared.op.Op.TheVariants as op;
 ghost use Rattle.sim_machine.specs.NumberBounds.{most_events};
-ghost use Rattle.sim_procs.specs.Premises.{CanBegin, CanBeTold, ChangesOnly, events_in_places};
+ghost use Rattle.sim_procs.specs.Premises.{CanBegin, CanBeTold, ChangesOnly, EntersWithin, events_in_places};
 
 use sim_machine::LawfulBody;
 use sim_types::{Args, EventId, Op, ProcId, Signal};
@@ -20,6 +21,13 @@ pub trait Body: LawfulBody + Sized + Drop {
 
     /// A body that has memory for all that a process of this code keeps.
     ghost is_for: { Self.Code → Self → Type 0 };
+
+    /// As many scopes may be open at once in a process of this code.
+    ghost most_open: { Self.Code → ℕ };
+
+    /// The same number: each process is given memory for so many scopes.
+    fn scopes_needed(code: &Self::Code) -> usize
+        ensures { result ≡ most_open code.now };
 
     /// A body for this code that is yet to be filled. This alone takes memory.
     fn blank(alloc: Global, code: &Self::Code) -> Result<Self, AllocError>
@@ -40,6 +48,14 @@ pub trait Body: LawfulBody + Sized + Drop {
     fn poll(&mut self, code: &Self::Code, now: i64, signal: Signal) -> Op
         requires { CanBeTold Self.body code.now self.old signal }
         ensures { Self.body.turn code.now self.old now signal result self.new };
+
+    /// The same poll, where the body asks for nothing in it (`Nop`) and can tell so beforehand. The answer is whether it was
+    /// made: else all is as before. A body may always answer that it was not.
+    fn poll_quietly(&mut self, code: &Self::Code, now: i64, signal: Signal) -> bool
+        requires { CanBeTold Self.body code.now self.old signal }
+        ensures done { IsTrue result
+            → Self.body.turn code.now self.old now signal op.Nop self.new }
+        ensures kept { IsFalse result → self.new ≡ self.old };
 
     /// The event in a place, or event 0.
     fn place(&self, at: u8) -> EventId
@@ -67,4 +83,7 @@ pub trait Body: LawfulBody + Sized + Drop {
         (d : Self) → CanBeTold Self.body code b (signal.Made e)
         → Self.body.turn code b time (signal.Made e) asked d
         → ChangesOnly (told_place code b) (events_held b) (events_held d) };
+
+    /// Who asks to enter a resource has fewer scopes open than there may be.
+    ghost enters_within: { (code : Self.Code) → EntersWithin Self.body code (most_open code) };
 }
