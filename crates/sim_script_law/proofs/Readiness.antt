@@ -24,7 +24,7 @@ use Rattle.sim_script_law.proofs.KindsOfScenarios.{fits_well}
 use Rattle.sim_script_law.proofs.SetupFits.{fitting_parts}
 use Rattle.sim_script_law.proofs.Walking.{Steps, steps}
 use Rattle.sim_script_law.proofs.WithinVariables.{fits_small}
-use Rattle.sim_script_law.proofs.Needs.{gives_kept, frames_in, finds_room}
+use Rattle.sim_script_law.proofs.Needs.{gives_kept, has_frame, finds_room}
 use Rattle.sim_script_law.proofs.Standing.{Stands}
 use Rattle.sim_script_law.proofs.Taking.{Takes, takes, answered_by_number, answered_by_event}
 
@@ -76,7 +76,7 @@ ready_to_take x b _ h may small = refl
 -- the statement at its place
 module _ (x : ScenarioOf) (kind : Kind) (opens : List Open) (t : Script) (h : Stands x kind opens t) (is_of : t.scenario ≡ x) where
   -- a block more finds room
-  more_room : (n : ℕ) (o : Open) → Walks x kind n (o ∷ opens) → frames_in (o ∷ opens) ≡ suc (frames_in opens) → has_room t ≡ true
+  more_room : (n : ℕ) (o : Open) → Walks x kind n (o ∷ opens) → has_frame o ≡ true → has_room t ≡ true
   more_room n o walks more = roomy x t is_of (finds_room x kind n o opens t.variables t.frames walks more h.framed)
 
   room_for_block : (s : Stmt) → Steps x kind t.place opens s → enters_room t s ≡ true

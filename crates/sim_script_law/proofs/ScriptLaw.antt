@@ -1,22 +1,25 @@
 -- A script keeps the law of bodies: it is never stuck.
-use Rattle.std.proofs.Common.{◌≡◌, refl, ap, ◌∙◌, ◌≤◌, ℤ, List, [], ◌∷◌, length, map, Option, Some, arith}
+use Rattle.std.proofs.Common.{◌≡◌, refl, ap, ◌∙◌, ℕ, ◌<◌, ◌≤◌, ℤ, Bool, List, [], ◌∷◌, length, map, Option, Some, arith}
 use Rattle.std.specs.Prelude.{IsTrue}
-use Rattle.std.proofs.lemmas.List.{length-map}
+use Rattle.std.proofs.lemmas.List.{length-map, length-reverse}
 use Rattle.sim_types.specs.Scenarios.{ScenarioOf}
 use Rattle.sim_types.specs.declared.event.Signal.{Signal}
 use Rattle.sim_types.specs.declared.op.Op.{Op}
+use Rattle.sim_types.specs.declared.op.Op.TheVariants as op
 use Rattle.sim_types.specs.declared.setup.Class.{Class}
 use Rattle.sim_types.specs.declared.script.Kind.{Kind}
 use Rattle.sim_machine.specs.Tellings.{Place}
 use Rattle.sim_machine.specs.MayFollow.{may_be_told}
-use Rattle.sim_machine.specs.BodyLaw.{IsLawfulBody, IsLawfulPoll}
+use Rattle.sim_machine.specs.BodyLaw.{IsLawfulBody, IsLawfulPoll, scopes_told}
 use Rattle.sim_language.specs.FittingBlocks.{Open}
-use Rattle.sim_script_model.specs.Scripts.{Mode, Running, Throwing, Breaking, Finishing, Script, script_telling, places_of, stmt_at}
+use Rattle.sim_script_model.specs.Scripts.{Mode, Running, Throwing, Breaking, Finishing, Script, script_telling, places_of, requests_in, stmt_at}
 use Rattle.sim_script_model.specs.Polls.{take_in, ask}
+use Rattle.sim_script_model.specs.Needs.{most_open_scopes}
 use Rattle.sim_machine.specs.Bodies.{start_of}
 use Rattle.sim_script_law.specs.ScriptMembers.{script_body, IsScriptTurn, script_holds, script_facts}
 use Rattle.sim_script_law.specs.SoundScripts.{IsSoundScript, IsEntering, is_running, is_breaking}
 use Rattle.sim_script_law.proofs.Walking.{steps}
+use Rattle.sim_script_law.proofs.Needs.{enters_within}
 use Rattle.sim_script_law.proofs.Starts.{facts_are, start_sound, start_lawful}
 use Rattle.sim_script_law.proofs.Standing.{Stands, Asks}
 use Rattle.sim_script_law.proofs.Leaving.{leaves}
@@ -112,6 +115,17 @@ script_lawful x =
       polls = poll_lawful x;
       keeps = poll_sound x;
     }
+
+-- ---- its scopes
+
+-- whoever asks for a request has fewer scopes open than where most of them are
+pub script_enters_within : (x : ScenarioOf) (b : Script) (time : ℤ) (told : Signal) (res : ℕ) (priority : ℤ) (preempts : Bool) (d : Script)
+    → IsSoundScript x b → IsTrue (may_be_told b.asked told) → IsScriptTurn x b time told (op.Enter res priority preempts) d
+    → length (scopes_told (script_telling.scopes b) b.asked told) < most_open_scopes x.code
+script_enters_within x b time told res priority preempts d h may turned =
+    let law = poll_lawful x b time told (op.Enter res priority preempts) d h may turned in
+    let sound = poll_sound x b time told (op.Enter res priority preempts) d h may turned in
+    rw (← law.scopes, length-reverse (requests_in d.frames)) (enters_within x d sound (rw law.last refl))
 
 -- ---- its places
 

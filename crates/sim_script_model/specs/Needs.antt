@@ -34,27 +34,54 @@ most_params (k ∷ kinds) = max k.params (most_params kinds)
 abbrev pub last_variable : ScenarioOf → ℕ
 last_variable x = min 63 (max (most_params x.kinds) (last_given_in x.code))
 
--- ---- frames
+-- ---- blocks
 
--- the frames of the blocks that are open before a statement, by those that are open behind it
-abbrev pub frames_around : Stmt → ℕ → ℕ
-frames_around (stmt.With to res priority preempt) behind = behind - 1
-frames_around (stmt.Loop past) behind = behind - 1
-frames_around (stmt.Repeat times past) behind = behind - 1
-frames_around (stmt.Try catch) behind = behind - 1
-frames_around (stmt.Catch kind value past) behind = suc behind
-frames_around (stmt.EndLoop first) behind = suc behind
-frames_around (stmt.EndRepeat first) behind = suc behind
-frames_around stmt.EndWith behind = suc behind
-frames_around stmt.EndProcess behind = 0
-frames_around s behind = behind
+-- what a statement does to the blocks of a kind that are open: it opens one, closes one, ends the process, in which none is
+-- open then, or leaves them as they are
+pub data Change : Type 0 where
+  Opens Closes Ends Stays : Change
 
--- the frames of the blocks that are open before these statements, which close them
-abbrev pub frames_before : List Stmt → ℕ
-frames_before [] = 0
-frames_before (s ∷ code) = frames_around s (frames_before code)
+-- the blocks that are open before a statement, by those that are open behind it
+abbrev pub open_around : Change → ℕ → ℕ
+open_around Opens behind = behind - 1
+open_around Closes behind = suc behind
+open_around Ends behind = 0
+open_around Stays behind = behind
+
+-- the blocks that are open before these statements, which close them
+abbrev pub open_before : (Stmt → Change) → List Stmt → ℕ
+open_before change [] = 0
+open_before change (s ∷ code) = open_around (change s) (open_before change code)
+
+-- the blocks that are open where most of them are
+abbrev pub most_at_once : (Stmt → Change) → List Stmt → ℕ
+most_at_once change [] = 0
+most_at_once change (s ∷ code) = max (open_before change (s ∷ code)) (most_at_once change code)
+
+-- the blocks that a script has a frame for
+abbrev pub frame_change : Stmt → Change
+frame_change (stmt.With to res priority preempt) = Opens
+frame_change (stmt.Loop past) = Opens
+frame_change (stmt.Repeat times past) = Opens
+frame_change (stmt.Try catch) = Opens
+frame_change (stmt.Catch kind value past) = Closes
+frame_change (stmt.EndLoop first) = Closes
+frame_change (stmt.EndRepeat first) = Closes
+frame_change stmt.EndWith = Closes
+frame_change stmt.EndProcess = Ends
+frame_change s = Stays
 
 -- the frames of a script where most of its blocks are open
 abbrev pub most_frames : List Stmt → ℕ
-most_frames [] = 0
-most_frames (s ∷ code) = max (frames_before (s ∷ code)) (most_frames code)
+most_frames code = most_at_once frame_change code
+
+-- the blocks that are scopes
+abbrev pub scope_change : Stmt → Change
+scope_change (stmt.With to res priority preempt) = Opens
+scope_change stmt.EndWith = Closes
+scope_change stmt.EndProcess = Ends
+scope_change s = Stays
+
+-- the scopes of a script where most of them are open
+abbrev pub most_open_scopes : List Stmt → ℕ
+most_open_scopes code = most_at_once scope_change code
