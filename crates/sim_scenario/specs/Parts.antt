@@ -28,7 +28,8 @@ pub record IsRead (s : ScenarioOf) : Type 0 where
   pub text : List ℕ
   pub says : reads is_built text ≡ Ok s
 
--- the scripts of this scenario need these variables and frames
-pub record HasNeeds (s : ScenarioOf) (last_variable most_frames : ℕ) : Type 0 where
+-- the scripts of this scenario need these variables, frames and scopes
+pub record HasNeeds (s : ScenarioOf) (last_variable most_frames most_open_scopes : ℕ) : Type 0 where
   pub variable : last_variable ≡ needs.last_variable s
   pub frames : most_frames ≡ needs.most_frames s.code
+  pub scopes : most_open_scopes ≡ needs.most_open_scopes s.code

@@ -1,6 +1,6 @@
 //! What the scripts of a scenario need memory for.
 ghost use Rattle.std.specs.Prelude.{◌≡◌, ◌+◌, ◌^◌, ◌<◌, ◌≤◌};
-ghost use Rattle.sim_script_model.specs.Needs.{last_given, last_given_in, most_params, frames_around, most_frames};
+ghost use Rattle.sim_script_model.specs.Needs.{last_given, last_given_in, most_params, open_around, frame_change, most_frames, scope_change, most_open_scopes};
 
 use sim_types::{Kind, Stmt};
 
@@ -10,23 +10,34 @@ pub(crate) struct Needs {
     pub(crate) variable: usize,
     /// The frames of a script where most of its blocks are open.
     pub(crate) frames: usize,
+    /// The scopes of a script where most of them are open.
+    pub(crate) scopes: usize,
 }
 
 /// What scripts that do these statements need, from the last statement back to the first.
 pub(crate) fn needs_of(code: &[Stmt]) -> Needs
     ensures variable { result.variable ≡ last_given_in code.now }
     ensures frames { result.frames ≡ most_frames code.now }
+    ensures scopes { result.scopes ≡ most_open_scopes code.now }
 {
     let mut variable = 0;
-    let mut around = 0;
+    let mut open_frames = 0;
     let mut frames = 0;
+    let mut open_scopes = 0;
+    let mut scopes = 0;
     for place in (0..code.len()).rev() {
         let statement = &code[place];
         variable = variable.max(last_given(statement));
-        around = frames_around(statement, around);
-        frames = frames.max(around);
+        open_frames = frames_around(statement, open_frames);
+        frames = frames.max(open_frames);
+        open_scopes = scopes_around(statement, open_scopes);
+        scopes = scopes.max(open_scopes);
     }
-    Needs { variable, frames }
+    Needs {
+        variable,
+        frames,
+        scopes,
+    }
 }
 
 /// The parameters of the kind that has most of them.
@@ -65,7 +76,7 @@ fn last_given(statement: &Stmt) -> usize
 /// The frames of the blocks that are open before a statement, by those that are open behind it.
 fn frames_around(statement: &Stmt, behind: usize) -> usize
     requires { behind < 2 ^ 63 }
-    ensures is { result ≡ frames_around statement.now behind }
+    ensures is { result ≡ open_around (frame_change statement.now) behind }
     ensures few { result ≤ behind + 1 }
 {
     match statement {
@@ -75,6 +86,20 @@ fn frames_around(statement: &Stmt, behind: usize) -> usize
         Stmt::Catch { .. } | Stmt::EndLoop { .. } | Stmt::EndRepeat { .. } | Stmt::EndWith => {
             behind + 1
         }
+        Stmt::EndProcess => 0,
+        _ => behind,
+    }
+}
+
+/// The scopes that are open before a statement, by those that are open behind it.
+fn scopes_around(statement: &Stmt, behind: usize) -> usize
+    requires { behind < 2 ^ 63 }
+    ensures is { result ≡ open_around (scope_change statement.now) behind }
+    ensures few { result ≤ behind + 1 }
+{
+    match statement {
+        Stmt::With { .. } => behind.saturating_sub(1),
+        Stmt::EndWith => behind + 1,
         Stmt::EndProcess => 0,
         _ => behind,
     }

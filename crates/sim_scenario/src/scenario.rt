@@ -3,7 +3,7 @@ ghost use Rattle.std.specs.Prelude.{◌≡◌, IsTrue, Ok};
 ghost use Rattle.sim_language.specs.Built.{is_built, is_built_scenario};
 ghost use Rattle.sim_language.specs.Reads.{reads};
 ghost use Rattle.sim_language.specs.WellFormed.{is_well_formed};
-ghost use Rattle.sim_script_model.specs.Needs.{last_variable, most_frames};
+ghost use Rattle.sim_script_model.specs.Needs.{last_variable, most_frames, most_open_scopes};
 ghost use Rattle.sim_scenario.specs.Parts.{of_parts};
 
 use crate::needs::{Needs, most_params, needs_of};
@@ -25,6 +25,8 @@ pub struct Scenario {
     last_variable: usize,
     /// The frames of a script where most of its blocks are open.
     most_frames: usize,
+    /// The scopes of a script where most of them are open.
+    most_open_scopes: usize,
 }
 
 impl Model for Scenario {
@@ -37,7 +39,7 @@ impl Model for Scenario {
 
     ghost invariant = { λ a.
         let parts = of_parts a.setup a.seed a.port_names a.kinds a.code a.journal a.posters in
-        IsRead parts × HasNeeds parts a.last_variable a.most_frames };
+        IsRead parts × HasNeeds parts a.last_variable a.most_frames a.most_open_scopes };
 }
 
 impl Scenario {
@@ -56,7 +58,11 @@ impl Scenario {
             reads is_built _text.now ≡ Ok parts }
         ensures { result ≡ of_parts setup seed port_names kinds code journal posters }
     {
-        let Needs { variable, frames } = needs_of(code.as_slice());
+        let Needs {
+            variable,
+            frames,
+            scopes,
+        } = needs_of(code.as_slice());
         let last_variable = most_params(kinds.as_slice()).max(variable).min(63);
         Scenario {
             setup,
@@ -68,6 +74,7 @@ impl Scenario {
             posters,
             last_variable,
             most_frames: frames,
+            most_open_scopes: scopes,
         }
     }
 
@@ -122,5 +129,12 @@ impl Scenario {
         ensures { result ≡ most_frames self.now.code }
     {
         self.most_frames
+    }
+
+    /// The scopes of a script where most of them are open.
+    pub fn most_open_scopes(&self) -> usize
+        ensures { result ≡ most_open_scopes self.now.code }
+    {
+        self.most_open_scopes
     }
 }
