@@ -18,8 +18,9 @@ impl LawfulBody for Script {
 }
 
 impl Body for Script {
+    ghost use Rattle.sim_script_model.specs.Needs.{most_open_scopes};
     ghost use Rattle.sim_script_law.specs.ScriptMembers.{script_holds, script_is_for, script_told_place};
-    ghost use Rattle.sim_script_law.proofs.ScriptLaw.{script_has_places, script_has_few_places};
+    ghost use Rattle.sim_script_law.proofs.ScriptLaw.{script_enters_within, script_has_places, script_has_few_places};
     ghost use Rattle.sim_script_law.proofs.GivenPlaces.{script_gives_within, script_holds_as_many, script_keeps_others};
 
     ghost events_held = { script_holds };
@@ -38,6 +39,17 @@ impl Body for Script {
     } };
 
     ghost is_for = { script_is_for };
+
+    ghost most_open = { λ x. most_open_scopes x.code };
+
+    ghost enters_within = { λ x. record {
+      fewer = λ b time told res priority preempts d can turned.
+          script_enters_within x b time told res priority preempts d can.sound can.told turned;
+    } };
+
+    fn scopes_needed(code: &Scenario) -> usize {
+        code.most_open_scopes()
+    }
 
     fn blank(alloc: Global, code: &Scenario) -> Result<Script, AllocError> {
         Script::new(alloc, code)
