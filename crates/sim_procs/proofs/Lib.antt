@@ -1,3 +1,4 @@
+pub mod LawfulScopes
 pub mod Places
 pub mod Records
 pub mod Scopes
