@@ -67,6 +67,10 @@ impl Body for Script {
         self.turn(code.code(), now, signal)
     }
 
+    fn poll_quietly(&mut self, code: &Scenario, now: i64, signal: Signal) -> bool {
+        self.turn_quietly(code.code(), now, signal)
+    }
+
     fn place(&self, at: u8) -> EventId {
         self.held(at)
     }

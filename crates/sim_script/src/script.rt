@@ -263,6 +263,22 @@ impl Script {
         op
     }
 
+    /// The same, where it is told nothing or a value and the statement at its place asks for nothing. Whether it was so:
+    /// else nothing changes.
+    pub(crate) fn turn_quietly(&mut self, code: &[Stmt], time: i64, signal: Signal) -> bool
+        requires take { IsTrue (can_take code.now signal self.old) }
+        requires ask { IsTrue (can_ask code.now (take_in code.now signal self.old)) }
+        ensures done { IsTrue result
+            → (op.Nop, self.new) ≡ script_turn code.now self.old time signal }
+        ensures kept { IsFalse result → self.new ≡ self.old }
+    {
+        let done = self.take_in_and_go_quietly(code, time, signal);
+        if done {
+            self.asked = Some(Memo::of(&Op::Nop));
+        }
+        done
+    }
+
     // Takes in what it is told.
     fn take_in(&mut self, code: &[Stmt], signal: Signal)
         requires { IsTrue (can_take code.now signal self.old) }
@@ -318,6 +334,29 @@ impl Script {
             self.place = place;
         }
         done
+    }
+
+    // The same after it took in what it is told, where that is nothing or a value. `val` has its old value again where
+    // nothing was done.
+    fn take_in_and_go_quietly(&mut self, code: &[Stmt], time: i64, signal: Signal) -> bool
+        requires { IsTrue (can_ask code.now (take_in code.now signal self.old)) }
+        ensures done { IsTrue result
+            → (op.Nop, self.new) ≡ ask_in_mode code.now time (take_in code.now signal self.old) }
+        ensures kept { IsFalse result → self.new ≡ self.old }
+    {
+        match signal {
+            Signal::Begin | Signal::Done => self.go_quietly(code, time),
+            Signal::Value(value) => {
+                let before = self.variable(0);
+                self.set_variable(0, value);
+                let done = self.go_quietly(code, time);
+                if !done {
+                    self.set_variable(0, before);
+                }
+                done
+            }
+            Signal::Thrown(_) | Signal::Raised(_) | Signal::Number(_) | Signal::Made(_) => false,
+        }
     }
 
     // Does the statement at its place, or leaves a block.
