@@ -12,7 +12,7 @@ use std::alloc::{AllocError, Global};
 use std::thread::Threads;
 
 /// Room for each answer.
-const ROOM: u64 = 65_536;
+const ROOM: u64 = 33_554_432;
 
 /// What the top call answers to the row's words and text.
 pub fn answer_to_row<R: Threads + Sync>(

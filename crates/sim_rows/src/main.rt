@@ -53,6 +53,6 @@ fn print_difference<R: Print>(rt: &R, row: &Row, answer: &Answer) -> io::Result<
     println!(rt; "== {}\nwanted {:?}", row.name.as_str(), row.status)?;
     io::writer(rt).write_all(row.answer.as_slice())?;
     println!(rt; "got {}", answer.status.code())?;
-    io::writer(rt).write_all(answer.bytes.as_slice())?;
+    io::writer(rt).write_all(row.told_part(answer.bytes.as_slice()))?;
     Ok(())
 }

@@ -1,7 +1,8 @@
 //! A file of rows. A row is a line `== NAME`, remarks, a line `-- WORDS`, the text, a line `-- STATUS` and the answer, in
-//! which empty lines do not count. Lines between `\repeat COUNT` and `\end` stand so many times.
+//! which empty lines do not count. Below a line `-- STATUS at the end` stand the last lines of an answer alone. Lines between
+//! `\repeat COUNT` and `\end` stand so many times.
 use crate::line::append_line;
-use crate::row::Row;
+use crate::row::{Row, Tells};
 use std::alloc::{AllocError, Global};
 use std::mem;
 
@@ -31,6 +32,7 @@ struct Page {
     words: String,
     text: Vec<u8>,
     status: Option<u8>,
+    tells: Tells,
     /// What the lines of the part say.
     said: Vec<u8>,
     block: Option<Block>,
@@ -55,6 +57,7 @@ impl Page {
             words: String::new(alloc),
             text: Vec::new(alloc),
             status: None,
+            tells: Tells::Whole,
             said: Vec::new(alloc),
             block: None,
         }
@@ -76,7 +79,7 @@ impl Page {
             }
             (Part::Text, Some(status)) => {
                 self.text = mem::replace(&mut self.said, Vec::new(alloc));
-                self.status = status.trim().parse().ok();
+                self.read_status(status);
                 self.part = Part::Answer;
                 Ok(())
             }
@@ -84,6 +87,16 @@ impl Page {
             (Part::Text | Part::Answer, _) => self.say(alloc, line),
             _ => Ok(()),
         }
+    }
+
+    /// Takes the status, and how much of the answer is told.
+    fn read_status(&mut self, said: &str) {
+        let (status, tells) = match said.strip_suffix(" at the end") {
+            Some(status) => (status, Tells::End),
+            None => (said, Tells::Whole),
+        };
+        self.status = status.trim().parse().ok();
+        self.tells = tells;
     }
 
     /// Takes a line of a text or an answer.
@@ -128,6 +141,7 @@ impl Page {
                 words: mem::replace(&mut self.words, String::new(alloc)),
                 text: mem::replace(&mut self.text, Vec::new(alloc)),
                 status: self.status.take(),
+                tells: self.tells,
                 answer: mem::replace(&mut self.said, Vec::new(alloc)),
             })?;
         }
