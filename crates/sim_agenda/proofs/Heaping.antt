@@ -1,9 +1,9 @@
 -- What stands where in a heap, and an entry that is written into one.
-use Rattle.std.proofs.Common.{◌≡◌, ℕ, zero, suc, ◌+◌, ◌<◌, ◌≤◌, List, [], ◌∷◌, ◌++◌, length, get_or, set, sym, ap, ◌∙◌, inl, inr, arith, All}
+use Rattle.std.proofs.Common.{◌≡◌, ◌≢◌, ℕ, zero, suc, ◌+◌, ◌<◌, ◌≤◌, List, [], ◌∷◌, ◌++◌, length, get_or, set, sym, ap, ◌∙◌, inl, inr, arith, All}
 use Rattle.std.specs.List.Sorted.{IsPermutation}
 use Rattle.std.proofs.lemmas.Bool.{cases_eq}
 use Rattle.std.proofs.lemmas.Grind.{get_or-set_at}
-use Rattle.std.proofs.lemmas.List.{length-set, length_push, get_or-set_other, get_or_append_left, get_or_push, get_or_default}
+use Rattle.std.proofs.lemmas.List.{length-set, length_push, get_or-set_other, get_or_append_left, get_or_default}
 use Rattle.std.proofs.lemmas.List.Edits.{swap_is}
 use Rattle.std.proofs.lemmas.List.Elements.{All-tail}
 use Rattle.std.proofs.lemmas.List.Sorted.{All-permutation, IsPermutation-swap}
@@ -11,11 +11,14 @@ use Rattle.sim_types.specs.Keys.{IsLess}
 use Rattle.sim_types.specs.declared.event.Entry.{Entry}
 use Rattle.sim_types.proofs.KeyLemmas.{IsLess-irrefl}
 use Rattle.sim_agenda.specs.Agendas.{TakesFirst}
-use Rattle.sim_agenda.specs.Heaps.{parent, IsHeap, IsHeapWithin, StandsAbove}
+use Rattle.sim_agenda.specs.Heaps.{parent, IsHeap, IsHeapBut, StandsAbove}
 use Rattle.sim_agenda.proofs.Keys.{not_before, same_not_before}
 
+pub heap_but : (xs : List Entry) (i : ℕ) → IsHeap xs → IsHeapBut xs i
+heap_but xs i heap = λ k d more inside off. heap k d more inside
+
 -- an entry is written that does not come before the one above it, and that none of those below it comes before
-pub heap_written : (xs : List Entry) (i : ℕ) (x : Entry) → IsHeap xs → i < length xs
+pub heap_written : (xs : List Entry) (i : ℕ) (x : Entry) → IsHeapBut xs i → i < length xs
     → ((d : Entry) → 0 < i → ¬ IsLess x.key (get_or xs (parent i) d).key) → StandsAbove x xs i → IsHeap (set xs i x)
 heap_written xs i x heap within above below = λ k d more inside.
     let long : length (set xs i x) ≡ length xs = length-set xs i x in
@@ -27,28 +30,27 @@ heap_written xs i x heap within above below = λ k d more inside.
         | inl under ↦ same_not_before _ _ _ _ (get_or-set_other xs i k x d off) (get_or-set_at xs i (parent k) x d under within)
             (below k d more (omega arith) under)
         | inr apart ↦ same_not_before _ _ _ _ (get_or-set_other xs i k x d off) (get_or-set_other xs i (parent k) x d apart)
-            (heap k d more (omega arith))
+            (heap k d more (omega arith) off)
       ]
     ]
 
--- an entry is put behind the last that does not come before the one above it
-pub heap_longer : (xs : List Entry) (x : Entry) → IsHeap xs
-    → ((d : Entry) → 0 < length xs → ¬ IsLess x.key (get_or xs (parent (length xs)) d).key) → IsHeap (xs ++ x ∷ [])
-heap_longer xs x heap above = λ k d more inside.
-    let long : length (xs ++ x ∷ []) ≡ length xs + 1 = length_push xs x in
-    elim (cases_eq k (length xs)) [
-      | inl at ↦ same_not_before _ _ _ _ (get_or_push xs x d k (sym at))
-          (get_or_append_left xs (x ∷ []) d (parent k) (omega arith) ∙ ap (λ m. get_or xs (parent m) d) at)
-          (above d (omega arith))
-      | inr off ↦ same_not_before _ _ _ _ (get_or_append_left xs (x ∷ []) d k (omega arith))
-          (get_or_append_left xs (x ∷ []) d (parent k) (omega arith)) (heap k d more (omega arith))
-    ]
-
--- the entries before the last
-pub heap_others : (xs others : List Entry) (last : Entry) (n : ℕ) → IsHeapWithin xs n → xs ≡ others ++ last ∷ [] → length others ≤ n → IsHeap others
-heap_others xs others last n heap is few = λ k d more inside.
+-- the entries before the last, and with one more behind them
+pub heap_others : (xs others : List Entry) (last : Entry) → IsHeap xs → xs ≡ others ++ last ∷ [] → IsHeap others
+heap_others xs others last heap is = λ k d more inside.
     let same : (m : ℕ) → m < length others → get_or others m d ≡ get_or xs m d = λ m below. sym (get_or_append_left others (last ∷ []) d m below) ∙ ap (λ us. get_or us m d) (sym is) in
-    same_not_before _ _ _ _ (same k inside) (same (parent k) (omega arith)) (heap k d more (omega arith))
+    same_not_before _ _ _ _ (same k inside) (same (parent k) (omega arith)) (heap k d more (omega (arith, ap length is, length_push others last)))
+
+below_last : (k n : ℕ) → k ≢ n → k < n + 1 → k < n
+below_last k n off few = elim (cases_eq k n) [
+  | inl at ↦ absurd (off at)
+  | inr apart ↦ omega arith
+]
+
+pub heap_longer : (xs ys : List Entry) (x : Entry) → IsHeap xs → ys ≡ xs ++ x ∷ [] → IsHeapBut ys (length xs)
+heap_longer xs ys x heap is = λ k d more inside off.
+    let few : k < length xs = below_last k (length xs) off (omega (arith, inside, ap length is, length_push xs x)) in
+    let same : (m : ℕ) → m < length xs → get_or ys m d ≡ get_or xs m d = λ m below. ap (λ us. get_or us m d) is ∙ get_or_append_left xs (x ∷ []) d m below in
+    same_not_before _ _ _ _ (same k few) (same (parent k) (omega arith)) (heap k d more few)
 
 itself : (xs : List Entry) (d : Entry) (k : ℕ) → k ≡ 0 → ¬ IsLess (get_or xs k d).key (get_or xs 0 d).key
 itself xs d k at = rw at (IsLess-irrefl (get_or xs 0 d).key)

@@ -3,7 +3,7 @@ ghost use Rattle.std.specs.List.Sorted.{IsPermutation};
 ghost use Rattle.sim_agenda.specs.Agendas.{PopsFirst};
 ghost use Rattle.sim_agenda.specs.Comparisons.{most_comparisons};
 
-use crate::heap::{put_first_last, put_last_in};
+use crate::heap::{exchange_first, put_from};
 use sim_types::{Count, Entry};
 use std::alloc::{AllocError, Global};
 use std::marker::Model;
@@ -58,8 +58,11 @@ impl Agenda {
         ensures rises { count.old ≤ count.new }
         ensures count { count.new ≤ count.old + most_comparisons (length self.old.entries) }
     {
-        self.entries.push_reserved(entry);
-        put_last_in(&mut self.entries, count);
+        let place = self.entries.len();
+        // what stands in the new slot meanwhile does not count
+        let any = entry;
+        self.entries.push_reserved(any);
+        put_from(&mut self.entries, place, entry, count);
     }
 
     /// How many entries there are.
@@ -91,10 +94,10 @@ impl Agenda {
         ensures rises { count.old ≤ count.new }
         ensures count { count.new ≤ count.old + most_comparisons (length self.old.entries) }
     {
+        let last = self.entries.pop()?;
         if self.entries.is_empty() {
-            return None;
+            return Some(last);
         }
-        put_first_last(&mut self.entries, count);
-        self.entries.pop()
+        Some(exchange_first(&mut self.entries, last, count))
     }
 }

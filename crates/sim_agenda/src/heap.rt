@@ -1,16 +1,13 @@
 //! Entries as a binary heap: the first is due, and below the one at `i` stand those at `2 i + 1` and `2 i + 2`, neither
-//! of which comes before it. Where an entry belongs is found first, and only then do others move, by one level each.
-//! Meanwhile it is held in the slot behind the others, from which it is exchanged for each that moves: so all are moved
-//! whole, from slot to slot, and no value is needed to stand in a slot that is left.
-ghost use Rattle.std.specs.Prelude.{◌≡◌, ◌+◌, ◌-◌, ◌*◌, ◌<◌, ◌≤◌, ◌^◌, [], ◌∷◌, ◌++◌, length, slice_index_or};
+//! of which comes before it. Where an entry is put in, others are copied by one level each into a place whose entry is
+//! no longer wanted, and the new one is written once, where it belongs.
+ghost use Rattle.std.specs.Prelude.{◌≡◌, ◌+◌, ◌-◌, ◌*◌, ◌<◌, ◌≤◌, ◌^◌, ◌∷◌, length, set, slice_index_or};
 ghost use Rattle.std.specs.List.Sorted.{IsPermutation};
 ghost use Rattle.sim_agenda.specs.Comparisons.{most_comparisons, ComparesAtLevels};
 ghost use Rattle.sim_agenda.specs.Heaps as heaps;
-ghost use Rattle.sim_agenda.specs.Heaps.{IsHeap, IsHeapWithin, IsFirstLast};
-ghost use Rattle.sim_agenda.specs.Heaps.{IsReached, IsFirstBelow, IsPlaceFrom, IsLevelFor};
+ghost use Rattle.sim_agenda.specs.Heaps.{IsHeap, IsHeapBut, IsFirstBelow, IsMovedUp};
 
 use sim_types::{Count, Entry};
-use std::mem;
 
 // The place above a place.
 fn parent(place: usize) -> usize
@@ -40,148 +37,65 @@ fn first_below(entries: &[Entry], place: usize, count: &mut Count) -> usize
     left + entries[right].key.less(&entries[left].key, count) as usize
 }
 
-// The place at the bottom that is reached from the top over the entries that are due first.
-fn bottom(entries: &[Entry], count: &mut Count) -> usize
-    requires some { 0 < length entries.now }
-    requires count { count.old + length entries.now < 2 ^ 64 }
-    ensures within { result < length entries.now }
-    ensures bottom { length entries.now ≤ 2 * result + 1 }
-    ensures reached { IsReached entries.now result }
+// From the top to the bottom, copies to each place the entry below it that is due first. The first is gone then, and the
+// entry at the place that is told stands above it too.
+fn move_up(entries: &mut [Entry], count: &mut Count) -> usize
+    requires some { 0 < length entries.old }
+    requires heap { IsHeap entries.old }
+    requires count { count.old + length entries.old < 2 ^ 64 }
+    ensures within { result < length entries.new }
+    ensures bottom { length entries.new ≤ 2 * result + 1 }
+    ensures heap { IsHeap entries.new }
+    ensures len { length entries.new ≡ length entries.old }
+    ensures moved { IsMovedUp entries.old entries.new result }
     ensures count { ComparesAtLevels result count.old count.new }
 {
     let mut place = 0;
     while 2 * place + 1 < entries.len() {
-        place = first_below(entries, place, count);
+        let child = first_below(entries, place, count);
+        entries[place] = entries[child];
+        place = child;
     }
     place
 }
 
-// Where an entry belongs on the way from the top to this place at the bottom. It is mostly near the bottom.
-fn place_from(entries: &[Entry], bottom: usize, entry: &Entry, count: &mut Count) -> usize
-    requires within { bottom < length entries.now }
-    requires bottom { length entries.now ≤ 2 * bottom + 1 }
-    requires reached { IsReached entries.now bottom }
-    requires count { count.old + length entries.now < 2 ^ 64 }
-    ensures place { IsPlaceFrom entries.now entry.now result }
+/// Puts an entry in for the one at a place at the bottom. Those above that place move down where it comes before them.
+pub(crate) fn put_from(entries: &mut [Entry], bottom: usize, entry: Entry, count: &mut Count)
+    requires within { bottom < length entries.old }
+    requires bottom { length entries.old ≤ 2 * bottom + 1 }
+    requires heap { IsHeapBut entries.old bottom }
+    requires count { count.old + length entries.old < 2 ^ 64 }
+    ensures heap { IsHeap entries.new }
+    ensures len { length entries.new ≡ length entries.old }
+    ensures moved { IsPermutation (set entries.old bottom entry) entries.new }
     ensures count { ComparesAtLevels bottom count.old count.new }
 {
     let mut place = bottom;
-    while 0 < place && entry.key.less(&entries[place].key, count) {
-        place = parent(place);
+    while 0 < place {
+        let above = parent(place);
+        if !entry.key.less(&entries[above].key, count) {
+            break;
+        }
+        entries[place] = entries[above];
+        place = above;
     }
-    place
+    entries[place] = entry;
 }
 
-// Puts the entry that is held where it belongs. Those on the way from the top move one level up, and the first is held.
-fn raise(entries: &mut [Entry], place: usize, held: &mut Entry)
-    requires heap { IsHeap entries.old }
-    requires place { IsPlaceFrom entries.old held.old place }
-    ensures heap { IsHeap entries.new }
-    ensures len { length entries.new ≡ length entries.old }
-    ensures moved { IsPermutation (held.old ∷ entries.old) (held.new ∷ entries.new) }
-    ensures first { held.new ≡ slice_index_or entries.old 0 held.new }
-{
-    let mut hole = place;
-    while 0 < hole {
-        mem::swap(&mut entries[hole], held);
-        hole = parent(hole);
-    }
-    mem::swap(&mut entries[0], held);
-}
-
-// Puts the entry that is held in, and takes the first out, which is held then.
-fn exchange_first(entries: &mut [Entry], held: &mut Entry, count: &mut Count)
+/// Puts an entry in, and takes the first out.
+pub(crate) fn exchange_first(entries: &mut [Entry], entry: Entry, count: &mut Count) -> Entry
     requires heap { IsHeap entries.old }
     requires some { 0 < length entries.old }
     requires count { count.old ≤ 2 ^ 63 }
     ensures heap { IsHeap entries.new }
     ensures len { length entries.new ≡ length entries.old }
-    ensures moved { IsPermutation (held.old ∷ entries.old) (held.new ∷ entries.new) }
-    ensures first { held.new ≡ slice_index_or entries.old 0 held.new }
+    ensures moved { IsPermutation (entry ∷ entries.old) (result ∷ entries.new) }
+    ensures first { result ≡ slice_index_or entries.old 0 result }
     ensures rises { count.old ≤ count.new }
     ensures count { count.new ≤ count.old + most_comparisons (length entries.old + 1) }
 {
-    let bottom = bottom(entries, count);
-    let place = place_from(entries, bottom, held, count);
-    raise(entries, place, held);
-}
-
-/// Takes the first entry out, and puts it behind the others.
-pub(crate) fn put_first_last(entries: &mut [Entry], count: &mut Count)
-    requires heap { IsHeap entries.old }
-    requires some { 0 < length entries.old }
-    requires count { count.old ≤ 2 ^ 63 }
-    ensures heap { IsHeapWithin entries.new (length entries.old - 1) }
-    ensures len { length entries.new ≡ length entries.old }
-    ensures moved { IsPermutation entries.old entries.new }
-    ensures last { IsFirstLast entries.old entries.new }
-    ensures rises { count.old ≤ count.new }
-    ensures count { count.new ≤ count.old + most_comparisons (length entries.old) }
-{
-    if let Some((last, others)) = entries.split_last_mut() {
-        if !others.is_empty() {
-            exchange_first(others, last, count);
-        }
-    }
-}
-
-// How many levels an entry belongs above the place behind the last.
-fn level_for(entries: &[Entry], entry: &Entry, count: &mut Count) -> u32
-    requires count { count.old ≤ 2 ^ 63 }
-    ensures level { IsLevelFor entries.now entry.now result }
-    ensures count { ComparesAtLevels (length entries.now) count.old count.new }
-{
-    let mut place = entries.len();
-    let mut level = 0;
-    while 0 < place && entry.key.less(&entries[parent(place)].key, count) {
-        place = parent(place);
-        level += 1;
-    }
-    level
-}
-
-// Puts the entry that is held where it belongs. Those that it comes before move one level down, and what belongs behind
-// the last is held.
-fn lower(entries: &mut [Entry], level: u32, held: &mut Entry)
-    requires heap { IsHeap entries.old }
-    requires level { IsLevelFor entries.old held.old level }
-    ensures heap { IsHeap (entries.new ++ held.new ∷ []) }
-    ensures len { length entries.new ≡ length entries.old }
-    ensures moved { IsPermutation (held.old ∷ entries.old) (held.new ∷ entries.new) }
-{
-    let places = entries.len() + 1;
-    let mut left = level;
-    while 0 < left {
-        mem::swap(&mut entries[(places >> left) - 1], held);
-        left -= 1;
-    }
-}
-
-// Puts the entry that is held in. What belongs behind the last is held then.
-fn put_in(entries: &mut [Entry], held: &mut Entry, count: &mut Count)
-    requires heap { IsHeap entries.old }
-    requires count { count.old ≤ 2 ^ 63 }
-    ensures heap { IsHeap (entries.new ++ held.new ∷ []) }
-    ensures len { length entries.new ≡ length entries.old }
-    ensures moved { IsPermutation (held.old ∷ entries.old) (held.new ∷ entries.new) }
-    ensures rises { count.old ≤ count.new }
-    ensures count { count.new ≤ count.old + most_comparisons (length entries.old) }
-{
-    let level = level_for(entries, held, count);
-    lower(entries, level, held);
-}
-
-/// Puts the last entry in among the others.
-pub(crate) fn put_last_in(entries: &mut [Entry], count: &mut Count)
-    requires heap { IsHeapWithin entries.old (length entries.old - 1) }
-    requires count { count.old ≤ 2 ^ 63 }
-    ensures heap { IsHeap entries.new }
-    ensures len { length entries.new ≡ length entries.old }
-    ensures moved { IsPermutation entries.old entries.new }
-    ensures rises { count.old ≤ count.new }
-    ensures count { count.new ≤ count.old + most_comparisons (length entries.old - 1) }
-{
-    if let Some((last, others)) = entries.split_last_mut() {
-        put_in(others, last, count);
-    }
+    let first = entries[0];
+    let bottom = move_up(entries, count);
+    put_from(entries, bottom, entry, count);
+    first
 }
