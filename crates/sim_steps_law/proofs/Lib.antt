@@ -16,6 +16,7 @@ pub mod Calls
 pub mod CalledConditions
 -- operations
 pub mod Polls
+pub mod QuietPolls
 pub mod Signed
 pub mod Waiting
 pub mod AskedConditions

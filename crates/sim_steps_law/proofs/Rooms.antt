@@ -75,6 +75,10 @@ roomier_stands old new s k h =
       control = h.control;
     })
 
+-- where nothing changes at all
+pub as_roomy : {B Code : Type 0} (a : PartsOf B Code) → KeepsButRoom a a
+as_roomy a = record { shared = record { happen = refl; resources = refl; setup = refl }; others = refl }
+
 pub roomier_lawful : {B Code : Type 0} (body : BodyOf B Code) (old new : PartsOf B Code) (s : State B) → KeepsButRoom old new → LawfulOf body old s →
     LawfulOf body new s
 roomier_lawful body old new s k h = rw k.others h
