@@ -31,7 +31,8 @@ pub(crate) struct Guesses {
     /// How far the number of the last entry is ahead of its position. Where the last numbers had no gaps, theirs are as
     /// far ahead.
     pub(crate) ahead: u64,
-    /// The position of the number that was sought last.
+    /// The position of the number that was sought last. The next one is often that of the entry behind: processes that begin
+    /// together mostly go on in the order of their numbers.
     pub(crate) sought: usize,
 }
 
@@ -53,6 +54,10 @@ pub(crate) fn position(entries: &[Entry], guesses: Guesses, number: u64) -> Opti
     }
     if is_at(entries, number, guesses.sought) {
         return Some(guesses.sought);
+    }
+    let behind = guesses.sought.wrapping_add(1);
+    if is_at(entries, number, behind) {
+        return Some(behind);
     }
     search(entries, number).ok()
 }
