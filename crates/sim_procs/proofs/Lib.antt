@@ -1,4 +1,4 @@
 pub mod LawfulScopes
+pub mod OpenScopes
 pub mod Places
 pub mod Records
-pub mod Scopes

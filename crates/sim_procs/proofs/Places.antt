@@ -1,19 +1,21 @@
 -- Each number has the place where it stands: one more, one that is found, one that is taken out.
-use Rattle.std.proofs.Common.{◌≡◌, ◌≢◌, ℕ, zero, suc, ◌+◌, ◌-◌, ◌<◌, ◌≤◌, List, [], ◌∷◌, ◌++◌, length, take, replicate, refl, sym, ap, subst, ◌∙◌, arith, true, false, Option, Some, None, ◌⊎◌, inl, inr, slice_index_or, slice_set}
-use Rattle.std.specs.Prelude.{AllPairs, MatchOption, IsSome, nat_lt}
+use Rattle.std.proofs.Common.{◌≡◌, ◌≢◌, ℕ, zero, suc, ◌+◌, ◌-◌, ◌<◌, ◌≤◌, List, [], ◌∷◌, ◌++◌, length, take, replicate, refl, sym, ap, subst, ◌∙◌, arith, Bool, true, false, cond, Option, Some, None, ◌⊎◌, inl, inr, slice_index_or, slice_set}
+use Rattle.std.specs.Prelude.{All, AllPairs, IfSome, MatchOption, IsSome, nat_lt, ◌==◌}
 use Rattle.std.specs.List.{swap_remove}
 use Rattle.std.proofs.lemmas.Bool.{cases_eq, cases_lt}
 use Rattle.std.proofs.lemmas.Bool.Decides.{nat_tests}
 use Rattle.std.proofs.lemmas.Option.{none-some, same_Some, slice_get-get_or}
 use Rattle.std.proofs.Math.Seq.{get_or-append_seam}
 use Rattle.std.proofs.lemmas.List.{get_or-map, get_or-set_same, get_or-set_other, get_or-take, get_or_append_left, get_or-append_right, get_or-replicate, get_or_default, get_or_past, length-append, length-replicate, length-set, length-take-le, map-append, map-set, take-map, length-map}
+use Rattle.std.proofs.lemmas.List.Elements.{All-append, All-cons, All-head, All-nil, All-set, All-tail}
+use Rattle.std.proofs.lemmas.List.Sorted.{All-permutation}
 use Rattle.std.proofs.Math.Seq.{map-set_same}
 use Rattle.sim_types.specs.declared.event.ProcId.{ProcId}
 use Rattle.sim_types.proofs.Permutations.{AllPairs-tail}
 use Rattle.sim_index.specs.IndexOf.{place_of_number, with_number}
 use Rattle.sim_procs.specs.RecordOf.{RecordOf, HasOtherId, record_of, change_at, change_record, StandsAt}
-use Rattle.sim_procs.specs.Indexed.{AreIndexed, HavePlaces, IsFoundSomewhere, SetsPlace, found_there, numbers}
-use Rattle.sim_procs.proofs.Records.{first_stands, later_stands, none_found, found_number}
+use Rattle.sim_procs.specs.Indexed.{AreIndexed, AreStored, HavePlaces, IsFoundSomewhere, SetsPlace, found_there, numbers}
+use Rattle.sim_procs.proofs.Records.{first_stands, later_stands, none_found, found_number, taken}
 
 -- ---- the place of one number is set
 
@@ -245,8 +247,15 @@ module _ (n at : ℕ) (old gone new : List (Option ℕ)) (ns : List ℕ) (d : �
 -- ---- one that is changed
 
 module _ {B : Type 0} (live : List (RecordOf B)) (i : ℕ) (old new : RecordOf B) (is : old ≡ slice_index_or live i old) where
-  pub changed_indexed : (places : List (Option ℕ)) → AreIndexed places live → new.id.0 ≡ old.id.0 → AreIndexed places (slice_set live i new)
+  changed_indexed : (places : List (Option ℕ)) → AreIndexed places live → new.id.0 ≡ old.id.0 → AreIndexed places (slice_set live i new)
   changed_indexed places h same = subst (HavePlaces places) (sym (map-set_same (λ r. r.id.0) live i new old (same ∙ ap (λ (r : RecordOf B). r.id.0) is))) h
+
+  pub changed_stored : (places : List (Option ℕ)) (room : ℕ) → AreStored places room live → i < length live → new.id.0 ≡ old.id.0 → new.room ≡ old.room →
+      AreStored places room (slice_set live i new)
+  changed_stored places room h below same as_much = record {
+    indexed = changed_indexed places h.indexed same;
+    rooms = All-set (λ r. r.room ≡ room) live i new (as_much ∙ (ap (λ (r : RecordOf B). r.room) is ∙ h.rooms i old below)) h.rooms;
+  }
 
   pub changed_live : (p : ProcId) (change : RecordOf B → RecordOf B) → StandsAt p live i → new ≡ change old → slice_set live i new ≡ change_record p change live
   changed_live p change h new_is =
@@ -287,10 +296,29 @@ module _ {B : Type 0} (live : List (RecordOf B)) (r : RecordOf B) (old new : Lis
       by None e = e
       by (Some i) e = absurd (none-some (slice_index_or live i r) (sym none ∙ (stands_there r.id old live i h e).found r))
 
-  pub added_indexed : SetsPlace r.id.0 (Some (length live)) old new → AreIndexed new (live ++ r ∷ [])
+  added_indexed : SetsPlace r.id.0 (Some (length live)) old new → AreIndexed new (live ++ r ∷ [])
   added_indexed sets =
       let sets-so : SetsPlace r.id.0 (Some (length (numbers live))) old new = subst (λ n. SetsPlace r.id.0 (Some n) old new) (sym (few live)) sets in
       subst (HavePlaces new) (sym (numbers_added live r)) (one_more_placed r.id.0 old new (numbers live) h not_placed sets-so)
+
+  pub added_stored : (room : ℕ) → All (λ x. x.room ≡ room) live → r.room ≡ room → SetsPlace r.id.0 (Some (length live)) old new → AreStored new room (live ++ r ∷ [])
+  added_stored room rooms own sets = record {
+    indexed = added_indexed sets;
+    rooms = All-append (λ x. x.room ≡ room) live (r ∷ []) rooms (All-cons (λ x. x.room ≡ room) r [] own (All-nil (λ x. x.room ≡ room)));
+  }
+
+-- how many scopes find room in a record that is found
+room_found : {B : Type 0} (p : ProcId) (room : ℕ) (live : List (RecordOf B)) → All (λ r. r.room ≡ room) live → IfSome (record_of p live) (λ r. r.room ≡ room)
+room_found p room [] h = tt
+room_found p room (x ∷ xs) h = by (x.id.0 == p.0) (room_found p room xs (All-tail (λ r. r.room ≡ room) x xs h))
+  where
+    by : (here : Bool) → IfSome (record_of p xs) (λ r. r.room ≡ room) → IfSome (cond here (Some x) (record_of p xs)) (λ r. r.room ≡ room)
+    by true later = All-head (λ r. r.room ≡ room) x xs h
+    by false later = later
+
+pub room_stored : {B : Type 0} (p : ProcId) (places : List (Option ℕ)) (room : ℕ) (live : List (RecordOf B)) → AreStored places room live →
+    IfSome (record_of p live) (λ r. r.room ≡ room)
+room_stored p places room live h = room_found p room live h.rooms
 
 pub its_place : {B : Type 0} (p : ProcId) (live : List (RecordOf B)) (at : ℕ) (old : List (Option ℕ)) → AreIndexed old live → StandsAt p live at
     → place_of_number p.0 old ≡ Some at
@@ -346,7 +374,7 @@ module _ {B : Type 0} (p : ProcId) (live : List (RecordOf B)) (at : ℕ) (r : Re
   pub last_found : IsFoundSomewhere gone remaining at
   last_found d less = rw (number-is less d, last-place less) refl
 
-  pub taken_indexed : AreIndexed (found_there gone remaining at) (swap_remove live at r)
+  taken_indexed : AreIndexed (found_there gone remaining at) (swap_remove live at r)
   taken_indexed = by (cases_lt at (length remaining))
     where
       by : (at < length remaining) ⊎ (length remaining ≤ at) → AreIndexed (found_there gone remaining at) (swap_remove live at r)
@@ -359,3 +387,11 @@ module _ {B : Type 0} (p : ProcId) (live : List (RecordOf B)) (at : ℕ) (r : Re
           let within : at < length (numbers live) = omega (arith, stands.below, few live) in
           let is : nat_lt at (length remaining) ≡ false = grind (arith, nat_tests, past) in
           rw (is, remaining-is) (last_taken p.0 at old gone gone (numbers live) 0 h there goes (omega (arith, within, past, many-remain)))
+
+  pub taken_stored : (room : ℕ) → All (λ x. x.room ≡ room) live → r ≡ slice_index_or live at r → AreStored (found_there gone remaining at) room (swap_remove live at r)
+  taken_stored room rooms is = record {
+    indexed = taken_indexed;
+    rooms =
+        All-tail (λ x. x.room ≡ room) r (swap_remove live at r)
+        (All-permutation (λ x. x.room ≡ room) live (r ∷ swap_remove live at r) (taken live at r stands.below is) rooms);
+  }

@@ -1,5 +1,5 @@
 -- How the records of live processes are found by their numbers.
-use Rattle.std.specs.Prelude.{◌≡◌, ◌≢◌, ℕ, ◌<◌, List, length, map, slice_index_or, slice_set, nat_lt, if◌then◌else◌, Option, Some, IsSome}
+use Rattle.std.specs.Prelude.{◌≡◌, ◌≢◌, ℕ, ◌<◌, List, length, map, slice_index_or, slice_set, nat_lt, if◌then◌else◌, Option, Some, All, IsSome}
 use Rattle.sim_index.specs.IndexOf.{place_of_number}
 use Rattle.sim_procs.specs.RecordOf.{RecordOf}
 
@@ -16,6 +16,11 @@ pub record HavePlaces (places : List (Option ℕ)) (ns : List ℕ) : Type 0 wher
 -- each record is found by its number
 abbrev pub AreIndexed : {B : Type 0} → List (Option ℕ) → List (RecordOf B) → Type 0
 AreIndexed places live = HavePlaces places (numbers live)
+
+-- each record is found by its number, and so many scopes find room in it
+pub record AreStored {B : Type 0} (places : List (Option ℕ)) (room : ℕ) (live : List (RecordOf B)) : Type 0 where
+  pub indexed : AreIndexed places live
+  pub rooms : All (λ r. r.room ≡ room) live
 
 -- the place of one number is set, or it has none; the others are as before
 pub record SetsPlace (n : ℕ) (place : Option ℕ) (old new : List (Option ℕ)) : Type 0 where

@@ -4,21 +4,29 @@ use Rattle.sim_types.specs.declared.event.EventId.{EventId}
 use Rattle.sim_types.specs.declared.event.ProcId.{ProcId}
 use Rattle.sim_types.specs.declared.event.Scope.{Scope}
 
--- a live process: its number, the state of its body, the event that it waits for, and its open scopes, outermost first
+-- the open scopes of a process, outermost first, and how many find room
+pub record ScopesOf : Type 0 where
+  pub scopes : List Scope
+  pub room : ℕ
+
+-- a live process: its number, the state of its body, the event that it waits for, its open scopes, outermost first, and how
+-- many of them find room
 pub record RecordOf (B : Type 0) : Type 0 where
   pub id : ProcId
   pub body : B
   pub target : EventId
   pub scopes : List Scope
+  pub room : ℕ
 
 -- the record of a process that begins: no scope is open
-abbrev pub begun_record : {B : Type 0} → ProcId → B → EventId → RecordOf B
-begun_record id body target = record { id = id; body = body; target = target; scopes = [] }
+abbrev pub begun_record : {B : Type 0} → ProcId → B → EventId → ℕ → RecordOf B
+begun_record id body target room = record { id = id; body = body; target = target; scopes = []; room = room }
 
--- the live processes, in no order that counts, and for how many more there is room
+-- the live processes, in no order that counts, for how many more there is room, and how many scopes find room in each
 pub record ProcsOf (B : Type 0) : Type 0 where
   pub live : List (RecordOf B)
   pub spare : ℕ
+  pub room : ℕ
 
 -- whether two processes have different numbers
 abbrev pub HasOtherId : {B : Type 0} → RecordOf B → RecordOf B → Type 0

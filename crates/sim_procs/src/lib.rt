@@ -4,7 +4,9 @@
 mod body;
 mod procs;
 mod record;
+mod scopes;
 
 pub use body::Body;
 pub use procs::Procs;
 pub use record::ProcRecord;
+pub use scopes::Scopes;

@@ -1,14 +1,15 @@
 ghost use Rattle.std.specs.Prelude.{◌≡◌, ◌↔◌, ℕ, ◌+◌, ◌<◌, ◌≤◌, ◌==◌, List, [], ◌∷◌, ◌++◌, length, IfOk, OnOk, IsOk, IfSome, IsSome, IsNone, MatchOption, IsSomeAnd, IsTrue, Some, None, ◌-◌, ◌^◌, is_some, option_and_then, slice_index_or};
 ghost use Rattle.std.specs.Option.{option_map};
 ghost use Rattle.std.specs.List.Sorted.{IsPermutation};
-ghost use Rattle.sim_machine.specs.MayAsk.{most_scopes};
 ghost use Rattle.sim_machine.specs.NumberBounds.{most_events};
 ghost use Rattle.sim_procs.specs.RecordOf.{record_of, begun_record, with_record, scope_of, innermost, without_innermost, KeepsOthers, StandsAt};
 ghost use Rattle.sim_index.specs.IndexOf.{place_of_number};
 ghost use Rattle.sim_procs.specs.Indexed.{IsFoundSomewhere, SetsPlace, found_there, numbers};
 
 use crate::record::ProcRecord;
+use crate::scopes::Scopes;
 use sim_index::Index;
+use sim_memo::Memo;
 use sim_types::{EventId, ProcId, Scope};
 use std::alloc::{AllocError, Global};
 use std::marker::Model;
@@ -18,31 +19,36 @@ pub struct Procs<B> {
     records: Vec<ProcRecord<B>>,
     // Where the record of each process stands.
     index: Index,
+    // How many scopes find room in each record.
+    room: Memo<usize>,
 }
 
 impl<B> Model for Procs<B> {
     ghost use Rattle.std.specs.Prelude.{◌-◌, min, vec_len, vec_capacity};
     ghost use Rattle.sim_procs.specs.RecordOf.{ProcsOf};
-    ghost use Rattle.sim_procs.specs.Indexed.{AreIndexed};
+    ghost use Rattle.sim_procs.specs.Indexed.{AreStored};
 
     ghost Value = { ProcsOf B };
 
     ghost view = { λ a. record {
       live = a.records.items;
       spare = min (vec_capacity a.records - vec_len a.records) a.index.spare;
+      room = a.room.value;
     } };
 
-    ghost invariant = { λ a. AreIndexed a.index.places a.records.items };
+    ghost invariant = { λ a. AreStored a.index.places a.room.value a.records.items };
 }
 
 impl<B> Procs<B> {
-    /// No process is alive.
-    pub fn new(alloc: Global) -> Result<Procs<B>, AllocError>
-        ensures { IfOk result (λ p. p.live ≡ []) }
+    /// No process is alive. In the record of each so many scopes are to find room.
+    pub fn new(alloc: Global, room: usize) -> Result<Procs<B>, AllocError>
+        ensures live { IfOk result (λ p. p.live ≡ []) }
+        ensures room { IfOk result (λ p. p.room ≡ room) }
     {
         Ok(Procs {
             records: Vec::new(alloc),
             index: Index::new(alloc),
+            room: Memo::of(&room),
         })
     }
 
@@ -56,6 +62,7 @@ impl<B> Procs<B> {
     /// Makes room for one more.
     pub fn reserve(&mut self) -> Result<(), AllocError>
         ensures live { self.new.live ≡ self.old.live }
+        ensures scopes { self.new.room ≡ self.old.room }
         ensures room { OnOk result (1 ≤ self.new.spare) }
         ensures never_less { self.old.spare ≤ self.new.spare }
         ensures succeeds { 1 ≤ self.old.spare → IsOk result }
@@ -66,22 +73,26 @@ impl<B> Procs<B> {
 
     /// A process more is alive.
     #[tactic(auto, using(crate::proofs::Records::adding))]
-    pub fn add(&mut self, id: ProcId, body: B, target: EventId)
+    pub fn add(&mut self, id: ProcId, body: B, target: EventId, scopes: Scopes)
         requires room { 1 ≤ self.old.spare }
         requires new { record_of id self.old.live ≡ None }
         requires number { id.0 < most_events }
-        ensures live { IsPermutation (begun_record id body target ∷ self.old.live) self.new.live }
+        requires scopes { scopes ≡ record { scopes = []; room = self.old.room } }
+        ensures live { IsPermutation
+            (begun_record id body target self.old.room ∷ self.old.live) self.new.live }
 
         // By their numbers, this one is found, and the others are as before.
-        ensures found { record_of id self.new.live ≡ Some (begun_record id body target) }
+        ensures found { record_of id self.new.live
+            ≡ Some (begun_record id body target self.old.room) }
         ensures others { KeepsOthers id self.old.live self.new.live }
 
+        ensures scopes { self.new.room ≡ self.old.room }
         ensures spare { self.new.spare + 1 ≡ self.old.spare }
     {
         let place = self.records.as_slice().len();
         give_place(&mut self.index, id.0, place);
         self.records
-            .push_reserved(ProcRecord::new(id, body, target));
+            .push_reserved(ProcRecord::new(id, body, target, scopes));
     }
 
     // The place of a record, found by its number.
@@ -99,6 +110,7 @@ impl<B> Procs<B> {
     fn seek(&mut self, id: ProcId) -> Option<usize>
         ensures place { MatchOption result (record_of id self.old.live ≡ None)
             (λ i. StandsAt id self.old.live i) }
+        ensures room { IfSome (record_of id self.old.live) (λ r. r.room ≡ self.old.room) }
         ensures same { self.new ≡ self.old }
     {
         let _ = &self.records;
@@ -141,6 +153,7 @@ impl<B> Procs<B> {
         requires alive { IsSome (record_of id self.old.live) }
         ensures* lends { sem 𝓛 (LendsBodyOf B.row self.entry id result) }
         ensures value { option_map (λ r. r.body) (record_of id self.old.live) ≡ Some result.now }
+        ensures room { IfSome (record_of id self.old.live) (λ r. r.room ≡ self.old.room) }
     {
         match self.seek(id) {
             Some(at) => self.body_at(at),
@@ -180,7 +193,7 @@ impl<B> Procs<B> {
     /// A scope more is open, inside the others.
     pub fn push_scope(&mut self, id: ProcId, scope: Scope)
         requires alive { IsSomeAnd (record_of id self.old.live)
-            (λ r. length r.scopes < most_scopes) }
+            (λ r. length r.scopes < r.room) }
         ensures { self.new
             ≡ with_record id (λ r. record r { scopes = r.scopes ++ scope ∷ [] }) self.old }
     {
@@ -215,6 +228,7 @@ impl<B> Procs<B> {
         ensures gone { record_of id self.new.live ≡ None }
         ensures others { KeepsOthers id self.old.live self.new.live }
 
+        ensures scopes { self.new.room ≡ self.old.room }
         ensures spare { IfSome result (λ r. self.new.spare ≡ self.old.spare + 1) }
     {
         let at = self.place(id)?;
@@ -232,6 +246,7 @@ impl<B> Procs<B> {
         let Procs {
             mut records,
             index: _,
+            room: _,
         } = self;
         while let Some(record) = records.pop() {
             record.abandon();

@@ -1,7 +1,7 @@
-ghost use Rattle.std.specs.Prelude.{◌≡◌, ℕ, ◌+◌, ◌<◌, List, [], ◌∷◌, ◌++◌, length, MatchOption};
-ghost use Rattle.sim_machine.specs.MayAsk.{most_scopes};
+ghost use Rattle.std.specs.Prelude.{◌≡◌, ◌<◌, [], ◌∷◌, ◌++◌, length};
 ghost use Rattle.sim_procs.specs.RecordOf.{begun_record, innermost, scope_of, without_innermost};
 
+use crate::scopes::Scopes;
 use sim_types::{EventId, ProcId, Scope};
 use std::marker::Model;
 
@@ -11,13 +11,10 @@ pub struct ProcRecord<B> {
     id: ProcId,
     body: B,
     target: EventId,
-    scopes: [Scope; 32],
-    depth: usize,
+    scopes: Scopes,
 }
 
 impl<B> Model for ProcRecord<B> {
-    ghost use Rattle.std.specs.Prelude.{take, ◌≤◌};
-    ghost use Rattle.sim_machine.specs.MayAsk.{most_scopes};
     ghost use Rattle.sim_procs.specs.RecordOf.{RecordOf};
 
     ghost Value = { RecordOf B };
@@ -26,25 +23,21 @@ impl<B> Model for ProcRecord<B> {
       id = a.id;
       body = a.body;
       target = a.target;
-      scopes = take a.depth a.scopes;
+      scopes = a.scopes.scopes;
+      room = a.scopes.room;
     } };
-
-    ghost invariant = { λ a. a.depth ≤ most_scopes };
 }
 
 impl<B> ProcRecord<B> {
-    pub(crate) fn new(id: ProcId, body: B, target: EventId) -> ProcRecord<B>
-        ensures { result ≡ begun_record id body target }
+    pub(crate) fn new(id: ProcId, body: B, target: EventId, scopes: Scopes) -> ProcRecord<B>
+        requires { scopes.scopes ≡ [] }
+        ensures { result ≡ begun_record id body target scopes.room }
     {
         ProcRecord {
             id,
             body,
             target,
-            scopes: [Scope {
-                request: EventId(0),
-                res: 0,
-            }; 32],
-            depth: 0,
+            scopes,
         }
     }
 
@@ -88,38 +81,24 @@ impl<B> ProcRecord<B> {
     }
 
     pub(crate) fn push_scope(&mut self, scope: Scope)
-        requires { length self.old.scopes < most_scopes }
+        requires { length self.old.scopes < self.old.room }
         ensures { self.new ≡ record self.old { scopes = self.old.scopes ++ scope ∷ [] } }
     {
-        self.scopes[self.depth] = scope;
-        self.depth += 1;
+        self.scopes.push(scope);
     }
 
-    #[tactic(auto, using(crate::proofs::Scopes::finding))]
     pub(crate) fn scope(&self, request: EventId) -> Option<Scope>
         ensures { result ≡ scope_of request self.now.scopes }
     {
-        let depth = self.depth;
-        for scope in &self.scopes[..depth] {
-            if scope.request.0 == request.0 {
-                return Some(*scope);
-            }
-        }
-        None
+        self.scopes.of_request(request)
     }
 
     /// The innermost open scope, which is then closed.
-    #[tactic(auto, using(crate::proofs::Scopes::popping))]
     pub fn pop_scope(&mut self) -> Option<Scope>
         ensures result { result ≡ innermost self.old.scopes }
         ensures closed { self.new ≡ record self.old { scopes = without_innermost self.old.scopes } }
     {
-        if self.depth == 0 {
-            None
-        } else {
-            self.depth -= 1;
-            Some(self.scopes[self.depth])
-        }
+        self.scopes.pop()
     }
 
     /// Spends the record.
@@ -133,7 +112,6 @@ impl<B> ProcRecord<B> {
             body: _,
             target: _,
             scopes: _,
-            depth: _,
         } = self;
     }
 
@@ -147,7 +125,6 @@ impl<B> ProcRecord<B> {
             body: _,
             target: _,
             scopes: _,
-            depth: _,
         } = self;
     }
 }

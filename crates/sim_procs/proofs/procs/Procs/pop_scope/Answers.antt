@@ -1,10 +1,10 @@
 use Rattle.std.proofs.Common.{ap, refl}
 use Rattle.sim_procs.specs.RecordOf.{RecordOf, without_innermost}
-use Rattle.sim_procs.proofs.Places.{changed_indexed, changed_live}
+use Rattle.sim_procs.proofs.Places.{changed_stored, changed_live}
 use Rattle.sim_procs.proofs.procs.Procs.pop_scope.Goals as goal
 
 pub invariant_of-self : goal.invariant_of-self
-invariant_of-self g c = changed_indexed c.self.inside.records.items c.in-Some.at c.index_mut.result.now c.pop_scope.new.self c.index_mut.ensures.value c.self.inside.index.places c.self.invariant (ap (λ (r : RecordOf _). r.id.0) c.pop_scope.ensures.closed)
+invariant_of-self g c = changed_stored c.self.inside.records.items c.in-Some.at c.index_mut.result.now c.pop_scope.new.self c.index_mut.ensures.value c.self.inside.index.places c.self.inside.room.value c.self.invariant (rw (← c.self.view_is) at c.in-Some.ensures).below (ap (λ (r : RecordOf _). r.id.0) c.pop_scope.ensures.closed) (ap (λ (r : RecordOf _). r.room) c.pop_scope.ensures.closed)
 
 pub returns-in-Some-clause-closed : goal.returns-in-Some-clause-closed
 returns-in-Some-clause-closed g c = rw (← c.self.view_is) (rw (changed_live c.self.inside.records.items c.in-Some.at c.index_mut.result.now c.pop_scope.new.self c.index_mut.ensures.value c.args.id (λ r. record r { scopes = without_innermost r.scopes }) (rw (← c.self.view_is) at c.in-Some.ensures) c.pop_scope.ensures.closed) refl)

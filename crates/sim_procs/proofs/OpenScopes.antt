@@ -1,30 +1,34 @@
--- The open scopes as the first of a fixed number of places, and the one that is found among them.
-use Rattle.std.proofs.Common.{◌≡◌, ◌≢◌, ℕ, zero, suc, ◌+◌, ◌<◌, ◌≤◌, List, [], ◌∷◌, length, take, drop, refl, sym, ap, add-one, arith, Option, Some, None, cond, slice_index_or}
-use Rattle.std.specs.Prelude.{◌==◌}
+-- The innermost of the open scopes, and the one that is found among them.
+use Rattle.std.proofs.Common.{◌≡◌, ◌≢◌, ℕ, zero, suc, ◌+◌, ◌<◌, ◌≤◌, List, [], ◌∷◌, ◌++◌, ◌∙◌, length, drop, refl, sym, ap, add-one, arith, Option, Some, None, cond, slice_index_or}
+use Rattle.std.specs.Prelude.{◌==◌, ◌↔◌, IsSome, option_to_list}
+use Rattle.std.proofs.lemmas.Bool.{false≢true}
+use Rattle.std.proofs.lemmas.List.{append-nil}
 use Rattle.std.proofs.lemmas.Bool.Decides.{nat_tests}
 use Rattle.sim_types.specs.declared.event.EventId.{EventId}
 use Rattle.sim_types.specs.declared.event.Scope.{Scope}
 use Rattle.sim_procs.specs.RecordOf.{innermost, without_innermost, scope_of}
 
-innermost_at : (xs : List Scope) (n : ℕ) (d : Scope) → n < length xs → innermost (take (suc n) xs) ≡ Some (slice_index_or xs n d)
-innermost_at [] n d h = absurd (omega (arith, h))
-innermost_at (x ∷ xs) zero d h = refl
-innermost_at (x ∷ []) (suc n) d h = absurd (omega (arith, h))
-innermost_at (x ∷ y ∷ xs) (suc n) d h = innermost_at (y ∷ xs) n d (omega (arith, h))
+innermost_of : (ys : List Scope) (s : Scope) → innermost (ys ++ s ∷ []) ≡ Some s
+innermost_of [] s = refl
+innermost_of (y ∷ []) s = refl
+innermost_of (y ∷ z ∷ ys) s = innermost_of (z ∷ ys) s
 
--- the innermost of the first n + 1 stands at n
-pub innermost_taken : (xs : List Scope) (m n : ℕ) (d : Scope) → m ≡ n + 1 → n < length xs → Some (slice_index_or xs n d) ≡ innermost (take m xs)
-innermost_taken xs m n d h below = rw (h, add-one) (sym (innermost_at xs n d below))
+outer_of : (ys : List Scope) (s : Scope) → without_innermost (ys ++ s ∷ []) ≡ ys
+outer_of [] s = refl
+outer_of (y ∷ []) s = refl
+outer_of (y ∷ z ∷ ys) s = ap (λ zs. y ∷ zs) (outer_of (z ∷ ys) s)
 
-outer_at : (xs : List Scope) (n : ℕ) → n < length xs → without_innermost (take (suc n) xs) ≡ take n xs
-outer_at [] n h = absurd (omega (arith, h))
-outer_at (x ∷ xs) zero h = refl
-outer_at (x ∷ []) (suc n) h = absurd (omega (arith, h))
-outer_at (x ∷ y ∷ xs) (suc n) h = ap (λ zs. x ∷ zs) (outer_at (y ∷ xs) n (omega (arith, h)))
+-- where the last was taken out, it was the innermost
+pub innermost_taken : (xs ys : List Scope) (o : Option Scope) → xs ≡ ys ++ option_to_list o → IsSome o ↔ (0 < length xs) → o ≡ innermost xs
+innermost_taken [] ys None is some = refl
+innermost_taken (x ∷ xs) ys None is some = absurd (false≢true (some.1 (omega arith)))
+innermost_taken xs ys (Some s) is some = sym (ap innermost is ∙ innermost_of ys s)
 
--- the others are the first n
-pub outer_taken : (xs : List Scope) (m n : ℕ) → m ≡ n + 1 → n < length xs → take n xs ≡ without_innermost (take m xs)
-outer_taken xs m n h below = rw (h, add-one) (sym (outer_at xs n below))
+-- and the others are left
+pub outer_taken : (xs ys : List Scope) (o : Option Scope) → xs ≡ ys ++ option_to_list o → IsSome o ↔ (0 < length xs) → ys ≡ without_innermost xs
+outer_taken [] ys None is some = sym (is ∙ append-nil ys)
+outer_taken (x ∷ xs) ys None is some = absurd (false≢true (some.1 (omega arith)))
+outer_taken xs ys (Some s) is some = sym (ap without_innermost is ∙ outer_of ys s)
 
 here : (a b : ℕ) (s : Scope) (o : Option Scope) → a ≡ b → cond (a == b) (Some s) o ≡ Some s
 here a b s o h = grind (arith, nat_tests)

@@ -1,7 +1,7 @@
 use Rattle.std.proofs.Common.{◌≡◌, drop}
 use Rattle.sim_procs.specs.RecordOf.{scope_of}
-use Rattle.sim_procs.proofs.record.ProcRecord.scope.Given as goal
+use Rattle.sim_procs.proofs.scopes.Scopes.of_request.Given as goal
 
 -- the scope is not among those looked at
 abbrev pub invariant-loop-scope : goal.invariant-loop-scope
-invariant-loop-scope g l = scope_of l.request (drop l.scope-index l.scope-items) ≡ scope_of l.request l.scope-items
+invariant-loop-scope l = scope_of l.request (drop l.scope-index l.scope-items) ≡ scope_of l.request l.scope-items
