@@ -1,6 +1,6 @@
 -- A car keeps the law of bodies.
 use Rattle.std.specs.Prelude.{◌≡◌, ℕ, ℤ, pos, Bool, true, false, IsTrue, Option, Some, None, [], refl}
-use Rattle.std.proofs.Common.{sym, subst, arith}
+use Rattle.std.proofs.Common.{◌<◌, length, sym, subst, arith}
 use Rattle.sim_types.specs.declared.event.ProcId.{ProcId}
 use Rattle.sim_types.specs.declared.event.Signal.{Signal}
 use Rattle.sim_types.specs.declared.event.Signal.TheVariants as signal
@@ -10,6 +10,7 @@ use Rattle.sim_machine.specs.MayFollow.{may_be_told, is_enter}
 use Rattle.sim_machine.specs.MayAsk.{may_ask}
 use Rattle.sim_machine.specs.Bodies.{start_of}
 use Rattle.sim_machine.specs.BodyLaw.{scopes_told, scopes_asked, IsLawfulPoll, IsLawfulBody}
+use Rattle.sim_procs.specs.Premises.{EntersWithin}
 use Rattle.sim_bodies.specs.Cars.{CarOf, road_facts, car_tells, car_body, next_of, IsCarTurn}
 
 -- what a car asks for next, once it was told x, is in order
@@ -62,4 +63,17 @@ car_lawful code = record {
   begins = λ kind args id fits. tt;
   polls = λ b time x asked d sound told turned. car_poll b time x asked d told turned;
   keeps = λ b time x asked d sound told turned. tt;
+}
+
+-- who asks to enter the station asks for the first time, so it has no scope open
+enters_first : (res : ℕ) (priority : ℤ) (preempts charges : Bool) (last : Option Op) (x : Signal)
+    → op.Enter res priority preempts ≡ next_of last charges x → length (scopes_told [] last x) < 1
+enters_first res priority preempts true None x is = rw (no_scope None x refl) (omega arith)
+enters_first res priority preempts charges (Some (op.Enter at p q)) (signal.Raised n) is = absurd (cc)
+enters_first res priority preempts charges (Some (op.Enter at p q)) x is = absurd (cc)
+enters_first res priority preempts charges last x is = absurd (cc)
+
+pub car_enters_within : {Code : Type 0} (code : Code) → EntersWithin car_body code 1
+car_enters_within code = record {
+  fewer = λ b time x res priority preempts d can turned. enters_first res priority preempts b.charges b.last x turned.0;
 }

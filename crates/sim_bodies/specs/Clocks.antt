@@ -8,6 +8,8 @@ use Rattle.sim_machine.specs.Tellings.{CodeFacts, Telling}
 use Rattle.sim_machine.specs.Bodies.{BodyOf, start_of}
 use Rattle.sim_machine.specs.BodyLaw.{IsLawfulBody}
 use Rattle.sim_machine_law.proofs.PlainBodies.{plain_tells, is_plain, IsPlainBody, PollsPlain, plain_lawful}
+use Rattle.sim_procs.specs.Premises.{EntersWithin}
+use Rattle.sim_bodies.specs.PlainScopes.{plain_enters_within}
 
 -- its number, and what it asked for last
 pub record ClockOf : Type 0 where
@@ -65,3 +67,9 @@ pub clock_lawful : (pace : ℤ) →
 clock_lawful pace =
     plain_lawful clock_facts _ _ _ (IsClockTurn pace)
     (λ k args p. record { numbered = refl; unpolled = refl }) (turn_plain pace)
+
+-- it opens no scope
+pub clock_enters_within : (pace : ℤ) → EntersWithin clock_body pace 0
+clock_enters_within pace =
+    plain_enters_within clock_body pace
+    (λ b time x asked d turned. (turn_plain pace b time x asked d turned).plain)

@@ -1,3 +1,4 @@
+pub mod PlainScopes
 pub mod Travellers
 pub mod Clocks
 pub mod Cars

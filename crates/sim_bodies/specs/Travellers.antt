@@ -11,6 +11,8 @@ use Rattle.sim_machine.specs.Tellings.{CodeFacts, Telling}
 use Rattle.sim_machine.specs.Bodies.{BodyOf, start_of}
 use Rattle.sim_machine.specs.BodyLaw.{IsLawfulBody}
 use Rattle.sim_machine_law.proofs.PlainBodies.{plain_tells, is_plain, IsPlainBody, PollsPlain, plain_lawful}
+use Rattle.sim_procs.specs.Premises.{EntersWithin}
+use Rattle.sim_bodies.specs.PlainScopes.{plain_enters_within}
 
 -- its number, its kind, the two numbers that it was given, and what it asked for last
 pub record TravellerOf : Type 0 where
@@ -119,3 +121,9 @@ pub traveller_lawful : {Code : Type 0} (code : Code) →
 traveller_lawful code =
     plain_lawful traveller_facts _ _ _ IsTravellerTurn
     (λ k args p. record { numbered = refl; unpolled = refl }) turn_plain
+
+-- it opens no scope
+pub traveller_enters_within : {Code : Type 0} (code : Code) → EntersWithin traveller_body code 0
+traveller_enters_within code =
+    plain_enters_within traveller_body code
+    (λ b time x asked d turned. (turn_plain b time x asked d turned).plain)

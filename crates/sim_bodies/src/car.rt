@@ -40,6 +40,7 @@ impl Body for Car {
     ghost use Rattle.std.specs.Prelude.{None, [], refl};
     ghost use Rattle.std.proofs.Common.{lit≤};
     ghost use Rattle.std.proofs.lemmas.Option.{none-some};
+    ghost use Rattle.sim_bodies.specs.CarLaw.{car_enters_within};
 
     ghost events_held = { λ b. [] };
 
@@ -57,6 +58,14 @@ impl Body for Car {
     } };
 
     ghost is_for = { λ code b. Unit {0} };
+
+    ghost most_open = { λ code. 1 };
+
+    ghost enters_within = { car_enters_within };
+
+    fn scopes_needed(_code: &Road) -> usize {
+        1
+    }
 
     fn blank(_alloc: Global, _code: &Road) -> Result<Car, AllocError> {
         Ok(Car {
@@ -95,6 +104,10 @@ impl Body for Car {
         }
         self.last = Some(Op::Finish(0));
         Op::Finish(0)
+    }
+
+    fn poll_quietly(&mut self, _code: &Road, _now: i64, _signal: Signal) -> bool {
+        false
     }
 
     fn place(&self, _at: u8) -> EventId {

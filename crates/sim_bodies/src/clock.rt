@@ -51,6 +51,7 @@ impl Body for Clock {
     ghost use Rattle.std.specs.Prelude.{None, [], refl};
     ghost use Rattle.std.proofs.Common.{lit≤};
     ghost use Rattle.std.proofs.lemmas.Option.{none-some};
+    ghost use Rattle.sim_bodies.specs.Clocks.{clock_enters_within};
 
     ghost events_held = { λ b. [] };
 
@@ -68,6 +69,14 @@ impl Body for Clock {
     } };
 
     ghost is_for = { λ code b. Unit {0} };
+
+    ghost most_open = { λ code. 0 };
+
+    ghost enters_within = { clock_enters_within };
+
+    fn scopes_needed(_code: &Pace) -> usize {
+        0
+    }
 
     fn blank(_alloc: Global, _code: &Pace) -> Result<Clock, AllocError> {
         Ok(Clock {
@@ -92,6 +101,10 @@ impl Body for Clock {
         };
         self.last = Some(again(&asked));
         asked
+    }
+
+    fn poll_quietly(&mut self, _code: &Pace, _now: i64, _signal: Signal) -> bool {
+        false
     }
 
     fn place(&self, _at: u8) -> EventId {

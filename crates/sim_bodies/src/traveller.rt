@@ -54,6 +54,7 @@ impl Body for Traveller {
     ghost use Rattle.std.specs.Prelude.{None, [], refl};
     ghost use Rattle.std.proofs.Common.{lit≤};
     ghost use Rattle.std.proofs.lemmas.Option.{none-some};
+    ghost use Rattle.sim_bodies.specs.Travellers.{traveller_enters_within};
 
     ghost events_held = { λ b. [] };
 
@@ -71,6 +72,14 @@ impl Body for Traveller {
     } };
 
     ghost is_for = { λ code b. Unit {0} };
+
+    ghost most_open = { λ code. 0 };
+
+    ghost enters_within = { traveller_enters_within };
+
+    fn scopes_needed(_code: &Land) -> usize {
+        0
+    }
 
     fn blank(_alloc: Global, _code: &Land) -> Result<Traveller, AllocError> {
         Ok(Traveller {
@@ -99,6 +108,10 @@ impl Body for Traveller {
         let asked = self.next(signal);
         self.last = Some(again(&asked));
         asked
+    }
+
+    fn poll_quietly(&mut self, _code: &Land, _now: i64, _signal: Signal) -> bool {
+        false
     }
 
     fn place(&self, _at: u8) -> EventId {
