@@ -42,7 +42,7 @@ impl<B: Body> Parts<B> {
         make_named(shared.happen_mut(), setup.events)?;
         let generator = Pcg64::seed_from_u64(seed);
         let ports = Vec::from_slice(alloc, setup.ports.as_slice())?;
-        let processes = Procs::new(alloc)?;
+        let processes = Procs::new(alloc, B::scopes_needed(code))?;
         Ok(Parts {
             shared,
             processed: 0,

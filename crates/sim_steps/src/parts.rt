@@ -7,6 +7,7 @@ ghost use Rattle.sim_steps_model.specs.Resting.{CanStep, rest_in};
 ghost use Rattle.sim_steps_model.specs.PartsOf.{HasUnitRoom, IsRunningIn, IsRunningAt, KeepsButRoom};
 ghost use Rattle.sim_steps_model.specs.StandsFor.{StandsForSome};
 
+use crate::ready::Ready;
 use rand_pcg::Pcg64;
 use sim_memo::Memo;
 use sim_procs::{Body, Procs};
@@ -22,8 +23,8 @@ pub struct Parts<B: Body> {
     pub(crate) processed: u64,
     pub(crate) generator: Pcg64,
     pub(crate) processes: Procs<B>,
-    /// The body of the process that is made next, yet to be filled.
-    pub(crate) ready: Option<B>,
+    /// What the process that is made next has already.
+    pub(crate) ready: Option<Ready<B>>,
     pub(crate) mode: Mode,
     /// The process kind that each port starts.
     pub(crate) ports: Vec<u32>,
@@ -53,7 +54,7 @@ impl<B: Body> Model for Parts<B> {
     } };
 
     ghost invariant = { λ a. AreSoundParts a.mode a.shared a.ports.items a.setup.value
-        (B.is_for a.code.value) a.ready };
+        (B.is_for a.code.value) (B.most_open a.code.value) a.processes.room a.ready };
 }
 
 impl<B: Body> Parts<B> {

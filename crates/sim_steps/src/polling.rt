@@ -1,5 +1,5 @@
 //! A process is polled, and what it asks for is done.
-ghost use Rattle.std.specs.Prelude.{◌≡◌, ◌+◌, ◌<◌, ◌≤◌, ◌^◌, [], length, IsSome};
+ghost use Rattle.std.specs.Prelude.{◌≡◌, ◌+◌, ◌<◌, ◌≤◌, ◌^◌, [], length, IsSome, IsSomeAnd};
 ghost use Rattle.sim_machine.specs.Setups.{FitsCode};
 ghost use Rattle.sim_events.specs.TableOf.{AreNeeded};
 ghost use Rattle.sim_happen_model.specs.HappenOf.{AreHeldByFew, held};
@@ -26,6 +26,8 @@ impl<B: Body> Parts<B> {
         ensures asked { Asks B.body process told self.old result self.new }
         ensures happen { self.new.shared.happen ≡ self.old.shared.happen }
         ensures resources { self.new.shared.setup ≡ self.new.setup.resources }
+        ensures scopes { IsSomeAnd (record_of process self.new.live)
+            (λ r. r.room ≡ B.most_open code.now) }
     {
         let time = self.shared.happen().now();
         self.processes.body_mut(process).poll(code, time, told)
@@ -58,6 +60,8 @@ impl<B: Body> Parts<B> {
         ensures names { NamesKept (B.body.facts code.now) result self.new }
         ensures running { IsRunningIn event process self.new.control }
         ensures alive { IsSome (record_of process self.new.live) }
+        ensures scopes { IsSomeAnd (record_of process self.new.live)
+            (λ r. r.room ≡ B.most_open code.now) }
         ensures ready { AreResourcesReady self.new }
         ensures room { HasUnitRoom self.new }
         ensures number { length self.new.shared.happen.events + 40 ≤ 2 ^ 62 }

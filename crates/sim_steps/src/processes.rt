@@ -16,6 +16,7 @@ ghost use Rattle.sim_steps_model.specs.PartsOf.{HasUnitRoom, IsCalling, IsRunnin
 
 use crate::making::make_process;
 use crate::parts::Parts;
+use crate::ready::Ready;
 use sim_procs::Body;
 use sim_steps_model::Mode;
 use sim_types::{
@@ -25,7 +26,7 @@ use sim_types::{
 use std::alloc::AllocError;
 
 impl<B: Body> Parts<B> {
-    /// Makes room for one more process, whose body is there then, yet to be filled.
+    /// Makes room for one more process. Its body is there then, yet to be filled, and the memory for its scopes.
     pub(crate) fn reserve_process(&mut self, code: &B::Code) -> Result<(), AllocError>
         requires { code.now ≡ self.old.code }
         ensures rest { self.new
@@ -35,12 +36,12 @@ impl<B: Body> Parts<B> {
     {
         self.processes.reserve()?;
         if self.ready.is_none() {
-            self.ready = Some(B::blank(self.alloc, code)?);
+            self.ready = Some(Ready::new(self.alloc, code)?);
         }
         Ok(())
     }
 
-    /// Makes a process, with its event and its init event, of the body that is ready. It is told its number, which is that of
+    /// Makes a process, with its event and its init event, of what is ready for it. It is told its number, which is that of
     /// its event.
     pub(crate) fn begin(&mut self, code: &B::Code, kind: u32, args: Args) -> ProcId
         requires code { code.now ≡ self.old.code }
@@ -63,12 +64,12 @@ impl<B: Body> Parts<B> {
         let (process, init) = make_process(self.shared.happen_mut());
         self.hold(init);
         match self.ready.take() {
-            Some(blank) => {
-                let mut body = blank;
+            Some(ready) => {
+                let Ready { mut body, scopes } = ready;
                 body.fill(code, kind, args);
                 body.own(process);
                 self.hold_places(&body);
-                self.processes.add(process, body, init);
+                self.processes.add(process, body, init, scopes);
             }
             None => unreachable!(),
         }

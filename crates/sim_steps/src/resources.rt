@@ -3,7 +3,6 @@ ghost use Rattle.std.specs.Prelude.{◌≡◌, ◌<◌, ◌^◌, [], ◌∷◌, 
 ghost use Rattle.sim_types.specs.declared.event.Callback.TheVariants as callback;
 ghost use Rattle.sim_types.specs.declared.op.Op.TheVariants as op;
 ghost use Rattle.sim_machine.specs.Effect as effect;
-ghost use Rattle.sim_machine.specs.MayAsk.{most_scopes};
 ghost use Rattle.sim_machine.specs.Requests as requests;
 ghost use Rattle.sim_procs.specs.RecordOf.{record_of, scope_of};
 ghost use Rattle.sim_events.specs.TableOf.{IsKept, kept_at};
@@ -239,7 +238,7 @@ impl<B: Body> Parts<B> {
     )
         requires running { IsRunningIn event process self.old.control }
         requires scopes { IsSomeAnd (record_of process self.old.live)
-            (λ r. length r.scopes < most_scopes) }
+            (λ r. length r.scopes < r.room) }
         requires resource { TakesRequests res self.old }
         requires ready { AreResourcesReady self.old }
         requires few { AreFew (2 ^ 41) (held self.old.shared.happen) }

@@ -1,5 +1,5 @@
 -- What is known of the open scopes of the process that asked to enter one, to leave its innermost or to release a request.
-use Rattle.std.proofs.Common.{◌≡◌, ℕ, ◌<◌, ◌^◌, ℤ, Bool, true, false, ◌&&◌, ◌||◌, List, [], ◌∷◌, length, refl, sym, ap, subst, ◌∙◌, arith, map, filter, Some, cond}
+use Rattle.std.proofs.Common.{◌≡◌, ℕ, ◌<◌, ◌^◌, ℤ, Bool, true, false, ◌||◌, List, [], ◌∷◌, length, refl, sym, ap, subst, ◌∙◌, arith, map, filter, Some, cond}
 use Rattle.std.specs.Prelude.{All, ◌==◌, nat_lt, IsSome, IsSomeAnd}
 use Rattle.std.specs.Option.{option_map}
 use Rattle.std.specs.List.{list_any}
@@ -24,14 +24,13 @@ use Rattle.sim_machine.specs.LawfulWaiting.{requests_of}
 use Rattle.sim_machine_law.proofs.KeptProcessesParts.{is_process-self}
 use Rattle.sim_machine_law.proofs.KeptWaitingPolls.{own_scopes}
 use Rattle.sim_machine_law.proofs.LawfulBasis.{basis_of}
+use Rattle.sim_procs.specs.Premises.{EntersWithin}
 use Rattle.sim_procs.specs.RecordOf.{RecordOf, record_of, innermost, scope_of}
 use Rattle.sim_events.specs.TableOf.{AreNeeded, IsKept}
-use Rattle.sim_happen_model.specs.HappenOf.{held}
 use Rattle.sim_steps_model.specs.PartsOf.{PartsOf, IsRunning, plan_of}
 use Rattle.sim_steps_model.specs.StandsFor.{StandsForSome, process_of, scopes_of}
-use Rattle.sim_steps_model.specs.Becoming.{AreFew}
 use Rattle.sim_steps_model.specs.Polling.{Asks}
-use Rattle.sim_steps_law.proofs.Running.{KeepsLaw, process_found, running_is}
+use Rattle.sim_steps_law.proofs.Running.{KeepsLaw, process_found, running_can_be_told, running_is}
 use Rattle.sim_steps_law.proofs.KeptNames.{own_scopes_kept}
 use Rattle.sim_steps_law.proofs.Ending.{record_polled, scopes_found}
 use Rattle.sim_steps_law.proofs.AskedResources.{AsksAt}
@@ -102,11 +101,15 @@ module _ {B Code : Type 0} (body : BodyOf B Code) (old mid : PartsOf B Code) (p 
       sym (ap (λ (xs : List Scope). length xs) told_scopes)
       ∙ (length-map ys scope_in ∙ (sym (length-map ys (λ (y : OpenScope). y.request)) ∙ ap (λ (xs : List EventId). length xs) own))
 
-  -- who asks to enter has room for one scope more
-  pub polled_scopes : (res : ℕ) → (nat_lt (length entered) most_scopes && has_resource (body.facts old.code).resources takes_requests res) ≡ true →
-      IsSomeAnd (record_of p mid.live) (λ q. length q.scopes < most_scopes)
-  polled_scopes res may =
-      rw found_now (omega (arith, count, ltb-true (length entered) most_scopes (and_parts (nat_lt (length entered) most_scopes) (has_resource (body.facts old.code).resources takes_requests res) may).0))
+  -- who asks to enter has room for one scope more, where as many find room as its body opens
+  pub polled_scopes : (most res : ℕ) (priority : ℤ) (preempts : Bool) → EntersWithin body old.code most → asked ≡ op.Enter res priority preempts →
+      IsSomeAnd (record_of p mid.live) (λ q. q.room ≡ most) → IsSomeAnd (record_of p mid.live) (λ q. length q.scopes < q.room)
+  polled_scopes most res priority preempts within is room =
+      let can = running_can_be_told body old event p told a.before h running a.found few in
+      let turned = subst (λ (o : Op). body.turn old.code a.before old.shared.happen.time told o a.later) is a.turned in
+      let fewer : length entered < most = within.fewer a.before old.shared.happen.time told res priority preempts a.later can turned in
+      let has : r.room ≡ most = rw found_now at room in
+      rw found_now (omega (arith, count, fewer, has))
 
   -- who asks to leave has one
   pub has_innermost : nat_lt 0 (length entered) ≡ true → IsSome (innermost r.scopes)

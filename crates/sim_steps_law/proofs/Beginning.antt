@@ -1,5 +1,5 @@
 -- A process that the code makes is the one that the machine makes.
-use Rattle.std.proofs.Common.{◌≡◌, ◌≢◌, ℕ, ℤ, zero, suc, ◌+◌, ◌<◌, ◌≤◌, Bool, true, false, List, [], ◌∷◌, ◌++◌, length, length-append, refl, sym, ap, subst, ◌∙◌, map, Option, Some, None, ◌⊎◌, inl, inr, arith}
+use Rattle.std.proofs.Common.{◌≡◌, ◌≢◌, ℕ, ℤ, zero, suc, ◌+◌, ◌<◌, Bool, true, false, List, [], ◌∷◌, ◌++◌, length, length-append, refl, sym, ap, subst, ◌∙◌, map, Option, Some, None, ◌⊎◌, inl, inr, arith}
 use Rattle.std.specs.Prelude.{All, AllPairs, IsSome, is_some, slice_index_or}
 use Rattle.std.specs.List.{list_any}
 use Rattle.std.specs.List.Sorted.{IsPermutation}
@@ -29,7 +29,7 @@ use Rattle.sim_machine_law.proofs.ClosedScopes.{all_fail}
 use Rattle.sim_machine_law.proofs.EventLaws.{same_event, make-length}
 use Rattle.sim_machine_law.proofs.KeptWaitingUnits.{none_found}
 use Rattle.sim_machine_law.proofs.KeptProcessesParts.{is_process-self, is_process-yes}
-use Rattle.sim_procs.specs.Premises.{CanBegin, events_in_places}
+use Rattle.sim_procs.specs.Premises.{CanBegin}
 use Rattle.sim_procs.specs.RecordOf.{RecordOf, begun_record, record_of}
 use Rattle.sim_events.specs.TableOf.{Kept, IsKept}
 use Rattle.sim_happen_model.specs.HappenOf.{HappenOf, held, unheld_event}
@@ -40,16 +40,15 @@ use Rattle.sim_accounts.specs.Naming.{but_zero, named_by_process, named_in_place
 use Rattle.sim_accounts.proofs.CalendarChanges.{plainly_process}
 use Rattle.sim_accounts.proofs.ChangedPlaces.{but_zero-append, in_place}
 use Rattle.sim_accounts.proofs.StateChanges.{joined_trade}
-use Rattle.sim_shared_model.specs.SharedOf.{SharedOf}
 use Rattle.sim_steps_model.specs.PartsOf.{PartsOf, KeepsButHappen, KeepsButRoom, plan_of, with_happen}
-use Rattle.sim_steps_model.specs.StandsFor.{Balances, process_of, scopes_of}
-use Rattle.sim_steps_model.specs.Becoming.{AreFew, Stands, Becomes, BecomesOwing, BecomesWith, IsOwing}
+use Rattle.sim_steps_model.specs.StandsFor.{process_of, scopes_of}
+use Rattle.sim_steps_model.specs.Becoming.{AreFew, Stands, Becomes, BecomesOwing, BecomesWith}
 use Rattle.sim_steps_model.specs.Holding.{StandInPlaces}
 use Rattle.sim_steps_model.specs.Opening.{next_process, next_init, two_unheld, most_begun, AreArgumentsKept, IsOpening, MakesProcess}
 use Rattle.sim_steps_law.proofs.Accounting.{keeps_unheld, owing_after, owing_besides, owing_by, stay_stated}
 use Rattle.sim_steps_law.proofs.Becoming.{becomes_as, becomes_then, becomes_turned}
 use Rattle.sim_steps_law.proofs.BodyPlaces.{begun_events, begun_numbers, stand_where}
-use Rattle.sim_steps_law.proofs.CountedHolders.{AreAlike, alike_itself, alike_same, alike_swapped, owing_alike}
+use Rattle.sim_steps_law.proofs.CountedHolders.{AreAlike, alike_itself, alike_swapped, owing_alike}
 use Rattle.sim_steps_law.proofs.HeldPlaces.{all_in_places}
 use Rattle.sim_steps_law.proofs.Interruptions.{alive_is}
 use Rattle.sim_steps_law.proofs.Keeping.{adds_unheld, few_made, few_same}
@@ -197,9 +196,9 @@ module _ {B Code : Type 0} (body : BodyOf B Code) where
   pub events_made : (a : PartsOf B Code) (x : HappenOf) → MakesProcess a.shared.happen x → Becomes body (on_events make_events_of_process) a (with_happen x a)
   events_made a x t = becomes_turned make_events_of_process two_unheld a x (adds_unheld 2) (keeps_unheld 2) plainly_process t
 
-  module _ (a : PartsOf B Code) (k : ℕ) (args : List ℤ) where
+  module _ (a : PartsOf B Code) (k : ℕ) (args : List ℤ) (room : ℕ) where
     abbrev pub begun_here : RecordOf B
-    begun_here = begun_record (next_process a.shared.happen) (start_of body a.code k args (next_process a.shared.happen)) (next_init a.shared.happen)
+    begun_here = begun_record (next_process a.shared.happen) (start_of body a.code k args (next_process a.shared.happen)) (next_init a.shared.happen) room
 
     same_made : (s : State B) → Stands a s → with_process (process_of begun_here) (on_events make_events_of_process s) ≡ make_process (plan_of body a) k args s
     same_made s h =

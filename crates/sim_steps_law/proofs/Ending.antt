@@ -1,6 +1,6 @@
 -- A process that ends is no longer alive, and its event has its outcome, as the machine has it.
 use Rattle.std.proofs.Common.{◌≡◌, ℕ, Bool, true, false, List, [], ◌∷◌, refl, sym, ap, ◌∙◌, cond, Option, Some, if◌then◌else◌}
-use Rattle.std.specs.Prelude.{All, ◌==◌, IsSome}
+use Rattle.std.specs.Prelude.{All, ◌==◌, ℕ, IfSome, IsSome, IsSomeAnd}
 use Rattle.std.specs.Option.{option_map}
 use Rattle.std.proofs.lemmas.Bool.{eqb-true}
 use Rattle.sim_types.specs.declared.event.ProcId.{ProcId}
@@ -42,6 +42,15 @@ pub record_changed : {B : Type 0} (p : ProcId) (change : RecordOf B → RecordOf
 record_changed p change ids [] = refl
 record_changed p change ids (r ∷ live) =
     record_at p change r (record_of p (change_record p change live)) (record_of p live) (r.id.0 == p.0) refl (ids r) (record_changed p change ids live)
+
+-- as many scopes find room in a record as before, once its body is another one
+pub room_stays : {B : Type 0} (p : ProcId) (most : ℕ) (b later : B) (live : List (RecordOf B)) → option_map (λ r. r.body) (record_of p live) ≡ Some b →
+    IfSome (record_of p live) (λ r. r.room ≡ most) → IsSomeAnd (record_of p (change_record p (λ r. record r { body = later }) live)) (λ r. r.room ≡ most)
+room_stays {B} p most b later live found room =
+    let change : RecordOf B → RecordOf B = λ x. record x { body = later } in
+    let r = found_record (record_of p live) b found in
+    let has : r.0.room ≡ most = rw r.1 at room in
+    rw (record_changed p change (λ x. refl) live, r.1) has
 
 module _ {B Code : Type 0} (body : BodyOf B Code) (old mid : PartsOf B Code) (p : ProcId) (told : Signal) (asked : Op) where
   -- the record of the process that was polled

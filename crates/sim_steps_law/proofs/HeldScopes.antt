@@ -1,7 +1,6 @@
 -- A process enters a scope, leaves its innermost and releases a request early, as the machine has it.
-use Rattle.std.proofs.Common.{◌≡◌, ◌≢◌, ℕ, ◌+◌, ◌<◌, ◌≤◌, ◌^◌, ℤ, Bool, true, false, List, [], ◌∷◌, ◌++◌, length, refl, sym, ap, subst, ◌∙◌, arith, map, filter, if◌then◌else◌, inl, inr, Option, Some, None, cond}
+use Rattle.std.proofs.Common.{◌≡◌, ◌≢◌, ℕ, ◌+◌, ◌<◌, ◌^◌, ℤ, Bool, true, false, List, [], ◌∷◌, ◌++◌, length, refl, sym, ap, subst, ◌∙◌, arith, map, filter, if◌then◌else◌, inl, inr, Option, Some, None, cond}
 use Rattle.std.specs.Prelude.{All, AllPairs, ◌==◌, ◌||◌, ◌↔◌, find, reverse, option_and_then, slice_index_or, IsSome, IsSomeAnd, not}
-use Rattle.std.specs.List.{list_any}
 use Rattle.std.proofs.lemmas.Bool.{eqb-false, false≢true, lt-ltb, ltb-true, not-true}
 use Rattle.std.proofs.lemmas.Option.{none-some, same_Some}
 use Rattle.std.proofs.lemmas.List.{length-append, length-map}
@@ -15,13 +14,12 @@ use Rattle.sim_types.specs.declared.event.Signal.TheVariants as signal
 use Rattle.sim_types.specs.declared.setup.Resource.{Resource}
 use Rattle.sim_types.specs.declared.setup.Setup.{Setup}
 use Rattle.sim_types.proofs.Permutations.{AllPairs-head, AllPairs-tail}
-use Rattle.sim_machine.specs.State.{EventOf, Slot, Calendar, Control, Facilities, OpenScope, State, Plan, Waiter}
+use Rattle.sim_machine.specs.State.{EventOf, Slot, Facilities, OpenScope, State, Plan, Waiter}
 use Rattle.sim_machine.specs.Events.{event_at, is_process, is_same}
-use Rattle.sim_machine.specs.KeptEvents.{is_closed}
 use Rattle.sim_machine.specs.Processes.{tell, told_more}
 use Rattle.sim_machine.specs.Requests as requests
 use Rattle.sim_machine.specs.Bodies.{BodyOf}
-use Rattle.sim_machine.specs.MayAsk.{most_scopes, takes_requests}
+use Rattle.sim_machine.specs.MayAsk.{takes_requests}
 use Rattle.sim_machine.specs.Scopes.{on_facilities, open_scope, close_if_any, close_scope, leave_innermost, release_if_any, release_request}
 use Rattle.sim_machine.specs.Users.{first_of_list, resource_at}
 use Rattle.sim_machine.specs.Effect.{calendar, enter}
@@ -45,14 +43,13 @@ use Rattle.sim_shared_model.specs.Making.{MakesAll, ShowsSome, unheld_events}
 use Rattle.sim_shared_model.specs.Waiting.{AreAllOpen, LeavesRoom, WaitsAtMostAt, gone_if_waits}
 use Rattle.sim_accounts.specs.Changes.{ComesPlainly, HasOnlyScope, StatesTrade}
 use Rattle.sim_accounts.specs.Naming.{but_zero, held_alone}
-use Rattle.sim_accounts.proofs.CalendarChanges.{plainly_same}
 use Rattle.sim_accounts.proofs.FacilityChanges.{plainly_left, plainly_released, plainly_requested}
 use Rattle.sim_accounts.proofs.KeepingHolders.{held_stays}
 use Rattle.sim_accounts.proofs.NamedEvents.{held_in_scope}
 use Rattle.sim_accounts.proofs.Quiet.{left_trade}
 use Rattle.sim_accounts.proofs.StateChanges.{opened_trade}
 use Rattle.sim_steps_model.specs.PartsOf.{PartsOf, KeepsButHappen, plan_of}
-use Rattle.sim_steps_model.specs.StandsFor.{Balances, scopes_of}
+use Rattle.sim_steps_model.specs.StandsFor.{scopes_of}
 use Rattle.sim_steps_model.specs.Dropping.{CanBeLeft, CanLeave, IsOpenIn, LeavesInnermost}
 use Rattle.sim_steps_model.specs.Resources.{TakesRequests}
 use Rattle.sim_steps_model.specs.Holding.{ReturnsHolder}
@@ -141,7 +138,7 @@ module _ {B Code : Type 0} (body : BodyOf B Code) (p : ProcId) (res : ℕ) (prio
         becomes_made_all 2 change a x (plainly_requested rs res p priority preempts) (subst (λ r. MakesAll 2 (requests.make_request r res p priority preempts) a.shared x) resources made)
 
     module _ (h : PartsOf B Code) (holds : BecomesOwing body [] (but_zero (e ∷ [])) 1 (λ s. s) b h) (rest : KeepsButHappen b h)
-        (room : IsSomeAnd (record_of p a.live) (λ r. length r.scopes < most_scopes)) where
+        (room : IsSomeAnd (record_of p a.live) (λ r. length r.scopes < r.room)) where
       abbrev c : PartsOf B Code
       c = record h { live = change_record p pushed h.live }
 
@@ -149,7 +146,7 @@ module _ {B Code : Type 0} (body : BodyOf B Code) (p : ProcId) (res : ℕ) (prio
       live_is = ap (λ (v : PartsOf B Code). v.live) rest
 
       has_record : IsSome (record_of p h.live)
-      has_record = subst (λ l. IsSome (record_of p l)) (sym live_is) (some_of (λ (r : RecordOf B). length r.scopes < most_scopes) (record_of p a.live) room)
+      has_record = subst (λ l. IsSome (record_of p l)) (sym live_is) (some_of (λ (r : RecordOf B). length r.scopes < r.room) (record_of p a.live) room)
 
       -- it is made now, and so stands in no scope yet
       made_now : (s : State B) → Stands a s → was_made (change s.facilities).calendar e ≡ true
@@ -206,7 +203,7 @@ module _ {B Code : Type 0} (body : BodyOf B Code) (p : ProcId) (res : ℕ) (prio
 
 -- the same, where what is shared was changed in a kernel
 pub enters : {B Code : Type 0} {body : BodyOf B Code} {a b : PartsOf B Code} (p : ProcId) (res : ℕ) (priority : ℤ) (preempts : Bool) (x : SharedOf) (e : EventId)
-    (h k n : PartsOf B Code) → IsSomeAnd (record_of p a.live) (λ r. length r.scopes < most_scopes) → BecomesOwing body [] (but_zero (e ∷ [])) 1 (λ s. s) b h →
+    (h k n : PartsOf B Code) → IsSomeAnd (record_of p a.live) (λ r. length r.scopes < r.room) → BecomesOwing body [] (but_zero (e ∷ [])) 1 (λ s. s) b h →
     KeepsButHappen b h → a.shared.setup ≡ a.setup.resources → b ≡ record a { shared = x } → e.0 ≡ length a.shared.happen.events →
     MakesAll 2 (requests.make_request a.shared.setup res p priority preempts) a.shared x →
     ((f : Facilities) → ShowsAll a.shared f → (false ≡ true ↔ requests.is_own_victim a.shared.setup res p priority preempts f ≡ true)) →

@@ -9,7 +9,7 @@ use Rattle.sim_types.specs.declared.setup.Setup.{Setup}
 use Rattle.sim_machine.specs.State.{Control, Idle, Calling, Active, Over, Plan}
 use Rattle.sim_machine.specs.RandomWords.{word_of}
 use Rattle.sim_machine.specs.Bodies.{BodyOf, start_of}
-use Rattle.sim_procs.specs.RecordOf.{RecordOf}
+use Rattle.sim_procs.specs.RecordOf.{RecordOf, ScopesOf}
 use Rattle.sim_happen_model.specs.HappenOf.{HappenOf}
 use Rattle.sim_shared_model.specs.SharedOf.{SharedOf, IsSameButRoom}
 use Rattle.sim_steps_model.specs.declared.mode.Mode.{Mode}
@@ -29,18 +29,30 @@ NoneLeftIdle (mode.Calling event) left = Unit {0}
 NoneLeftIdle (mode.Active event process told) left = Unit {0}
 NoneLeftIdle (mode.Over why event) left = Unit {0}
 
+-- what the process that is made next has already: its body, yet to be filled, and the memory for its scopes
+pub record ReadyOf (B : Type 0) : Type 0 where
+  pub body : B
+  pub scopes : ScopesOf
+
+-- the body is for the code, no scope is open, and as many find room as may be open
+pub record IsReady {B : Type 0} (is_for : B → Type 0) (most_open : ℕ) (x : ReadyOf B) : Type 0 where
+  pub body : is_for x.body
+  pub scopes : x.scopes ≡ record { scopes = []; room = most_open }
+
 -- what holds of the parts of every kernel: where nothing is being done no callbacks are left to call, the resources and
--- the kinds that the ports start are those of its setup, and a body that is there, yet to be filled, is for its code
+-- the kinds that the ports start are those of its setup, as many scopes find room in each process as its code may open,
+-- and what the next process has already is ready for the code
 pub record AreSoundParts {B : Type 0}
     (mode : Mode) (shared : SharedOf) (kinds : List ℕ) (setup : Setup)
-    (is_for : B → Type 0) (body : Option B) : Type 0 where
+    (is_for : B → Type 0) (most_open room : ℕ) (next : Option (ReadyOf B)) : Type 0 where
   pub none_left : NoneLeftIdle mode shared.happen.left
   pub resources : shared.setup ≡ setup.resources
   pub ports : kinds ≡ setup.ports
-  pub ready : IfSome body is_for
+  pub scopes : room ≡ most_open
+  pub ready : IfSome next (IsReady is_for most_open)
 
 -- a kernel: time, what happens in it and the resources, its lists and numbers, what it was opened with, and for how many
--- more live processes there is room, and whether the body of the process that is made next is there, yet to be filled
+-- more live processes there is room, and whether what the process that is made next takes is there already
 pub record PartsOf (B Code : Type 0) : Type 0 where
   pub shared : SharedOf
   pub processed : ℕ
@@ -94,7 +106,7 @@ pub record KeepsButRoom {B Code : Type 0} (old new : PartsOf B Code) : Type 0 wh
   pub others : new ≡ record old { shared = new.shared; spare = new.spare; ready = new.ready }
 
 -- room for all that one unit takes: for so many events, each of which may be a condition, for so many callbacks, for one
--- more to wait at each resource, and for one more process, whose body is there
+-- more to wait at each resource, and for one more process, for which what it takes is there
 pub record HasUnitRoom {B Code : Type 0} (parts : PartsOf B Code) : Type 0 where
   pub events : 40 ≤ parts.shared.happen.spare.events
   pub callbacks : 64 ≤ parts.shared.happen.spare.callbacks

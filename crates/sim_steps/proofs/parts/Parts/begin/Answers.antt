@@ -64,10 +64,11 @@ returns-clause-becomes g c =
     (record { places = g.met.B.Body.places code; few = g.met.B.Body.few_places code; others = g.met.B.Body.other_places_stay code })
     c.args.kind c.args.args p can in
     let joined = rw (c.make_process.ensures.process, c.make_process.ensures.init, c.happen_mut.ensures.value, own) at c.add.ensures.live in
-    let record_made = begun_record p (start_of body code c.args.kind c.args.args p) (next_init a) in
+    let room = c.self-in-Some.inside.processes.room in
+    let record_made = begun_record p (start_of body code c.args.kind c.args.args p) (next_init a) room in
     let others = subst (λ k. IsPermutation (record_made ∷ k.live) c.add.new.self.live) c.self-in-Some.view_is joined in
     rw (← c.self.view_is)
-    (begun_becomes body _ c.args.kind c.args.args x _ c.hold.new.self _ c.hold_places.new.self _
+    (begun_becomes body _ c.args.kind c.args.args room x _ c.hold.new.self _ c.hold_places.new.self _
     (g.B.Body.events_held (start_of body code c.args.kind c.args.args p)) c.add.new.self.live (is_some c.take.new.self) c.add.new.self.spare
     none made (rw made.left refl) init c.hold.ensures.rest (rw (← c.self-2.view_is) refl) places c.hold_places.ensures.rest stand others
     (rw (← c.self-in-Some.view_is) refl))

@@ -6,7 +6,7 @@ use Rattle.sim_steps.proofs.parts.Parts.blank.Goals as goal
 
 pub returns-clause-stands : goal.returns-clause-stands
 returns-clause-stands g c =
-    blank_stands g.B.LawfulBody.body _ (rw c.of-2.ensures (named_all c.args.setup.now.events _ _ refl c.in_ok-shared.ensures.shows c.in_ok-make_named.ensures.shows)) refl (rw c.of-3.ensures c.seed_from_u64-generator.ensures) c.in_ok-processes.ensures refl
+    blank_stands g.B.LawfulBody.body _ (rw c.of-2.ensures (named_all c.args.setup.now.events _ _ refl c.in_ok-shared.ensures.shows c.in_ok-make_named.ensures.shows)) refl (rw c.of-3.ensures c.seed_from_u64-generator.ensures) c.in_ok-processes.ensures.live refl
 
 pub returns-clause-balances : goal.returns-clause-balances
 returns-clause-balances g c = blank_balances _ (rw c.of-2.ensures c.in_ok-make_named.ensures.shows) (rw c.of-2.ensures c.in_ok-make_named.ensures.held)

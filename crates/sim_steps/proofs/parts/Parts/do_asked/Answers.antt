@@ -282,8 +282,7 @@ returns-in-Cancel g c =
 
 pub enter-requires-clause-scopes : goal.enter-requires-clause-scopes
 enter-requires-clause-scopes g c =
-    let may = polled_may g.B.LawfulBody.body c.args.self.now c.ask.new.self c.args.process c.args.told (op.Enter c.in-Enter.res c.in-Enter.priority c.in-Enter.preempts) c.in-Enter.ensures.asked.asks c.requires.stands c.args.event (g.B.LawfulBody.lawful c.args.self.now.code) (rw c.requires.code at c.requires.fits) (omega (arith, c.requires.events)) c.requires.running in
-    polled_scopes g.B.LawfulBody.body c.args.self.now c.ask.new.self c.args.process c.args.told (op.Enter c.in-Enter.res c.in-Enter.priority c.in-Enter.preempts) c.in-Enter.ensures.asked.asks c.requires.stands c.args.event (g.B.LawfulBody.lawful c.args.self.now.code) (rw c.requires.code at c.requires.fits) (omega (arith, c.requires.events)) c.requires.running c.in-Enter.res may
+    polled_scopes g.B.LawfulBody.body c.args.self.now c.ask.new.self c.args.process c.args.told (op.Enter c.in-Enter.res c.in-Enter.priority c.in-Enter.preempts) c.in-Enter.ensures.asked.asks c.requires.stands c.args.event (g.B.LawfulBody.lawful c.args.self.now.code) (rw c.requires.code at c.requires.fits) (omega (arith, c.requires.events)) c.requires.running (g.B.Body.most_open c.args.self.now.code) c.in-Enter.res _ c.in-Enter.preempts (g.met.B.Body.enters_within c.args.self.now.code) refl (rw c.requires.code at c.in-Enter.ensures.scopes)
 
 pub enter-requires-clause-resource : goal.enter-requires-clause-resource
 enter-requires-clause-resource g c =
