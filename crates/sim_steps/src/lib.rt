@@ -15,6 +15,7 @@ mod parts;
 mod places;
 mod polling;
 mod processes;
+mod quiet;
 mod ready;
 mod resources;
 mod waiting;
