@@ -1,32 +1,24 @@
 //! How a holder is given back, with what the event held as a condition.
-ghost use Rattle.std.specs.Prelude.{◌≡◌, ◌⊎◌, not, ◌&&◌, [], IsTrue, IsFalse, IfNone, IfSome};
+ghost use Rattle.std.specs.Prelude.{◌≡◌, ◌⊎◌, not, ◌&&◌, [], IsTrue, IsFalse};
 ghost use Rattle.sim_machine.specs.Events.{is_fail};
 ghost use Rattle.sim_events.specs.TableOf.{IsKept, is_needed, kept_at};
 ghost use Rattle.sim_events.specs.Changes.{without_holder};
 ghost use Rattle.sim_happen_model.specs.HappenOf.{KeepsRoom};
-ghost use Rattle.sim_happen_model.specs.Holders.{HasOwnHolder, AreOwed, members_in, unheld_within, unheld};
+ghost use Rattle.sim_happen_model.specs.Holders.{HasOwnHolder, members_in, unheld_within, unheld};
 
 use crate::happen::Happen;
-use sim_types::{EventId, Members};
+use sim_types::EventId;
 
 impl Happen {
-    // The members that an event gives back with one holder fewer: those of a condition that goes then. None where it stays
-    // or is no condition.
-    fn members_given_back(&self, event: EventId) -> Option<Members>
+    // Whether an event is a condition that goes where it has one holder fewer, so that its members have one fewer too.
+    fn goes_with_members(&self, event: EventId) -> bool
         requires kept { IsKept self.now.events event }
-        ensures stays { IfNone result (let k = kept_at self.now.events event in
+        ensures stays { IsFalse result → (let k = kept_at self.now.events event in
             IsTrue (is_needed (without_holder k)) ⊎ (members_in k ≡ [])) }
-        ensures goes { IfSome result (λ ms. let k = kept_at self.now.events event in
-            IsFalse (is_needed (without_holder k))) }
-        ensures members { IfSome result (λ ms. ms ≡ members_in (kept_at self.now.events event)) }
-        ensures owed { AreOwed [] self.now.events }
+        ensures goes { IsTrue result
+            → IsFalse (is_needed (without_holder (kept_at self.now.events event))) }
     {
-        self.tell();
-        if self.is_condition(event) && self.goes_without_holder(event) {
-            Some(self.members(event))
-        } else {
-            None
-        }
+        self.is_condition(event) && self.goes_without_holder(event)
     }
 
     // One holder fewer; where the event goes, each of its members has one fewer, and so on inwards.
@@ -38,12 +30,14 @@ impl Happen {
         ensures room { KeepsRoom self.old self.new }
     {
         if depth > 0 {
-            let given_back = self.members_given_back(event);
-            self.release(event);
-            if let Some(members) = given_back {
+            if self.goes_with_members(event) {
+                let members = self.members(event);
+                self.release(event);
                 for member in members.as_slice() {
                     self.give_back(depth - 1, *member);
                 }
+            } else {
+                self.release(event);
             }
         }
     }
@@ -57,7 +51,12 @@ impl Happen {
             ≡ record self.old { events = self.new.events; spare = self.new.spare } }
         ensures room { KeepsRoom self.old self.new }
     {
-        self.give_back(self.depth_of(event), event);
+        // Members are copied, so what has none to give back goes another way.
+        if self.goes_with_members(event) {
+            self.give_back(self.depth_of(event), event);
+        } else {
+            self.release(event);
+        }
     }
 
     /// All callbacks of an event were called: the holder that it had while it was processed is given back. The answer is

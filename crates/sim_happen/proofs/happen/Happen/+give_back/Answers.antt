@@ -4,7 +4,9 @@ use Rattle.sim_happen.proofs.happen.Happen.+give_back.Goals as goal
 
 pub loop-member-init : goal.loop-member-init
 loop-member-init t c =
-    unheld_start _ c.args.event _ c.args.self.now c.release.new.self c.requires.held c.members_given_back-given_back.ensures.owed c.release.ensures.events c.release.ensures.rest c.in-Some.ensures.goes (c.as_slice-member-items.ensures.values ∙ c.in-Some.ensures.members) c.release.ensures.room
+    unheld_start _ c.args.event _ c.args.self.now c.release.new.self c.requires.held c.members-members.ensures.held
+    c.release.ensures.events c.release.ensures.rest (c.goes_with_members.ensures.goes c.if-goes_with_members.true)
+    (c.as_slice-member-items.ensures.values ∙ c.members-members.ensures.members) c.release.ensures.room
 
 pub give_back-requires : goal.give_back-requires
 give_back-requires t c =
