@@ -1,5 +1,5 @@
 //! Where a line is put together.
-ghost use Rattle.std.specs.Prelude.{◌≡◌, ◌+◌, ◌≤◌, [], ◌++◌, length};
+ghost use Rattle.std.specs.Prelude.{◌≡◌, ◌+◌, ◌<◌, ◌≤◌, [], ◌∷◌, ◌++◌, length};
 
 use arrayvec::ArrayVec;
 use std::marker::Model;
@@ -42,6 +42,14 @@ impl LineBuf {
         ensures { self.new ≡ [] }
     {
         self.bytes.clear();
+    }
+
+    pub(crate) fn push(&mut self, byte: u8)
+        requires { length self.old < 160 }
+        ensures items { self.new ≡ self.old ++ byte ∷ [] }
+        ensures length { length self.new ≡ length self.old + 1 }
+    {
+        self.bytes.push(byte);
     }
 
     pub(crate) fn append(&mut self, text: &[u8])

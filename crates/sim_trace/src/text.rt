@@ -55,37 +55,37 @@ fn append_event(
     append_word(kind_word(kind), out);
     append_number(event.0, out);
     append_outcome(outcome, out);
-    out.append(b"\n");
+    out.push(b'\n');
 }
 
 /// Appends what an event is ordered by.
 fn append_key(time: i64, priority: u8, number: u64, out: &mut LineBuf)
-    requires { length out.old + 46 ≤ 160 }
+    requires { length out.old + 63 ≤ 160 }
     ensures items { out.new
         ≡ out.old ++ 64 ∷ signed_decimal time ++ 32 ∷ decimal priority ++ 32 ∷ decimal number }
-    ensures len { length out.new ≤ length out.old + 46 }
+    ensures len { length out.new ≤ length out.old + 63 }
 {
-    out.append(b"@");
-    append_digits(time, out);
-    append_number(priority, out);
+    out.push(b'@');
+    append_signed_digits(time, out);
+    append_number(priority as u64, out);
     append_number(number, out);
 }
 
 /// Appends a space and the words of the outcome.
 fn append_outcome(outcome: Outcome, out: &mut LineBuf)
-    requires { length out.old + 31 ≤ 160 }
+    requires { length out.old + 47 ≤ 160 }
     ensures items { out.new ≡ out.old ++ 32 ∷ join_with_byte 32 (outcome_words outcome) }
-    ensures len { length out.new ≤ length out.old + 31 }
+    ensures len { length out.new ≤ length out.old + 47 }
 {
     match outcome {
         Outcome::Ok(value) => {
             out.append(b" ok");
-            append_number(value, out);
+            append_signed(value, out);
         }
         Outcome::Fail(thrown) => {
             out.append(b" fail");
-            append_number(thrown.kind, out);
-            append_number(thrown.value, out);
+            append_number(thrown.kind as u64, out);
+            append_signed(thrown.value, out);
         }
     }
 }
@@ -95,10 +95,10 @@ fn append_log(time: i64, process: ProcId, value: i64, out: &mut LineBuf)
     ensures { out.new ≡ line_text [] (Line.Log time process value) }
 {
     out.append(b"log");
-    append_number(time, out);
+    append_signed(time, out);
     append_number(process.0, out);
-    append_number(value, out);
-    out.append(b"\n");
+    append_signed(value, out);
+    out.push(b'\n');
 }
 
 fn append_arrival(after: u64, port: u32, value: i64, ports: &[Name], out: &mut LineBuf)
@@ -109,8 +109,8 @@ fn append_arrival(after: u64, port: u32, value: i64, ports: &[Name], out: &mut L
     out.append(b"arrive");
     append_number(after, out);
     append_word(port_word(ports, port), out);
-    append_number(value, out);
-    out.append(b"\n");
+    append_signed(value, out);
+    out.push(b'\n');
 }
 
 /// The name of the port, which is empty where there is none.
@@ -131,22 +131,60 @@ fn append_finish(end: End, time: i64, processed: u64, out: &mut LineBuf)
 {
     out.append(b"end");
     append_word(end_word(end), out);
-    append_number(time, out);
+    append_signed(time, out);
     append_number(processed, out);
-    out.append(b"\n");
+    out.push(b'\n');
 }
 
 /// Appends a space and the number.
-fn append_number<I: Integer>(number: I, out: &mut LineBuf)
-    requires { length out.old + 1 + I.MAX_STR_LEN ≤ 160 }
-    ensures items { out.new ≡ out.old ++ 32 ∷ I.text number }
-    ensures len { length out.new ≤ length out.old + 1 + I.MAX_STR_LEN }
+fn append_number(number: u64, out: &mut LineBuf)
+    requires { length out.old + 21 ≤ 160 }
+    ensures items { out.new ≡ out.old ++ 32 ∷ decimal number }
+    ensures len { length out.new ≤ length out.old + 21 }
 {
-    out.append(b" ");
+    out.push(b' ');
     append_digits(number, out);
 }
 
-fn append_digits<I: Integer>(number: I, out: &mut LineBuf)
+/// Appends a space and the number, which may be below zero.
+fn append_signed(number: i64, out: &mut LineBuf)
+    requires { length out.old + 21 ≤ 160 }
+    ensures items { out.new ≡ out.old ++ 32 ∷ signed_decimal number }
+    ensures len { length out.new ≤ length out.old + 21 }
+{
+    out.push(b' ');
+    append_signed_digits(number, out);
+}
+
+/// Appends the number, which may be below zero.
+fn append_signed_digits(number: i64, out: &mut LineBuf)
+    requires { length out.old + 20 ≤ 160 }
+    ensures items { out.new ≡ out.old ++ signed_decimal number }
+    ensures len { length out.new ≤ length out.old + 20 }
+{
+    if number >= 0 {
+        append_digits(number as u64, out);
+    } else {
+        append_formatted(number, out);
+    }
+}
+
+/// Appends the number. Many have one digit, which is written as it is.
+#[tactic(auto, using(std::proofs::lemmas::Fmt::decimal_digit))]
+fn append_digits(number: u64, out: &mut LineBuf)
+    requires { length out.old + 20 ≤ 160 }
+    ensures items { out.new ≡ out.old ++ decimal number }
+    ensures len { length out.new ≤ length out.old + 20 }
+{
+    if number < 10 {
+        out.push(b'0' + number as u8);
+    } else {
+        append_formatted(number, out);
+    }
+}
+
+/// Appends the number, whatever it is.
+fn append_formatted<I: Integer>(number: I, out: &mut LineBuf)
     requires { length out.old + I.MAX_STR_LEN ≤ 160 }
     ensures items { out.new ≡ out.old ++ I.text number }
     ensures len { length out.new ≤ length out.old + I.MAX_STR_LEN }
@@ -161,7 +199,7 @@ fn append_word(word: &[u8], out: &mut LineBuf)
     ensures items { out.new ≡ out.old ++ 32 ∷ word.now }
     ensures len { length out.new ≡ length out.old + 1 + length word.now }
 {
-    out.append(b" ");
+    out.push(b' ');
     out.append(word);
 }
 
