@@ -253,14 +253,13 @@ impl Script {
         ensures { (result, self.new) ≡ script_turn code.now self.old time signal }
     {
         self.take_in(code, signal);
-        // Most statements ask for nothing. That is told before an operation, which is large, is made and handed on.
-        if self.go_quietly(code, time) {
-            self.asked = Some(Memo::of(&Op::Nop));
-            return Op::Nop;
+        // An operation is large, and so is made where it is wanted. Most statements ask for nothing.
+        let mut asked = Op::Nop;
+        if !self.go_quietly(code, time) {
+            self.ask(code, time, &mut asked);
         }
-        let op = self.ask(code, time);
-        self.asked = Some(Memo::of(&op));
-        op
+        self.asked = Some(Memo::of(&asked));
+        asked
     }
 
     /// The same, where it is told nothing or a value and the statement at its place asks for nothing. Whether it was so:
@@ -361,47 +360,47 @@ impl Script {
 
     // Does the statement at its place, or leaves a block.
     #[inline(never)]
-    fn ask(&mut self, code: &[Stmt], time: i64) -> Op
+    fn ask(&mut self, code: &[Stmt], time: i64, asked: &mut Op)
         requires { IsTrue (can_ask code.now self.old) }
-        ensures { (result, self.new) ≡ ask_in_mode code.now time self.old }
+        ensures { (asked.new, self.new) ≡ ask_in_mode code.now time self.old }
     {
         match self.mode {
-            Mode::Running => self.go_on(code, time),
-            Mode::Throwing(_) | Mode::Breaking | Mode::Finishing(_) => self.unwind(code),
+            Mode::Running => self.go_on(code, time, asked),
+            Mode::Throwing(_) | Mode::Breaking | Mode::Finishing(_) => self.unwind(code, asked),
         }
     }
 
     // Does the statement at its place.
-    fn go_on(&mut self, code: &[Stmt], time: i64) -> Op
+    fn go_on(&mut self, code: &[Stmt], time: i64, asked: &mut Op)
         requires { IsTrue (can_do code.now self.old) }
-        ensures { (result, self.new) ≡ do_stmt time
+        ensures { (asked.new, self.new) ≡ do_stmt time
             (set_place (self.old.place + 1) self.old) (stmt_at code.now self.old.place) }
     {
         let statement = &code[self.place];
         self.place += 1;
-        self.do_statement(statement, time)
+        self.do_statement(statement, time, asked);
     }
 
     // Leaves the innermost block, for the reason that the mode tells, or ends.
-    fn unwind(&mut self, code: &[Stmt]) -> Op
+    fn unwind(&mut self, code: &[Stmt], asked: &mut Op)
         requires { IsTrue (can_leave code.now self.old self.old.frames) }
-        ensures { (result, self.new) ≡ unwind code.now self.old self.old.frames }
+        ensures { (asked.new, self.new) ≡ unwind code.now self.old self.old.frames }
     {
         match self.innermost() {
-            None => self.end(),
+            None => self.end(asked),
             Some(Frame::InScope(_)) => {
                 self.leave();
-                Op::Leave
+                *asked = Op::Leave;
             }
             Some(Frame::InTry(catch)) => {
                 self.leave();
                 self.leave_try(code, catch);
-                Op::Nop
+                *asked = Op::Nop;
             }
             Some(Frame::InLoop(past) | Frame::InRepeat(past, _)) => {
                 self.leave();
                 self.leave_loop(past);
-                Op::Nop
+                *asked = Op::Nop;
             }
         }
     }
@@ -440,13 +439,13 @@ impl Script {
     }
 
     // No block is left: it ends.
-    fn end(&self) -> Op
-        ensures { result ≡ end_by_mode self.now.mode }
+    fn end(&self, asked: &mut Op)
+        ensures { asked.new ≡ end_by_mode self.now.mode }
     {
         match self.mode {
-            Mode::Throwing(thrown) => Op::Die(thrown),
-            Mode::Finishing(value) => Op::Finish(value),
-            Mode::Running | Mode::Breaking => Op::Nop,
+            Mode::Throwing(thrown) => *asked = Op::Die(thrown),
+            Mode::Finishing(value) => *asked = Op::Finish(value),
+            Mode::Running | Mode::Breaking => *asked = Op::Nop,
         }
     }
 }

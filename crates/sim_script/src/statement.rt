@@ -17,21 +17,22 @@ use sim_types::{Args, FAILURE, Members, Op, Refs, SpawnArgs, Stmt, Throw};
 
 impl Script {
     /// Does a statement. The script stands behind it already.
-    pub(crate) fn do_statement(&mut self, statement: &Stmt, time: i64) -> Op
+    pub(crate) fn do_statement(&mut self, statement: &Stmt, time: i64, asked: &mut Op)
         requires variables { IsTrue (keeps_given self.old statement.now) }
         requires small { IsTrue (events_are_small self.old statement.now) }
         requires room { IsTrue (enters_room self.old statement.now) }
-        ensures { (result, self.new) ≡ do_stmt time self.old statement.now }
+        ensures { (asked.new, self.new) ≡ do_stmt time self.old statement.now }
     {
         if self.do_quietly(statement, time) {
-            return Op::Nop;
+            *asked = Op::Nop;
+            return;
         }
         match statement {
             Stmt::EndWith => {
                 self.leave();
-                Op::Leave
+                *asked = Op::Leave;
             }
-            _ => self.operation(statement, time),
+            _ => self.operation(statement, time, asked),
         }
     }
 
@@ -68,10 +69,10 @@ impl Script {
     }
 
     // The statements that ask for an operation and change nothing themselves.
-    fn operation(&self, statement: &Stmt, time: i64) -> Op
+    fn operation(&self, statement: &Stmt, time: i64, asked: &mut Op)
         requires group { IsTrue (is_of_operations statement.now) }
         requires small { IsTrue (events_are_small self.now statement.now) }
-        ensures { (result, self.now) ≡ do_stmt time self.now statement.now }
+        ensures { (asked.new, self.now) ≡ do_stmt time self.now statement.now }
     {
         match statement {
             Stmt::Sleep { .. }
@@ -80,14 +81,14 @@ impl Script {
             | Stmt::Drop { .. }
             | Stmt::EndProcess
             | Stmt::Log { .. }
-            | Stmt::Draw { .. } => self.of_processes(statement, time),
+            | Stmt::Draw { .. } => self.of_processes(statement, time, asked),
             Stmt::Count { .. }
             | Stmt::With { .. }
             | Stmt::Release { .. }
             | Stmt::Put { .. }
             | Stmt::Get { .. }
-            | Stmt::Cancel { .. } => self.of_resources(statement, time),
-            _ => self.of_events(statement, time),
+            | Stmt::Cancel { .. } => self.of_resources(statement, time, asked),
+            _ => self.of_events(statement, time, asked),
         }
     }
 
@@ -176,24 +177,26 @@ impl Script {
     }
 
     // The statements that ask something of an event or a condition.
-    fn of_events(&self, statement: &Stmt, time: i64) -> Op
+    fn of_events(&self, statement: &Stmt, time: i64, asked: &mut Op)
         requires group { IsTrue (is_of_events statement.now) }
-        ensures { (result, self.now) ≡ do_stmt time self.now statement.now }
+        ensures { (asked.new, self.now) ≡ do_stmt time self.now statement.now }
     {
         match statement {
             Stmt::Timer { delay, value, .. } => {
-                Op::Timeout(self.number(*delay, time), self.number(*value, time))
+                *asked = Op::Timeout(self.number(*delay, time), self.number(*value, time));
             }
-            Stmt::Fresh { .. } => Op::NewEvent,
-            Stmt::Wait { on } => Op::Wait(self.event(*on)),
+            Stmt::Fresh { .. } => *asked = Op::NewEvent,
+            Stmt::Wait { on } => *asked = Op::Wait(self.event(*on)),
             Stmt::Succeed { on, value } => {
-                Op::Succeed(self.event(*on), self.number(*value, time))
+                *asked = Op::Succeed(self.event(*on), self.number(*value, time));
             }
-            Stmt::Fail { on, value } => Op::Fail(self.event(*on), self.number(*value, time)),
-            Stmt::All { of, .. } => Op::AllOf(self.members(of)),
-            Stmt::Any { of, .. } => Op::AnyOf(self.members(of)),
-            Stmt::Has { cond, on, .. } => Op::Has(self.event_in(*cond), self.event(*on)),
-            Stmt::Chain { on, to } => Op::Chain(self.event(*on), self.event(*to)),
+            Stmt::Fail { on, value } => {
+                *asked = Op::Fail(self.event(*on), self.number(*value, time));
+            }
+            Stmt::All { of, .. } => *asked = Op::AllOf(self.members(of)),
+            Stmt::Any { of, .. } => *asked = Op::AnyOf(self.members(of)),
+            Stmt::Has { cond, on, .. } => *asked = Op::Has(self.event_in(*cond), self.event(*on)),
+            Stmt::Chain { on, to } => *asked = Op::Chain(self.event(*on), self.event(*to)),
             _ => unreachable!(),
         }
     }
@@ -210,22 +213,24 @@ impl Script {
     }
 
     // The statements that ask something of the process itself or of another.
-    fn of_processes(&self, statement: &Stmt, time: i64) -> Op
+    fn of_processes(&self, statement: &Stmt, time: i64, asked: &mut Op)
         requires group { IsTrue (is_of_processes statement.now) }
         requires small { IsTrue (events_are_small self.now statement.now) }
-        ensures { (result, self.now) ≡ do_stmt time self.now statement.now }
+        ensures { (asked.new, self.now) ≡ do_stmt time self.now statement.now }
     {
         match statement {
-            Stmt::Sleep { delay } => Op::Pause(self.number(*delay, time), 0),
-            Stmt::Spawn { kind, args, .. } => Op::Spawn(*kind, self.arguments(args, time)),
+            Stmt::Sleep { delay } => *asked = Op::Pause(self.number(*delay, time), 0),
+            Stmt::Spawn { kind, args, .. } => *asked = Op::Spawn(*kind, self.arguments(args, time)),
             Stmt::Interrupt { who, value } => {
-                Op::Interrupt(self.process(*who), self.number(*value, time))
+                *asked = Op::Interrupt(self.process(*who), self.number(*value, time));
             }
-            Stmt::Drop { who, value } => { Op::Drop(self.process(*who), self.number(*value, time)) }
-            Stmt::EndProcess => Op::Finish(0),
-            Stmt::Log { value } => Op::Log(self.number(*value, time)),
+            Stmt::Drop { who, value } => {
+                *asked = Op::Drop(self.process(*who), self.number(*value, time));
+            }
+            Stmt::EndProcess => *asked = Op::Finish(0),
+            Stmt::Log { value } => *asked = Op::Log(self.number(*value, time)),
             Stmt::Draw { lo, hi, .. } => {
-                Op::Draw(self.number(*lo, time), self.number(*hi, time))
+                *asked = Op::Draw(self.number(*lo, time), self.number(*hi, time));
             }
             _ => unreachable!(),
         }
@@ -244,34 +249,34 @@ impl Script {
     }
 
     // The statements that ask something of a resource.
-    fn of_resources(&self, statement: &Stmt, time: i64) -> Op
+    fn of_resources(&self, statement: &Stmt, time: i64, asked: &mut Op)
         requires group { IsTrue (is_of_resources statement.now) }
-        ensures { (result, self.now) ≡ do_stmt time self.now statement.now }
+        ensures { (asked.new, self.now) ≡ do_stmt time self.now statement.now }
     {
         match statement {
-            Stmt::Count { res, .. } => Op::Count(*res),
+            Stmt::Count { res, .. } => *asked = Op::Count(*res),
             Stmt::With {
                 res,
                 priority,
                 preempt,
                 ..
-            } => Op::Enter(*res, self.number(*priority, time), *preempt),
-            Stmt::Release { on } => Op::Release(self.event_in(*on)),
+            } => *asked = Op::Enter(*res, self.number(*priority, time), *preempt),
+            Stmt::Release { on } => *asked = Op::Release(self.event_in(*on)),
             Stmt::Put { to, res, a, p } => {
                 let (a, p) = (self.number(*a, time), self.number(*p, time));
                 match to {
-                    None => Op::PutWait(*res, a, p),
-                    Some(_) => Op::Put(*res, a, p),
+                    None => *asked = Op::PutWait(*res, a, p),
+                    Some(_) => *asked = Op::Put(*res, a, p),
                 }
             }
             Stmt::Get { to, res, lo, hi } => {
                 let (lo, hi) = (self.number(*lo, time), self.number(*hi, time));
                 match to {
-                    None => Op::GetWait(*res, lo, hi),
-                    Some(_) => Op::Get(*res, lo, hi),
+                    None => *asked = Op::GetWait(*res, lo, hi),
+                    Some(_) => *asked = Op::Get(*res, lo, hi),
                 }
             }
-            Stmt::Cancel { on } => Op::Cancel(self.event_in(*on)),
+            Stmt::Cancel { on } => *asked = Op::Cancel(self.event_in(*on)),
             _ => unreachable!(),
         }
     }
