@@ -9,7 +9,7 @@ use Rattle.sim_events.specs.TableOf.{AreNeeded}
 use Rattle.sim_happen_model.specs.HappenOf.{held}
 use Rattle.sim_steps_model.specs.declared.mode.Unit.{Unit}
 use Rattle.sim_steps_model.specs.PartsOf.{PartsOf, IsOpenedAs, KeepsButRoom, plan_of}
-use Rattle.sim_steps_model.specs.StandsFor.{Balances, StandsFor, LawfulOf, StepOf}
+use Rattle.sim_steps_model.specs.StandsFor.{Balances, StandsFor, StandsForSome, LawfulOf, StepOf}
 use Rattle.sim_steps_model.specs.Becoming.{AreFew, Moves, most_held}
 use Rattle.sim_kernel.specs.Holding.{Holds, IsBounded, most_opened, most_made}
 use Rattle.sim_kernel.specs.Accounting.{HasAccounts}
@@ -72,6 +72,10 @@ module _ {B Code : Type 0} (body : BodyOf B Code) (old : PartsOf B Code) (fits :
       }
 
 -- ---- what else holds of every kernel
+
+-- it stands for some state
+pub stands_for_some : {B Code : Type 0} (body : BodyOf B Code) (units : ℕ) (a : PartsOf B Code) → Holds body units a → StandsForSome body a
+stands_for_some body units a h = record { state = h.state; lawful = h.lawful; stands = h.stands; balances = h.balances }
 
 -- one unit makes few events, and processes at most one
 pub unit_bounded : {B Code : Type 0} (units : ℕ) (old new : PartsOf B Code) (s t : State B) → StandsFor old s → StandsFor new t → MakesFew s t →

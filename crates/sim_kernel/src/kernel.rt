@@ -88,6 +88,12 @@ impl<B: Body> Kernel<B> {
         ensures units { OnOk result (self.new.units ≡ self.old.units + 1) }
         ensures err { OnErr result (IsAsBefore self.old self.new) }
     {
+        // Most statements of a script ask for nothing, and then no room is needed.
+        if self.parts.unit_quietly(code) {
+            let _kept = self.parts.slots();
+            self.units += 1;
+            return Ok(Unit::Quiet);
+        }
         self.parts.reserve(code)?;
         let unit = self.parts.unit(code);
         let _kept = self.parts.slots();
