@@ -68,11 +68,6 @@ pub record ComparesUpTo (bottom place old now : ℕ) : Type 0 where
   pub rises : old ≤ now
   pub levels : (place + 1) * 2 ^ (now - old) ≤ bottom + 1
 
-pub no_level : (bottom old : ℕ) → ComparesUpTo bottom bottom old old
-no_level bottom old =
-    let none : old - old ≡ 0 = omega arith in
-    record { rises = omega arith; levels = rw none (omega arith) }
-
 pub one_up : (bottom place old now : ℕ) → 0 < place → ComparesUpTo bottom place old now → ComparesUpTo bottom (parent place) old (now + 1)
 one_up bottom place old now more h =
     let e : now + 1 - old ≡ (now - old) + 1 = omega (arith, h.rises) in

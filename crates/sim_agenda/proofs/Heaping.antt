@@ -1,9 +1,9 @@
 -- What stands where in a heap, and an entry that is written into one.
-use Rattle.std.proofs.Common.{◌≡◌, ◌≢◌, ℕ, zero, suc, ◌+◌, ◌<◌, ◌≤◌, List, [], ◌∷◌, ◌++◌, length, get_or, set, sym, ap, ◌∙◌, inl, inr, arith, All}
+use Rattle.std.proofs.Common.{◌≡◌, ℕ, zero, suc, ◌<◌, ◌≤◌, List, ◌∷◌, length, get_or, set, ap, ◌∙◌, inl, inr, arith, All}
 use Rattle.std.specs.List.Sorted.{IsPermutation}
 use Rattle.std.proofs.lemmas.Bool.{cases_eq}
 use Rattle.std.proofs.lemmas.Grind.{get_or-set_at}
-use Rattle.std.proofs.lemmas.List.{length-set, length_push, get_or-set_other, get_or_append_left, get_or_default}
+use Rattle.std.proofs.lemmas.List.{length-set, get_or-set_other, get_or_default}
 use Rattle.std.proofs.lemmas.List.Edits.{swap_is}
 use Rattle.std.proofs.lemmas.List.Elements.{All-tail}
 use Rattle.std.proofs.lemmas.List.Sorted.{All-permutation, IsPermutation-swap}
@@ -33,24 +33,6 @@ heap_written xs i x heap within above below = λ k d more inside.
             (heap k d more (omega arith) off)
       ]
     ]
-
--- the entries before the last, and with one more behind them
-pub heap_others : (xs others : List Entry) (last : Entry) → IsHeap xs → xs ≡ others ++ last ∷ [] → IsHeap others
-heap_others xs others last heap is = λ k d more inside.
-    let same : (m : ℕ) → m < length others → get_or others m d ≡ get_or xs m d = λ m below. sym (get_or_append_left others (last ∷ []) d m below) ∙ ap (λ us. get_or us m d) (sym is) in
-    same_not_before _ _ _ _ (same k inside) (same (parent k) (omega arith)) (heap k d more (omega (arith, ap length is, length_push others last)))
-
-below_last : (k n : ℕ) → k ≢ n → k < n + 1 → k < n
-below_last k n off few = elim (cases_eq k n) [
-  | inl at ↦ absurd (off at)
-  | inr apart ↦ omega arith
-]
-
-pub heap_longer : (xs ys : List Entry) (x : Entry) → IsHeap xs → ys ≡ xs ++ x ∷ [] → IsHeapBut ys (length xs)
-heap_longer xs ys x heap is = λ k d more inside off.
-    let few : k < length xs = below_last k (length xs) off (omega (arith, inside, ap length is, length_push xs x)) in
-    let same : (m : ℕ) → m < length xs → get_or ys m d ≡ get_or xs m d = λ m below. ap (λ us. get_or us m d) is ∙ get_or_append_left xs (x ∷ []) d m below in
-    same_not_before _ _ _ _ (same k few) (same (parent k) (omega arith)) (heap k d more few)
 
 itself : (xs : List Entry) (d : Entry) (k : ℕ) → k ≡ 0 → ¬ IsLess (get_or xs k d).key (get_or xs 0 d).key
 itself xs d k at = rw at (IsLess-irrefl (get_or xs 0 d).key)

@@ -5,7 +5,7 @@ use Rattle.std.proofs.lemmas.Bool.{cases_eq}
 use Rattle.std.proofs.lemmas.Grind.{get_or-set_at}
 use Rattle.std.proofs.lemmas.List.{length-set, set-set, get_or-set_other, get_or_default}
 use Rattle.std.proofs.lemmas.List.Edits.{swap_is}
-use Rattle.std.proofs.lemmas.List.Sorted.{IsPermutation-refl, IsPermutation-trans, IsPermutation-cons, IsPermutation-swap}
+use Rattle.std.proofs.lemmas.List.Sorted.{IsPermutation-trans, IsPermutation-cons, IsPermutation-swap}
 use Rattle.sim_types.specs.Keys.{IsLess}
 use Rattle.sim_types.specs.declared.event.Entry.{Entry}
 use Rattle.sim_types.proofs.KeyLemmas.{IsLess-irrefl}
@@ -21,28 +21,44 @@ place_changed ys i j v x within inside apart is =
     let long : length zs ≡ length ys = length-set ys i x in
     let there : get_or zs j x ≡ v = get_or-set_other ys i j x x (λ e. apart (sym e)) ∙ sym is in
     let here : get_or zs i x ≡ x = get_or-set_at ys i i x x refl within in
-    let swapped : set (set zs i v) j x ≡ set (set zs i (get_or zs j x)) j (get_or zs i x) = ap (λ u. set (set zs i u) j x) (sym there) ∙ ap (λ u. set (set zs i (get_or zs j x)) j u) (sym here) in
+    let swapped : set (set zs i v) j x ≡ set (set zs i (get_or zs j x)) j (get_or zs i x) =
+    ap (λ u. set (set zs i u) j x) (sym there) ∙ ap (λ u. set (set zs i (get_or zs j x)) j u) (sym here) in
     IsPermutation-swap zs (set (set ys i v) j x) i j (omega (arith, within, long)) (omega (arith, inside, long))
     (ap (λ us. set us j x) (sym (set-set ys i x v)) ∙ swapped ∙ swap_is zs i j x (omega (arith, within, long)) (omega (arith, inside, long)))
 
 -- ---- up from below
 
-pub moved_begins : (xs : List Entry) → 0 < length xs → IsMovedUp xs xs 0
-moved_begins xs some = λ x. held_exchanged x xs 0 (get_or xs 0 x) some (get_or_default xs 0 x (get_or xs 0 x) some)
+pub moved_begins : (xs : List Entry) → 0 < length xs → IsHeap xs → IsMovedUp xs xs 0
+moved_begins xs some heap =
+    record {
+      within = some;
+      len = refl;
+      heap = heap;
+      moved = λ x. held_exchanged x xs 0 (get_or xs 0 x) some (get_or_default xs 0 x (get_or xs 0 x) some);
+    }
 
 pub moved_steps : (xs ys : List Entry) (place child : ℕ) (v : Entry) → parent child ≡ place → place < child → child < length ys
-    → ((d : Entry) → v ≡ get_or ys child d) → IsMovedUp xs ys place → IsMovedUp xs (set ys place v) child
-moved_steps xs ys place child v under lower within is h = λ x.
-    IsPermutation-trans _ _ _ (h x)
-    (IsPermutation-cons _ _ _ (place_changed ys place child v x (omega arith) within (λ e. absurd (omega arith)) (is x)))
+    → v ≡ get_or ys child v → IsFirstBelow ys child → IsMovedUp xs ys place → IsMovedUp xs (set ys place v) child
+moved_steps xs ys place child v under lower within is first h =
+    let stood : (d : Entry) → v ≡ get_or ys child d = λ d. is ∙ get_or_default ys child v d within in
+    let behind : (d : Entry) → 0 < place → ¬ IsLess v.key (get_or ys (parent place) d).key = λ d more. not_before _ _ _ (h.heap place d more h.within)
+    (same_not_before _ _ _ _ (stood d) (ap (λ m. get_or ys m d) (sym under)) (h.heap child d (omega arith) within)) in
+    let above : StandsAbove v ys place = λ k d more inside at.
+    same_not_before (get_or ys k d) v (get_or ys k d) (get_or ys child d) refl (stood d) (first k d more inside (at ∙ sym under)) in
+    record {
+      within = omega (arith, within, length-set ys place v);
+      len = length-set ys place v ∙ h.len;
+      heap = heap_written ys place v (heap_but ys place h.heap) h.within behind above;
+      moved = λ x. IsPermutation-trans _ _ _ (h.moved x)
+          (IsPermutation-cons _ _ _ (place_changed ys place child v x h.within within (λ e. absurd (omega arith)) (stood x)));
+    }
 
-pub first_moved : (ys : List Entry) (place child : ℕ) (v : Entry) → parent child ≡ place → place < child → child < length ys
-    → ((d : Entry) → v ≡ get_or ys child d) → IsFirstBelow ys child → IsHeap ys → IsHeap (set ys place v)
-first_moved ys place child v under lower within is first heap =
-    heap_written ys place v (heap_but ys place heap) (omega arith)
-    (λ d more. not_before _ _ _ (heap place d more (omega arith))
-    (same_not_before _ _ _ _ (is d) (ap (λ m. get_or ys m d) (sym under)) (heap child d (omega arith) within)))
-    (λ k d more inside at. same_not_before (get_or ys k d) v (get_or ys k d) (get_or ys child d) refl (is d) (first k d more inside (at ∙ sym under)))
+-- the last stands below its place alone
+pub first_alone : (ys : List Entry) (place : ℕ) → length ys ≤ 2 * place + 2 → IsFirstBelow ys (2 * place + 1)
+first_alone ys place few = λ k d more inside at.
+    let alone : Entry = get_or ys (2 * place + 1) d in
+    let e : k ≡ 2 * place + 1 = omega (arith, at) in
+    same_not_before (get_or ys k d) alone alone alone (ap (λ m. get_or ys m d) e) refl (IsLess-irrefl alone.key)
 
 -- ---- down for another
 
@@ -55,24 +71,9 @@ pub record Lowering (xs : List Entry) (bottom : ℕ) (x : Entry) (ys : List Entr
   pub over : (d : Entry) → 0 < place → StandsAbove (get_or ys (parent place) d) ys place
   pub moved : IsPermutation (set xs bottom x) (set ys place x)
 
--- at the bottom nothing stands below
-above_none : (xs : List Entry) (x : Entry) (i : ℕ) → length xs ≤ 2 * i + 1 → StandsAbove x xs i
-above_none xs x i bottom = λ k d more inside under. absurd (omega arith)
-
-pub lowering_begins : (xs : List Entry) (bottom : ℕ) (x : Entry) → bottom < length xs → length xs ≤ 2 * bottom + 1 → IsHeapBut xs bottom
-    → Lowering xs bottom x xs bottom
-lowering_begins xs bottom x within least heap =
-    record {
-      within = within;
-      long = refl;
-      heap = heap;
-      above = above_none xs x bottom least;
-      over = λ d more. above_none xs (get_or xs (parent bottom) d) bottom least;
-      moved = IsPermutation-refl (set xs bottom x);
-    }
-
 -- one more moves down, which x comes before
-module _ (ys : List Entry) (place : ℕ) (v : Entry) (more : 0 < place) (within : place < length ys) (is : (d : Entry) → v ≡ get_or ys (parent place) d) where
+module _ (ys : List Entry) (place : ℕ) (v : Entry) (more : 0 < place) (within : place < length ys)
+    (is : (d : Entry) → v ≡ get_or ys (parent place) d) where
   at_place : (k : ℕ) (d : Entry) → k ≡ place → get_or (set ys place v) k d ≡ v
   at_place k d at = get_or-set_at ys place k v d at within
 
@@ -105,8 +106,10 @@ module _ (ys : List Entry) (place : ℕ) (v : Entry) (more : 0 < place) (within 
       λ u e h. same_not_before (get_or (set ys place v) k d) x u x e refl h in
       elim (cases_eq k place) [
         | inl at ↦ same v (at_place k d at) behind
-        | inr apart ↦ same here (at_other k d apart) (not_before x.key v.key here.key behind
-            (same_not_before here v here (get_or ys (parent k) d) refl (is d ∙ ap (λ m. get_or ys m d) (sym under)) (heap k d positive few apart)))
+        | inr apart ↦
+            let there : v ≡ get_or ys (parent k) d = is d ∙ ap (λ m. get_or ys m d) (sym under) in
+            let after : ¬ IsLess here.key v.key = same_not_before here v here (get_or ys (parent k) d) refl there (heap k d positive few apart) in
+            same here (at_other k d apart) (not_before x.key v.key here.key behind after)
       ]
 
 pub lowering_steps : (xs : List Entry) (bottom : ℕ) (x : Entry) (ys : List Entry) (place : ℕ) (v : Entry) → 0 < place
@@ -115,17 +118,22 @@ pub lowering_steps : (xs : List Entry) (bottom : ℕ) (x : Entry) (ys : List Ent
 lowering_steps xs bottom x ys place v more is less h =
     let long : length (set ys place v) ≡ length ys = length-set ys place v in
     let upper : parent place < length ys = omega (arith, h.within) in
+    let apart : place ≢ parent place = λ e. absurd (omega arith) in
+    let above : (u : Entry) → ¬ IsLess v.key u.key → StandsAbove u (set ys place v) (parent place) =
+    λ u behind. lowered_above ys place v more h.within is u behind h.heap in
     record {
       within = omega (arith, h.within, long);
       long = long ∙ h.long;
       heap = lowered_heap ys place v more h.within is h.heap (λ d. h.over d more);
-      above = lowered_above ys place v more h.within is x (one_way _ _ less) h.heap;
-      over = λ d positive. lowered_above ys place v more h.within is (get_or (set ys place v) (parent (parent place)) d)
-          (same_not_before _ _ _ _ (is d) (at_other ys place v more h.within is (parent (parent place)) d (λ e. absurd (omega arith))) (h.heap (parent place) d positive upper (λ e. absurd (omega arith)))) h.heap;
-      moved = IsPermutation-trans _ _ _ h.moved (place_changed ys place (parent place) v x h.within upper (λ e. absurd (omega arith)) (is x));
+      above = above x (one_way _ _ less);
+      over = λ d positive. let next : Entry = get_or (set ys place v) (parent (parent place)) d in
+          let same : next ≡ get_or ys (parent (parent place)) d = at_other ys place v more h.within is (parent (parent place)) d (λ e. absurd (omega arith)) in
+          above next (same_not_before _ _ _ _ (is d) same (h.heap (parent place) d positive upper (λ e. apart (sym e))));
+      moved = IsPermutation-trans _ _ _ h.moved (place_changed ys place (parent place) v x h.within upper apart (is x));
     }
 
-pub lowering_ends : (xs : List Entry) (bottom : ℕ) (x : Entry) (ys : List Entry) (place : ℕ) → ((d : Entry) → 0 < place → ¬ IsLess x.key (get_or ys (parent place) d).key)
+pub lowering_ends : (xs : List Entry) (bottom : ℕ) (x : Entry) (ys : List Entry) (place : ℕ)
+    → ((d : Entry) → 0 < place → ¬ IsLess x.key (get_or ys (parent place) d).key)
     → Lowering xs bottom x ys place → IsHeap (set ys place x)
 lowering_ends xs bottom x ys place stays h = heap_written ys place x h.heap h.within stays h.above
 
@@ -133,5 +141,5 @@ lowering_ends xs bottom x ys place stays h = heap_written ys place x h.heap h.wi
 pub first_exchanged : (xs ys zs : List Entry) (place : ℕ) (x first : Entry) → 0 < length xs → first ≡ get_or xs 0 first → IsMovedUp xs ys place
     → IsPermutation (set ys place x) zs → IsPermutation (x ∷ xs) (first ∷ zs)
 first_exchanged xs ys zs place x first some is up down =
-    IsPermutation-trans _ _ _ (up x)
-    (subst (λ (u : Entry). IsPermutation (get_or xs 0 x ∷ set ys place x) (u ∷ zs)) (sym (is ∙ get_or_default xs 0 first x some)) (IsPermutation-cons _ _ _ down))
+    let same : get_or xs 0 x ≡ first = sym (is ∙ get_or_default xs 0 first x some) in
+    IsPermutation-trans _ _ _ (up.moved x) (subst (λ (u : Entry). IsPermutation (get_or xs 0 x ∷ set ys place x) (u ∷ zs)) same (IsPermutation-cons _ _ _ down))

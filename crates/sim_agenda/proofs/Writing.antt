@@ -10,7 +10,7 @@ use Rattle.sim_agenda.specs.Heaps.{IsHeap}
 use Rattle.sim_agenda.proofs.Heaping.{first_taken}
 
 -- what was written through the slice is all
-pub written : (ys more : List Entry) (n : ℕ) → length ys ≡ n → take n (ys ++ more) ≡ ys
+written : (ys more : List Entry) (n : ℕ) → length ys ≡ n → take n (ys ++ more) ≡ ys
 written ys more n long = ap (λ m. take m (ys ++ more)) (sym long) ∙ take-append_seam ys more
 
 -- what stands behind the others is written there again
@@ -25,7 +25,8 @@ pub pushed : (xs ys zs us more : List Entry) (n place : ℕ) (x : Entry) → ys 
 pushed xs ys zs us more n place x is at moved long all =
     let front : IsPermutation (x ∷ xs) (xs ++ x ∷ []) = IsPermutation-sym (xs ++ x ∷ []) (x ∷ xs) (IsPermutation-to_front xs x) in
     let all_moved : IsPermutation (xs ++ x ∷ []) zs = subst (λ us. IsPermutation us zs) (same_written xs ys place x is at ∙ is) moved in
-    subst (IsPermutation (x ∷ xs)) (sym (all ∙ written zs more n long)) (IsPermutation-trans (x ∷ xs) (xs ++ x ∷ []) zs front all_moved)
+    subst (IsPermutation (x ∷ xs)) (sym (all ∙ written zs more n long))
+    (IsPermutation-trans (x ∷ xs) (xs ++ x ∷ []) zs front all_moved)
 
 -- the last entry is taken off, and then put in for the first
 pub popped : (xs others zs us more : List Entry) (n : ℕ) (last x : Entry) → IsHeap xs → xs ≡ others ++ last ∷ [] → 0 < length others
@@ -33,4 +34,5 @@ pub popped : (xs others zs us more : List Entry) (n : ℕ) (last x : Entry) → 
 popped xs others zs us more n last x heap is some moved first long all =
     let top : x ≡ get_or xs 0 x = first ∙ sym (get_or_append_left others (last ∷ []) x 0 some) ∙ ap (λ vs. get_or vs 0 x) (sym is) in
     let front : IsPermutation xs (last ∷ others) = subst (λ vs. IsPermutation vs (last ∷ others)) (sym is) (IsPermutation-to_front others last) in
-    subst (TakesFirst xs x) (sym (all ∙ written zs more n long)) (first_taken xs zs x heap top (IsPermutation-trans xs (last ∷ others) (x ∷ zs) front moved))
+    subst (TakesFirst xs x) (sym (all ∙ written zs more n long))
+    (first_taken xs zs x heap top (IsPermutation-trans xs (last ∷ others) (x ∷ zs) front moved))

@@ -28,6 +28,9 @@ abbrev pub StandsAbove : Entry → List Entry → ℕ → Type 0
 StandsAbove x xs i = (k : ℕ) (d : Entry) → 0 < k → k < length xs → parent k ≡ i
     → ¬ IsLess (slice_index_or xs k d).key x.key
 
--- with any entry written at the place, all are there but the first
-abbrev pub IsMovedUp : List Entry → List Entry → ℕ → Type 0
-IsMovedUp old new place = (x : Entry) → IsPermutation (x ∷ old) (slice_index_or old 0 x ∷ set new place x)
+-- the first is gone, and with any other written at the place all are there
+pub record IsMovedUp (old new : List Entry) (place : ℕ) : Type 0 where
+  pub within : place < length new
+  pub len : length new ≡ length old
+  pub heap : IsHeap new
+  pub moved : (x : Entry) → IsPermutation (x ∷ old) (slice_index_or old 0 x ∷ set new place x)

@@ -17,24 +17,19 @@ fn parent(place: usize) -> usize
     (place - 1) / 2
 }
 
-// Of the places right below one, that of the entry that is due first.
+// Of the two places right below one, that of the entry that is due first.
 fn first_below(entries: &[Entry], place: usize, count: &mut Count) -> usize
-    requires inner { 2 * place + 1 < length entries.now }
+    requires inner { 2 * place + 2 < length entries.now }
     requires count { count.old < 2 ^ 64 - 1 }
     ensures within { result < length entries.now }
     ensures below { heaps.parent result ≡ place }
     ensures lower { place < result }
     ensures first { IsFirstBelow entries.now result }
-    ensures rises { count.old ≤ count.new }
-    ensures once { count.new ≤ count.old + 1 }
+    ensures once { count.new ≡ count.old + 1 }
 {
-    let left = 2 * place + 1;
-    let right = left + 1;
-    if right == entries.len() {
-        return left;
-    }
+    let right = 2 * place + 2;
     // without a branch, which would be guessed wrong half of the time
-    left + entries[right].key.less(&entries[left].key, count) as usize
+    right - entries[right - 1].key.less(&entries[right].key, count) as usize
 }
 
 // From the top to the bottom, copies to each place the entry below it that is due first. The first is gone then, and the
@@ -43,18 +38,20 @@ fn move_up(entries: &mut [Entry], count: &mut Count) -> usize
     requires some { 0 < length entries.old }
     requires heap { IsHeap entries.old }
     requires count { count.old + length entries.old < 2 ^ 64 }
-    ensures within { result < length entries.new }
     ensures bottom { length entries.new ≤ 2 * result + 1 }
-    ensures heap { IsHeap entries.new }
-    ensures len { length entries.new ≡ length entries.old }
     ensures moved { IsMovedUp entries.old entries.new result }
     ensures count { ComparesAtLevels result count.old count.new }
 {
     let mut place = 0;
-    while 2 * place + 1 < entries.len() {
+    while 2 * place + 2 < entries.len() {
         let child = first_below(entries, place, count);
         entries[place] = entries[child];
         place = child;
+    }
+    let left = 2 * place + 1;
+    if left < entries.len() {
+        entries[place] = entries[left];
+        place = left;
     }
     place
 }

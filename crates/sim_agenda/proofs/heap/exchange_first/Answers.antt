@@ -7,7 +7,7 @@ pub put_from-requires-clause-count : goal.put_from-requires-clause-count
 put_from-requires-clause-count c =
     let few : length c.args.entries.now * 32 < 2 ^ 63 = search rules in
     let up = c.move_up-bottom.ensures in
-    omega (arith, up.within, up.len, levels_few_enough _ _ _ up.count)
+    omega (arith, up.moved.within, up.moved.len, levels_few_enough _ _ _ up.count)
 
 pub returns-clause-moved : goal.returns-clause-moved
 returns-clause-moved c =
@@ -17,4 +17,4 @@ returns-clause-moved c =
 pub returns-clause-count : goal.returns-clause-count
 returns-clause-count c =
     let up = c.move_up-bottom.ensures in
-    both_within (length c.args.entries.now + 1) c.move_up-bottom.result _ c.move_up-bottom.new.count _ (omega (arith, up.within, up.len)) up.count c.put_from.ensures.count
+    both_within (length c.args.entries.now + 1) c.move_up-bottom.result _ c.move_up-bottom.new.count _ (omega (arith, up.moved.within, up.moved.len)) up.count c.put_from.ensures.count
