@@ -1,7 +1,7 @@
 //! Where a line is put together.
-ghost use Rattle.std.specs.Prelude.{◌≡◌, ◌+◌, ◌<◌, ◌≤◌, [], ◌∷◌, ◌++◌, length};
+ghost use Rattle.std.specs.Prelude.{◌≡◌, ◌+◌, ◌<◌, ◌≤◌, [], ◌∷◌, ◌++◌, length, decimal};
 
-use arrayvec::ArrayVec;
+use itoa::write_digits;
 use std::marker::Model;
 
 /// No line is longer, in bytes.
@@ -10,15 +10,51 @@ pub(crate) const LONGEST_LINE: usize = 160;
 /// A line, as bytes. It takes no memory.
 #[derive(Drop)]
 pub struct LineBuf {
-    bytes: ArrayVec<u8, LONGEST_LINE>,
+    bytes: [u8; LONGEST_LINE],
+    /// How many of them are the line.
+    count: usize,
 }
 
 impl Model for LineBuf {
-    ghost use Rattle.std.specs.Prelude.{List, ℕ};
+    ghost use Rattle.std.specs.Prelude.{List, ℕ, ◌≤◌, take};
 
     ghost Value = { List ℕ };
 
-    ghost view = { λ a. a.bytes.items };
+    ghost view = { λ a. take a.count a.bytes };
+
+    ghost invariant = { λ a. a.count ≤ 160 };
+}
+
+// How many digits a number has.
+#[tactic(auto, using(itoa::proofs::Decimal::length_four, crate::proofs::Digits::most_digits))]
+fn digit_count(number: u64) -> usize
+    ensures count { result ≡ length (decimal number) }
+    ensures few { result ≤ 20 }
+{
+    let mut left = number;
+    let mut count = 0;
+    while left >= 10_000 {
+        left /= 10_000;
+        count += 4;
+    }
+    count + few_digits(left)
+}
+
+// How many digits a number has that is below ten thousand.
+#[tactic(auto, using(itoa::proofs::Decimal::length_one, itoa::proofs::Decimal::length_two, itoa::proofs::Decimal::length_pair))]
+fn few_digits(number: u64) -> usize
+    requires { number < 10000 }
+    ensures { result ≡ length (decimal number) }
+{
+    if number < 10 {
+        1
+    } else if number < 100 {
+        2
+    } else if number < 1_000 {
+        3
+    } else {
+        4
+    }
 }
 
 impl LineBuf {
@@ -27,7 +63,8 @@ impl LineBuf {
         ensures { result ≡ [] }
     {
         LineBuf {
-            bytes: ArrayVec::new(),
+            bytes: [0; LONGEST_LINE],
+            count: 0,
         }
     }
 
@@ -35,13 +72,13 @@ impl LineBuf {
     pub fn bytes(&self) -> &[u8]
         ensures { result.now ≡ self.now }
     {
-        self.bytes.as_slice()
+        &self.bytes[..self.count]
     }
 
     pub(crate) fn clear(&mut self)
         ensures { self.new ≡ [] }
     {
-        self.bytes.clear();
+        self.count = 0;
     }
 
     pub(crate) fn push(&mut self, byte: u8)
@@ -49,7 +86,8 @@ impl LineBuf {
         ensures items { self.new ≡ self.old ++ byte ∷ [] }
         ensures length { length self.new ≡ length self.old + 1 }
     {
-        self.bytes.push(byte);
+        self.bytes[self.count] = byte;
+        self.count += 1;
     }
 
     pub(crate) fn append(&mut self, text: &[u8])
@@ -57,9 +95,24 @@ impl LineBuf {
         ensures items { self.new ≡ self.old ++ text.now }
         ensures length { length self.new ≡ length self.old + length text.now }
     {
-        match self.bytes.try_extend_from_slice(text) {
-            Ok(()) => {}
-            Err(_) => unreachable!(),
+        let end = self.count + text.len();
+        self.bytes[self.count..end].copy_from_slice(text);
+        self.count = end;
+    }
+
+    /// Appends the digits of a number, written where they stay. Many numbers have just one.
+    #[tactic(auto, using(std::proofs::lemmas::Fmt::decimal_digit))]
+    pub(crate) fn append_digits(&mut self, number: u64)
+        requires { length self.old + 20 ≤ 160 }
+        ensures items { self.new ≡ self.old ++ decimal number }
+        ensures length { length self.new ≤ length self.old + 20 }
+    {
+        if number < 10 {
+            self.push(b'0' + number as u8);
+        } else {
+            let end = self.count + digit_count(number);
+            write_digits(number, &mut self.bytes, end);
+            self.count = end;
         }
     }
 }

@@ -5,7 +5,6 @@ ghost use Rattle.std.specs.List.{join_with_byte};
 ghost use Rattle.sim_trace.specs.Texts.{AreNamesShort, kind_word, end_word, outcome_words, port_word, line_text};
 
 use crate::buffer::LineBuf;
-use itoa::{Buffer, Integer};
 use sim_types::{End, EventId, EventKind, Line, Name, Outcome, ProcId};
 
 /// Puts a line of a trace into the buffer, with a line feed at its end, in place of what stood there. The ports are
@@ -60,10 +59,10 @@ fn append_event(
 
 /// Appends what an event is ordered by.
 fn append_key(time: i64, priority: u8, number: u64, out: &mut LineBuf)
-    requires { length out.old + 63 ≤ 160 }
+    requires { length out.old + 64 ≤ 160 }
     ensures items { out.new
         ≡ out.old ++ 64 ∷ signed_decimal time ++ 32 ∷ decimal priority ++ 32 ∷ decimal number }
-    ensures len { length out.new ≤ length out.old + 63 }
+    ensures len { length out.new ≤ length out.old + 64 }
 {
     out.push(b'@');
     append_signed_digits(time, out);
@@ -73,9 +72,9 @@ fn append_key(time: i64, priority: u8, number: u64, out: &mut LineBuf)
 
 /// Appends a space and the words of the outcome.
 fn append_outcome(outcome: Outcome, out: &mut LineBuf)
-    requires { length out.old + 47 ≤ 160 }
+    requires { length out.old + 48 ≤ 160 }
     ensures items { out.new ≡ out.old ++ 32 ∷ join_with_byte 32 (outcome_words outcome) }
-    ensures len { length out.new ≤ length out.old + 47 }
+    ensures len { length out.new ≤ length out.old + 48 }
 {
     match outcome {
         Outcome::Ok(value) => {
@@ -143,54 +142,30 @@ fn append_number(number: u64, out: &mut LineBuf)
     ensures len { length out.new ≤ length out.old + 21 }
 {
     out.push(b' ');
-    append_digits(number, out);
+    out.append_digits(number);
 }
 
 /// Appends a space and the number, which may be below zero.
 fn append_signed(number: i64, out: &mut LineBuf)
-    requires { length out.old + 21 ≤ 160 }
+    requires { length out.old + 22 ≤ 160 }
     ensures items { out.new ≡ out.old ++ 32 ∷ signed_decimal number }
-    ensures len { length out.new ≤ length out.old + 21 }
+    ensures len { length out.new ≤ length out.old + 22 }
 {
     out.push(b' ');
     append_signed_digits(number, out);
 }
 
 /// Appends the number, which may be below zero.
+#[tactic(auto, using(itoa::proofs::Decimal::minus_first))]
 fn append_signed_digits(number: i64, out: &mut LineBuf)
-    requires { length out.old + 20 ≤ 160 }
+    requires { length out.old + 21 ≤ 160 }
     ensures items { out.new ≡ out.old ++ signed_decimal number }
-    ensures len { length out.new ≤ length out.old + 20 }
+    ensures len { length out.new ≤ length out.old + 21 }
 {
-    if number >= 0 {
-        append_digits(number as u64, out);
-    } else {
-        append_formatted(number, out);
+    if number < 0 {
+        out.push(b'-');
     }
-}
-
-/// Appends the number. Many have one digit, which is written as it is.
-#[tactic(auto, using(std::proofs::lemmas::Fmt::decimal_digit))]
-fn append_digits(number: u64, out: &mut LineBuf)
-    requires { length out.old + 20 ≤ 160 }
-    ensures items { out.new ≡ out.old ++ decimal number }
-    ensures len { length out.new ≤ length out.old + 20 }
-{
-    if number < 10 {
-        out.push(b'0' + number as u8);
-    } else {
-        append_formatted(number, out);
-    }
-}
-
-/// Appends the number, whatever it is.
-fn append_formatted<I: Integer>(number: I, out: &mut LineBuf)
-    requires { length out.old + I.MAX_STR_LEN ≤ 160 }
-    ensures items { out.new ≡ out.old ++ I.text number }
-    ensures len { length out.new ≤ length out.old + I.MAX_STR_LEN }
-{
-    let mut digits = Buffer::new();
-    out.append(digits.format(number).as_bytes());
+    out.append_digits(number.unsigned_abs());
 }
 
 /// Appends a space and the word.
