@@ -250,8 +250,8 @@ module _ {B : Type 0} (live : List (RecordOf B)) (i : ℕ) (old new : RecordOf B
   changed_indexed : (places : List (Option ℕ)) → AreIndexed places live → new.id.0 ≡ old.id.0 → AreIndexed places (slice_set live i new)
   changed_indexed places h same = subst (HavePlaces places) (sym (map-set_same (λ r. r.id.0) live i new old (same ∙ ap (λ (r : RecordOf B). r.id.0) is))) h
 
-  pub changed_stored : (places : List (Option ℕ)) (room : ℕ) → AreStored places room live → i < length live → new.id.0 ≡ old.id.0 → new.room ≡ old.room →
-      AreStored places room (slice_set live i new)
+  pub changed_stored : (places : List (Option ℕ)) (room : ℕ) → AreStored places room live → i < length live → new.id.0 ≡ old.id.0 →
+      new.room ≡ old.room → AreStored places room (slice_set live i new)
   changed_stored places room h below same as_much = record {
     indexed = changed_indexed places h.indexed same;
     rooms = All-set (λ r. r.room ≡ room) live i new (as_much ∙ (ap (λ (r : RecordOf B). r.room) is ∙ h.rooms i old below)) h.rooms;
@@ -301,14 +301,16 @@ module _ {B : Type 0} (live : List (RecordOf B)) (r : RecordOf B) (old new : Lis
       let sets-so : SetsPlace r.id.0 (Some (length (numbers live))) old new = subst (λ n. SetsPlace r.id.0 (Some n) old new) (sym (few live)) sets in
       subst (HavePlaces new) (sym (numbers_added live r)) (one_more_placed r.id.0 old new (numbers live) h not_placed sets-so)
 
-  pub added_stored : (room : ℕ) → All (λ x. x.room ≡ room) live → r.room ≡ room → SetsPlace r.id.0 (Some (length live)) old new → AreStored new room (live ++ r ∷ [])
+  pub added_stored : (room : ℕ) → All (λ x. x.room ≡ room) live → r.room ≡ room → SetsPlace r.id.0 (Some (length live)) old new →
+      AreStored new room (live ++ r ∷ [])
   added_stored room rooms own sets = record {
     indexed = added_indexed sets;
     rooms = All-append (λ x. x.room ≡ room) live (r ∷ []) rooms (All-cons (λ x. x.room ≡ room) r [] own (All-nil (λ x. x.room ≡ room)));
   }
 
 -- how many scopes find room in a record that is found
-room_found : {B : Type 0} (p : ProcId) (room : ℕ) (live : List (RecordOf B)) → All (λ r. r.room ≡ room) live → IfSome (record_of p live) (λ r. r.room ≡ room)
+room_found : {B : Type 0} (p : ProcId) (room : ℕ) (live : List (RecordOf B)) → All (λ r. r.room ≡ room) live →
+    IfSome (record_of p live) (λ r. r.room ≡ room)
 room_found p room [] h = tt
 room_found p room (x ∷ xs) h = by (x.id.0 == p.0) (room_found p room xs (All-tail (λ r. r.room ≡ room) x xs h))
   where
@@ -388,7 +390,8 @@ module _ {B : Type 0} (p : ProcId) (live : List (RecordOf B)) (at : ℕ) (r : Re
           let is : nat_lt at (length remaining) ≡ false = grind (arith, nat_tests, past) in
           rw (is, remaining-is) (last_taken p.0 at old gone gone (numbers live) 0 h there goes (omega (arith, within, past, many-remain)))
 
-  pub taken_stored : (room : ℕ) → All (λ x. x.room ≡ room) live → r ≡ slice_index_or live at r → AreStored (found_there gone remaining at) room (swap_remove live at r)
+  pub taken_stored : (room : ℕ) → All (λ x. x.room ≡ room) live → r ≡ slice_index_or live at r →
+      AreStored (found_there gone remaining at) room (swap_remove live at r)
   taken_stored room rooms is = record {
     indexed = taken_indexed;
     rooms =

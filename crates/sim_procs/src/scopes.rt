@@ -1,5 +1,5 @@
 //! The open scopes of a process.
-ghost use Rattle.std.specs.Prelude.{◌≡◌, ◌<◌, [], ◌∷◌, ◌++◌, length, IfOk};
+ghost use Rattle.std.specs.Prelude.{◌≡◌, ◌<◌, [], ◌∷◌, ◌++◌, length, IfOk, IsOk};
 ghost use Rattle.sim_procs.specs.RecordOf.{innermost, scope_of, without_innermost};
 
 use sim_types::{EventId, Scope};
@@ -28,7 +28,8 @@ impl Model for Scopes {
 impl Scopes {
     /// No scope is open, and so many find room.
     pub fn new(alloc: Global, room: usize) -> Result<Scopes, AllocError>
-        ensures { IfOk result (λ x. x ≡ record { scopes = []; room = room }) }
+        ensures made { IfOk result (λ x. x ≡ record { scopes = []; room = room }) }
+        ensures none { room ≡ 0 → IsOk result }
     {
         Ok(Scopes {
             values: Vec::with_capacity(alloc, room)?,

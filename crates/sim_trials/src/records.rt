@@ -1,8 +1,8 @@
 //! Live processes and their records.
-ghost use Rattle.std.specs.Prelude.{◌<◌};
+ghost use Rattle.std.specs.Prelude.{◌≡◌, ◌<◌, []};
 ghost use Rattle.sim_machine.specs.NumberBounds.{most_events};
 
-use sim_procs::{ProcRecord, Procs};
+use sim_procs::{ProcRecord, Procs, Scopes};
 use sim_types::{EventId, ProcId, Scope};
 use std::process::Abort;
 use std::test::Fail;
@@ -11,12 +11,15 @@ use std::test::Fail;
 const REQUEST: EventId = EventId(21);
 
 /// A process more, which waits for an event and has a scope open.
-fn comes(rt: &impl Abort, procs: &mut Procs<u8>, id: ProcId, target: u64)
-    requires { id.0 < most_events }
+fn comes(rt: &impl Abort, procs: &mut Procs<u8>, id: ProcId, target: u64, scopes: Scopes)
+    requires number { id.0 < most_events }
+    requires scopes { scopes ≡ record { scopes = []; room = 1 } }
+    requires room { procs.old.room ≡ 1 }
+    ensures room { procs.new.room ≡ 1 }
 {
     assert!(rt; procs.reserve().is_ok());
     assert!(rt; !procs.is_alive(id));
-    procs.add(id, 0, EventId(target));
+    procs.add(id, 0, EventId(target), scopes);
     let scope = Scope {
         request: REQUEST,
         res: 3,
@@ -49,7 +52,7 @@ fn leaves(procs: &mut Procs<u8>, id: ProcId) -> bool {
 }
 
 /// Leaves what is open and spends the record.
-#[tactic(auto, using(sim_procs::proofs::Scopes::none_left, sim_procs::proofs::Scopes::fewer_left))]
+#[tactic(auto, using(sim_procs::proofs::OpenScopes::none_left, sim_procs::proofs::OpenScopes::fewer_left))]
 fn spend(mut record: ProcRecord<u8>) {
     while let Some(_scope) = record.pop_scope() {}
     record.end();
@@ -67,10 +70,14 @@ fn ends(procs: &mut Procs<u8>, id: ProcId) -> bool {
 }
 
 /// One process leaves its scope and stays alive; the other ends with its scope open.
-fn live(rt: &impl Abort, procs: &mut Procs<u8>) {
+fn live(rt: &impl Abort, procs: &mut Procs<u8>, first: Scopes, second: Scopes)
+    requires first { first ≡ record { scopes = []; room = 1 } }
+    requires second { second ≡ record { scopes = []; room = 1 } }
+    requires room { procs.old.room ≡ 1 }
+{
     let (stays, goes) = (ProcId(9), ProcId(5));
-    comes(rt, procs, goes, 11);
-    comes(rt, procs, stays, 12);
+    comes(rt, procs, goes, 11, first);
+    comes(rt, procs, stays, 12, second);
     assert!(rt; procs.is_alive(stays));
     let _before = procs.replace_target(stays, EventId(30));
     assert!(rt; waits(procs, goes, 11) && waits(procs, stays, 30));
@@ -83,8 +90,10 @@ fn live(rt: &impl Abort, procs: &mut Procs<u8>) {
 /// A process that is still alive at the end is abandoned.
 #[test]
 fn processes_come_and_go(rt: HostRuntime) -> Result<(), Fail> {
-    let mut procs = Procs::new(rt.alloc())?;
-    live(&rt, &mut procs);
+    let first = Scopes::new(rt.alloc(), 1)?;
+    let second = Scopes::new(rt.alloc(), 1)?;
+    let mut procs = Procs::new(rt.alloc(), 1)?;
+    live(&rt, &mut procs, first, second);
     procs.abandon();
     Ok(())
 }

@@ -7,7 +7,6 @@ use Rattle.sim_happen_model.specs.HappenOf.{held}
 use Rattle.sim_procs.specs.RecordOf.{begun_record}
 use Rattle.sim_machine.specs.Bodies.{start_of}
 use Rattle.sim_steps_model.specs.Becoming.{AreFew}
-use Rattle.sim_steps_model.specs.Holding.{StandInPlaces}
 use Rattle.sim_steps_model.specs.Opening.{next_init, next_process}
 use Rattle.sim_steps_law.proofs.Beginning.{arguments_still, begun_becomes, begun_few, begun_kept, begun_stand, kept_still}
 use Rattle.sim_steps_law.proofs.Keeping.{few_weaker, held_by_few}

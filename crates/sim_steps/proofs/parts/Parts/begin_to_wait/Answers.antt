@@ -1,4 +1,4 @@
-use Rattle.std.proofs.Common.{◌∙◌, refl, sym}
+use Rattle.std.proofs.Common.{◌∙◌, refl}
 use Rattle.sim_steps_law.proofs.Running.{mapped_is}
 use Rattle.sim_steps_law.proofs.Waiting.{waited_owes}
 use Rattle.sim_steps.proofs.parts.Parts.begin_to_wait.Goals as goal

@@ -1,5 +1,4 @@
-use Rattle.std.proofs.Common.{refl, ap}
-use Rattle.sim_happen_model.specs.HappenOf.{HappenOf}
+use Rattle.std.proofs.Common.{refl}
 use Rattle.sim_steps_model.specs.PartsOf.{plan_of}
 use Rattle.sim_steps_law.proofs.Accounting.{owing_holder}
 use Rattle.sim_steps_law.proofs.Calls.{trigger_called}

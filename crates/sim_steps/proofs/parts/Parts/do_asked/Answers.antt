@@ -1,4 +1,4 @@
-use Rattle.std.proofs.Common.{◌^◌, [], ◌∷◌, rules, w64, FitsSigned, ◌∙◌, ap, refl, arith, true}
+use Rattle.std.proofs.Common.{[], ◌∷◌, rules, w64, FitsSigned, ◌∙◌, ap, refl, arith, true}
 use Rattle.std.proofs.lemmas.Int.{to_z-of_z}
 use Rattle.sim_types.specs.declared.event.Signal.TheVariants as signal
 use Rattle.sim_types.specs.declared.op.Op.TheVariants as op

@@ -1,4 +1,4 @@
-use Rattle.std.proofs.Common.{◌≡◌, [], ◌∙◌, refl, sym, subst}
+use Rattle.std.proofs.Common.{◌≡◌, [], refl, sym, subst}
 use Rattle.std.specs.Prelude.{IfSome, IsSomeAnd}
 use Rattle.sim_steps_model.specs.Holding.{StandInPlaces}
 use Rattle.sim_steps_law.proofs.EndedProcesses.{ended_owing, ended_becomes, owes_places, owes_target}

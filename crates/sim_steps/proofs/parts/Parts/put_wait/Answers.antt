@@ -1,6 +1,5 @@
 use Rattle.std.proofs.Common.{rules, w64, arith, ◌^◌, ◌+◌, FitsSigned}
 use Rattle.std.proofs.lemmas.Int.{to_z-of_z}
-use Rattle.sim_machine.specs.Effect.{with_move}
 use Rattle.sim_machine.specs.Processes.{wait}
 use Rattle.sim_steps_law.proofs.Accounting.{owing_after}
 use Rattle.sim_steps_law.proofs.Becoming.{becomes_within}
