@@ -1,5 +1,6 @@
 -- The record of one process is changed, and the others stay.
-use Rattle.std.proofs.Common.{◌≡◌, ◌≢◌, ℕ, Bool, true, false, List, [], ◌∷◌, Option, Some, refl, sym, ap, subst, ◌∙◌, arith, ⊎_elim, map, cond, if◌then◌else◌}
+use Rattle.std.proofs.Common.{◌≡◌, ◌≢◌, ℕ, Bool, true, false, List, [], ◌∷◌, Option, Some, refl, sym, ap, subst, ◌∙◌, arith, ⊎_elim, map, cond}
+use Rattle.std.proofs.Common.{if◌then◌else◌}
 use Rattle.std.specs.Prelude.{All, AllPairs, ◌==◌}
 use Rattle.std.specs.List.Sorted.{IsPermutation}
 use Rattle.std.specs.Option.{option_map}
@@ -59,21 +60,24 @@ changed_distinct p changes s keeps h =
 
 -- ---- a body that stays as it is
 
-found_first : {X Y : Type 0} (f : X → Y) (m n : ℕ) (x : X) (o : Option X) (y : Y) → m ≡ n → option_map f (cond (m == n) (Some x) o) ≡ Some y → f x ≡ y
+found_first : {X Y : Type 0} (f : X → Y) (m n : ℕ) (x : X) (o : Option X) (y : Y) → m ≡ n →
+    option_map f (cond (m == n) (Some x) o) ≡ Some y → f x ≡ y
 found_first f m n x o y same h = same_Some (f x) y (grind (arith, nat_tests))
 
-found_later : {X Y : Type 0} (f : X → Y) (m n : ℕ) (x : X) (o : Option X) (y : Y) → m ≢ n → option_map f (cond (m == n) (Some x) o) ≡ Some y →
-    option_map f o ≡ Some y
+found_later : {X Y : Type 0} (f : X → Y) (m n : ℕ) (x : X) (o : Option X) (y : Y) → m ≢ n →
+    option_map f (cond (m == n) (Some x) o) ≡ Some y → option_map f o ≡ Some y
 found_later f m n x o y differ h = grind (arith, nat_tests)
 
 -- of processes that are told apart by their numbers one alone has this number, and so this body
 abbrev HasBody : {B : Type 0} → ProcId → B → RecordOf B → Type 0
 HasBody p b r = r.id.0 ≡ p.0 → r.body ≡ b
 
-others_have : {B : Type 0} (p q : ProcId) (b : B) (live : List (RecordOf B)) → q.0 ≡ p.0 → All (λ x. q ≢ x.id) (map process_of live) → All (HasBody p b) live
+others_have : {B : Type 0} (p q : ProcId) (b : B) (live : List (RecordOf B)) → q.0 ≡ p.0 → All (λ x. q ≢ x.id) (map process_of live) →
+    All (HasBody p b) live
 others_have p q b [] same h = All-nil (HasBody p b)
 others_have p q b (x ∷ live) same h =
-    All-cons (HasBody p b) x live (λ is. absurd (All-head (λ y. q ≢ y.id) (process_of x) (map process_of live) h (same_process q x.id (same ∙ sym is))))
+    All-cons (HasBody p b) x live
+    (λ is. absurd (All-head (λ y. q ≢ y.id) (process_of x) (map process_of live) h (same_process q x.id (same ∙ sym is))))
     (others_have p q b live same (All-tail (λ y. q ≢ y.id) (process_of x) (map process_of live) h))
 
 all_have : {B : Type 0} (p : ProcId) (b : B) (live : List (RecordOf B)) → AllPairs (λ x y. x.id ≢ y.id) (map process_of live) →
@@ -84,21 +88,25 @@ all_have {B} p b (r ∷ live) apart h =
     let Apart : ProcessOf B → ProcessOf B → Type 0 = λ x y. x.id ≢ y.id in
     All-cons (HasBody p b) r live (λ same. found_first body r.id.0 p.0 r (record_of p live) b same h)
     (⊎_elim (λ same. others_have p r.id b live same (AllPairs-head Apart (process_of r) (map process_of live) apart))
-    (λ differ. all_have p b live (AllPairs-tail Apart (process_of r) (map process_of live) apart) (found_later body r.id.0 p.0 r (record_of p live) b differ h))
+    (λ differ. all_have p b live (AllPairs-tail Apart (process_of r) (map process_of live) apart)
+    (found_later body r.id.0 p.0 r (record_of p live) b differ h))
     (cases_eq r.id.0 p.0))
 
 stays : {X : Type 0} {xs ys : List X} (m n : ℕ) (y x : X) → (m ≡ n → y ≡ x) → xs ≡ ys → (if m == n then y else x) ∷ xs ≡ x ∷ ys
 stays m n y x same h = grind (arith, nat_tests)
 
-same_bodies : {B : Type 0} (p : ProcId) (b : B) (live : List (RecordOf B)) → All (HasBody p b) live → change_record p (λ r. record r { body = b }) live ≡ live
+same_bodies : {B : Type 0} (p : ProcId) (b : B) (live : List (RecordOf B)) → All (HasBody p b) live →
+    change_record p (λ r. record r { body = b }) live ≡ live
 same_bodies p b [] h = refl
 same_bodies p b (r ∷ live) h =
     stays r.id.0 p.0 (record r { body = b }) r (λ same. subst (λ x. record r { body = x } ≡ r) (All-head (HasBody p b) r live h same) refl)
     (same_bodies p b live (All-tail (HasBody p b) r live h))
 
 -- so where that process gets the body that it had, nothing is changed
-pub unchanged_body : {B : Type 0} (p : ProcId) (b : B) (live : List (RecordOf B)) (processes : List (ProcessOf B)) → IsPermutation processes (map process_of live) →
-    AllPairs (λ x y. x.id ≢ y.id) processes → option_map (λ r. r.body) (record_of p live) ≡ Some b → change_record p (λ r. record r { body = b }) live ≡ live
+pub unchanged_body : {B : Type 0} (p : ProcId) (b : B) (live : List (RecordOf B)) (processes : List (ProcessOf B)) →
+    IsPermutation processes (map process_of live) → AllPairs (λ x y. x.id ≢ y.id) processes →
+    option_map (λ r. r.body) (record_of p live) ≡ Some b → change_record p (λ r. record r { body = b }) live ≡ live
 unchanged_body {B} p b live processes shown apart found =
+    let Apart : ProcessOf B → ProcessOf B → Type 0 = λ x y. x.id ≢ y.id in
     same_bodies p b live
-    (all_have p b live (AllPairs-IsPermutation (λ (x y : ProcessOf B). x.id ≢ y.id) (λ x y differ. λ e. differ (sym e)) processes (map process_of live) shown apart) found)
+    (all_have p b live (AllPairs-IsPermutation Apart (λ x y differ. λ e. differ (sym e)) processes (map process_of live) shown apart) found)

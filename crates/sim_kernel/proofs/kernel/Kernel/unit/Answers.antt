@@ -19,7 +19,8 @@ pub returns-then-unit_quietly-clause-steps : goal.returns-then-unit_quietly-clau
 returns-then-unit_quietly-clause-steps g c =
     let old = c.self.inside.parts in
     rw (← c.self.view_is)
-    (unit_steps g.B.LawfulBody.body old c.self.invariant.fits (g.B.LawfulBody.lawful old.code) old unit.Quiet c.unit_quietly.new.self (as_roomy old) (c.if-unit_quietly.ensures.done refl) c.slots-kept.ensures.needed)
+    (unit_steps g.B.LawfulBody.body old c.self.invariant.fits (g.B.LawfulBody.lawful old.code) old unit.Quiet c.unit_quietly.new.self
+    (as_roomy old) (c.if-unit_quietly.ensures.done refl) c.slots-kept.ensures.needed)
 
 -- ---- any other unit
 
@@ -46,4 +47,5 @@ returns-clause-steps g c =
     let old = c.self.inside.parts in
     let kept = rw (c.if-unit_quietly.ensures.kept refl) at c.reserve.ensures.kept in
     rw (← c.self.view_is)
-    (unit_steps g.B.LawfulBody.body old c.self.invariant.fits (g.B.LawfulBody.lawful old.code) c.reserve.new.self c.unit-unit.result c.unit-unit.new.self kept c.unit-unit.ensures.moves c.slots-kept-2.ensures.needed)
+    (unit_steps g.B.LawfulBody.body old c.self.invariant.fits (g.B.LawfulBody.lawful old.code) c.reserve.new.self c.unit-unit.result
+    c.unit-unit.new.self kept c.unit-unit.ensures.moves c.slots-kept-2.ensures.needed)

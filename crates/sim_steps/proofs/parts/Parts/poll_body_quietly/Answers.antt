@@ -4,15 +4,23 @@ use Rattle.sim_steps.proofs.parts.Parts.poll_body_quietly.Goals as goal
 
 pub body_mut-requires : goal.body_mut-requires
 body_mut-requires g c =
-    record { alive = running_alive g.B.LawfulBody.body _ c.args.event c.args.process c.args.told (rw (← c.self.view_is) at c.requires.stands) (rw (← c.self.view_is) at c.requires.running) }
+    let stands = rw (← c.self.view_is) at c.requires.stands in
+    let running = rw (← c.self.view_is) at c.requires.running in
+    record { alive = running_alive g.B.LawfulBody.body _ c.args.event c.args.process c.args.told stands running }
 
 pub poll_quietly-requires : goal.poll_quietly-requires
 poll_quietly-requires g c =
-    rw (c.requires.code, ← c.self.view_is) (running_can_be_told g.B.LawfulBody.body _ c.args.event c.args.process c.args.told c.body_mut.result.now (rw (← c.self.view_is) at c.requires.stands) (rw (← c.self.view_is) at c.requires.running) c.body_mut.ensures.value (rw (← c.self.view_is) at c.requires.events))
+    let stands = rw (← c.self.view_is) at c.requires.stands in
+    let running = rw (← c.self.view_is) at c.requires.running in
+    let events = rw (← c.self.view_is) at c.requires.events in
+    rw (c.requires.code, ← c.self.view_is)
+    (running_can_be_told g.B.LawfulBody.body _ c.args.event c.args.process c.args.told c.body_mut.result.now stands running c.body_mut.ensures.value events)
 
 pub returns-clause-kept : goal.returns-clause-kept
 returns-clause-kept g c = λ not.
     let stands = c.requires.stands in
+    let live = c.self.inside.processes.live in
+    let shown = rw (← c.self.view_is) at stands.stands.processes in
     let same = c.poll_quietly.ensures.kept not in
-    let unchanged = unchanged_body c.args.process c.body_mut.result.now c.self.inside.processes.live stands.state.processes (rw (← c.self.view_is) at stands.stands.processes) stands.lawful.processes.distinct c.body_mut.ensures.value in
+    let unchanged = unchanged_body c.args.process c.body_mut.result.now live stands.state.processes shown stands.lawful.processes.distinct c.body_mut.ensures.value in
     rw (same, unchanged) c.self.view_is

@@ -12,4 +12,7 @@ returns-clause-done g c = λ yes.
     let reads : ReadsPlaces g.B.LawfulBody.body old.code events place =
     record { places = g.met.B.Body.places old.code; few = g.met.B.Body.few_places old.code; others = g.met.B.Body.other_places_stay old.code } in
     let running : IsRunning c.in-Active.event c.in-Active.process c.in-Active.told old.control = rw (← c.self.view_is, c.in-Active.is) (refl, refl, refl) in
-    quiet_moves g.B.LawfulBody.body events place old c.in-Active.process c.in-Active.event c.in-Active.told reads (g.B.LawfulBody.lawful old.code) c.requires.stands c.requires.events running (c.if-fills_place.ensures refl) c.poll_body_quietly.new.self (c.if-not-poll_body_quietly.ensures.done refl) c.tell_done.new.self c.if-not-poll_body_quietly.ensures.happen c.tell_done.ensures
+    let asks = c.if-not-poll_body_quietly.ensures.done refl in
+    quiet_moves g.B.LawfulBody.body events place old c.in-Active.process c.in-Active.event c.in-Active.told reads (g.B.LawfulBody.lawful old.code)
+    c.requires.stands c.requires.events running (c.if-fills_place.ensures refl) c.poll_body_quietly.new.self asks c.tell_done.new.self
+    c.if-not-poll_body_quietly.ensures.happen c.tell_done.ensures
