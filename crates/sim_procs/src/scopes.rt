@@ -6,8 +6,8 @@ use sim_types::{EventId, Scope};
 use std::alloc::{AllocError, Global};
 use std::marker::Model;
 
-/// The open scopes of one process, outermost first. Memory for as many as find room is taken at once, and none where that is
-/// no scope.
+/// The open scopes of one process, outermost first. Memory for as many as find room is taken at once; where that is none, no
+/// memory is taken.
 #[derive(Drop)]
 pub struct Scopes {
     values: Vec<Scope>,

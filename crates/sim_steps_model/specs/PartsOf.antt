@@ -52,7 +52,7 @@ pub record AreSoundParts {B : Type 0}
   pub ready : IfSome next (IsReady is_for most_open)
 
 -- a kernel: time, what happens in it and the resources, its lists and numbers, what it was opened with, and for how many
--- more live processes there is room, and whether what the process that is made next takes is there already
+-- more live processes there is room, and whether all that the process made next takes is there already
 pub record PartsOf (B Code : Type 0) : Type 0 where
   pub shared : SharedOf
   pub processed : ℕ
@@ -106,7 +106,7 @@ pub record KeepsButRoom {B Code : Type 0} (old new : PartsOf B Code) : Type 0 wh
   pub others : new ≡ record old { shared = new.shared; spare = new.spare; ready = new.ready }
 
 -- room for all that one unit takes: for so many events, each of which may be a condition, for so many callbacks, for one
--- more to wait at each resource, and for one more process, for which what it takes is there
+-- more to wait at each resource, and for one more process, with all that it takes
 pub record HasUnitRoom {B Code : Type 0} (parts : PartsOf B Code) : Type 0 where
   pub events : 40 ≤ parts.shared.happen.spare.events
   pub callbacks : 64 ≤ parts.shared.happen.spare.callbacks
