@@ -3,7 +3,7 @@ use Rattle.std.proofs.Common.{◌≡◌, ◌≢◌, ℕ, ◌+◌, ◌<◌, ◌�
 use Rattle.std.specs.Prelude.{fold, reverse, is_some, IsSome, IsSomeAnd, option_and_then}
 use Rattle.std.specs.Option.{option_map}
 use Rattle.std.proofs.lemmas.Bool.{false≢true}
-use Rattle.std.proofs.lemmas.Option.{none-some, same_Some}
+use Rattle.std.proofs.lemmas.Option.{none-some}
 use Rattle.std.proofs.lemmas.List.{reverse-append}
 use Rattle.std.proofs.lemmas.List.Elements.{All-filter, All-head, All-tail}
 use Rattle.std.proofs.lemmas.List.Kept.{AllPairs-filter}
@@ -30,7 +30,8 @@ use Rattle.sim_steps_model.specs.Dropping.{CanLeave, IsOpenIn, LeavesAll, Leaves
 use Rattle.sim_steps_law.proofs.Keeping.{few_same}
 use Rattle.sim_steps_law.proofs.Becoming.{becomes_as, becomes_then}
 use Rattle.sim_steps_law.proofs.Ending.{record_changed}
-use Rattle.sim_steps_law.proofs.HeldScopes.{none_found, open_still}
+use Rattle.sim_steps_law.proofs.HeldScopes.{none_found}
+use Rattle.sim_steps_law.proofs.LeavingInnermost.{open_still}
 
 -- ---- all scopes are left by leaving the innermost again and again
 

@@ -33,9 +33,11 @@ pub mod Moves
 pub mod AskedResources
 pub mod EnteredScopes
 pub mod AskedScopes
+pub mod EnteringScopes
 -- scopes that are left, and drops
 pub mod OpenEvents
 pub mod HeldScopes
+pub mod LeavingInnermost
 pub mod LeavingEach
 pub mod DroppedProcesses
 pub mod DroppableProcesses
