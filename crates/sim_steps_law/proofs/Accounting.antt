@@ -1,29 +1,22 @@
 -- The accounts of holders through what the parts of a kernel become.
-use Rattle.std.proofs.Common.{◌≡◌, ◌≢◌, ℕ, ◌+◌, ◌≤◌, zero, suc, map, List, [], ◌∷◌, ◌++◌, length, refl, sym, ap, subst, ◌∙◌, arith, Option, Some, None}
-use Rattle.std.specs.Prelude.{All, slice_set}
-use Rattle.std.specs.List.Sorted.{IsPermutation}
+use Rattle.std.proofs.Common.{◌≡◌, ◌≢◌, ℕ, ◌+◌, zero, suc, List, [], ◌∷◌, ◌++◌, refl, sym, ap, subst, ◌∙◌, Option}
 use Rattle.std.proofs.lemmas.Bool.{ne_eqb}
-use Rattle.std.proofs.lemmas.Option.{none-some}
 use Rattle.std.proofs.lemmas.List.{append_assoc}
-use Rattle.std.proofs.Math.ListN.{length-set}
 use Rattle.sim_types.specs.declared.event.EventId.{EventId}
 use Rattle.sim_machine.specs.State.{Calendar, State}
 use Rattle.sim_machine.specs.Effect.{calendar}
-use Rattle.sim_events.specs.TableOf.{Kept, IsKept, kept_at, AreNeeded}
-use Rattle.sim_machine.specs.KeptEvents.{is_kept}
-use Rattle.sim_happen_model.specs.HappenOf.{HappenOf, held, as_before, one_more}
-use Rattle.sim_happen_model.specs.Shows.{Shows, Turns}
-use Rattle.sim_happen_model.specs.Holders.{HasOwnHolder, unheld}
-use Rattle.sim_accounts.specs.Accounts.{Balanced, AreGoneClosed}
+use Rattle.sim_happen_model.specs.HappenOf.{held}
+use Rattle.sim_happen_model.specs.Shows.{Shows}
+use Rattle.sim_happen_model.specs.Holders.{HasOwnHolder}
+use Rattle.sim_accounts.specs.Accounts.{Balanced}
 use Rattle.sim_accounts.specs.Naming.{but_zero, held_alone}
 use Rattle.sim_accounts.specs.Changes.{StatesTrade, ComesAfter, ComesPlainly, MakesNoCondition, KeepsHolders}
-use Rattle.sim_accounts.proofs.Balancing.{trades_balanced, kept_balanced, kept_gone, held_balanced, held_gone}
-use Rattle.sim_accounts.proofs.CalendarChanges.{after_events, none_events, after_same}
-use Rattle.sim_accounts.proofs.GivenBack.{owed_own, unheld_balanced}
+use Rattle.sim_accounts.proofs.Balancing.{trades_balanced, kept_balanced, kept_gone}
+use Rattle.sim_accounts.proofs.CalendarChanges.{after_events, none_events}
+use Rattle.sim_accounts.proofs.GivenBack.{owed_own}
 use Rattle.sim_accounts.proofs.KeepingHolders.{keeps_all, keeps_made}
-use Rattle.sim_accounts.proofs.KeptExactly.{kept_exactly}
 use Rattle.sim_shared_model.specs.Making.{unheld_events}
-use Rattle.sim_steps_model.specs.PartsOf.{PartsOf, IsOpenedAs, with_happen}
+use Rattle.sim_steps_model.specs.PartsOf.{PartsOf, IsOpenedAs}
 use Rattle.sim_steps_model.specs.StandsFor.{Balances}
 use Rattle.sim_steps_model.specs.Becoming.{AddsFew, Stands, BecomesOwing, IsOwing}
 use Rattle.sim_machine.specs.Bodies.{BodyOf}

@@ -24,7 +24,7 @@ use Rattle.sim_steps_model.specs.Holding.{HoldsMore, StandInPlaces, TakesHolder}
 use Rattle.sim_steps_model.specs.Polling.{Asks, AsksOwing, event_placed, event_there, place_changed, place_given}
 use Rattle.sim_steps_law.proofs.Accounting.{owing_after}
 use Rattle.sim_steps_law.proofs.Becoming.{lawful_stands}
-use Rattle.sim_steps_law.proofs.BodyPlaces.{event_in, polled_events}
+use Rattle.sim_steps_law.proofs.BodyPlaces.{polled_events}
 use Rattle.sim_steps_law.proofs.CountedHolders.{is_owing_first}
 use Rattle.sim_steps_law.proofs.Ending.{record_polled}
 use Rattle.sim_steps_law.proofs.HeldPlaces.{all_in_places}

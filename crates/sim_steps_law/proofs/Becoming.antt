@@ -38,9 +38,9 @@ use Rattle.sim_shared_model.specs.Making.{MakesAll, unheld_events}
 use Rattle.sim_shared_law.proofs.FollowingFacilities.{shown_later, tidy_later}
 use Rattle.sim_steps_model.specs.PartsOf.{PartsOf, IsOpenedAs, with_happen}
 use Rattle.sim_steps_model.specs.StandsFor.{StandsFor, StandsForSome, Balances, LawfulOf, process_of, scopes_of}
-use Rattle.sim_steps_model.specs.Becoming.{Stands, Becomes, BecomesOwing, BecomesWith, IsOwing}
+use Rattle.sim_steps_model.specs.Becoming.{Stands, Becomes, BecomesOwing, IsOwing}
 use Rattle.sim_steps_law.proofs.Keeping.{AddsHolders, adds_none, adds_unheld, few_by, few_more, few_same, few_then}
-use Rattle.sim_steps_law.proofs.Accounting.{KeepsAllHolders, keeps_unheld, opened_then, owing_by, owing_then, stay_plainly, stay_stated}
+use Rattle.sim_steps_law.proofs.Accounting.{KeepsAllHolders, keeps_unheld, owing_by, owing_then, stay_plainly, stay_stated}
 use Rattle.sim_steps_law.proofs.Records.{changed_mapped, changed_scopes, changed_distinct}
 
 -- ---- from a lawful state

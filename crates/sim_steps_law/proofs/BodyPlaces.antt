@@ -1,6 +1,6 @@
 -- What stands in the places of a body: in those for numbers event 0 alone.
-use Rattle.std.proofs.Common.{◌≡◌, ◌≢◌, ℕ, ◌≤◌, ℤ, pos, negsuc, Bool, true, false, ◌||◌, ◌&&◌, not, List, [], ◌∷◌, length, map, refl, sym, ap, subst, ◌∙◌, arith, Option, Some, None, ⊎_elim}
-use Rattle.std.specs.Prelude.{All, ◌==◌, slice_index_or}
+use Rattle.std.proofs.Common.{◌≡◌, ◌≤◌, ℤ, pos, negsuc, Bool, true, false, ◌||◌, ◌&&◌, not, List, [], ◌∷◌, length, map, refl, sym, ap, subst, ◌∙◌, Option, Some, None, ⊎_elim}
+use Rattle.std.specs.Prelude.{All, ◌==◌}
 use Rattle.std.specs.List.{list_all}
 use Rattle.std.proofs.lemmas.Bool.{and_parts, and_from, false≢true, eqb-true, or_cases}
 use Rattle.std.proofs.lemmas.List.Elements.{All-nil, All-cons, All-head, All-tail}
@@ -17,7 +17,7 @@ use Rattle.sim_machine.specs.MayAsk.{is_zero}
 use Rattle.sim_machine.specs.BodyLaw.{gets_made, holds_argument, makes_class, places_kept}
 use Rattle.sim_machine_law.specs.NamedEvents.{arguments_name}
 use Rattle.sim_machine_law.proofs.EventLaws.{is_same-yes, same_event}
-use Rattle.sim_accounts.specs.Naming.{but_zero, named_in_places}
+use Rattle.sim_accounts.specs.Naming.{but_zero}
 use Rattle.sim_accounts.proofs.NumberPlaces.{number_is_zero, numbers_alike}
 use Rattle.sim_steps_model.specs.Holding.{StandInPlaces}
 

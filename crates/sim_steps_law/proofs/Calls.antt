@@ -1,6 +1,6 @@
 -- Pops, calls of callbacks and the settling of an event are those of the machine.
 use Rattle.std.proofs.Common.{◌≡◌, ◌≢◌, ℕ, ◌+◌, ◌<◌, ◌≤◌, Bool, true, false, arith, List, [], ◌∷◌, ◌++◌, length, refl, sym, ap, subst, ◌∙◌, Option, Some, None, if◌then◌else◌}
-use Rattle.std.specs.Prelude.{◌&&◌, ◌||◌, not, is_none, All, IsSome, slice_index_or}
+use Rattle.std.specs.Prelude.{◌&&◌, ◌||◌, not, All, IsSome, slice_index_or}
 use Rattle.std.proofs.lemmas.Bool.{and_parts, both_ways, false≢true, not-true}
 use Rattle.std.proofs.lemmas.List.{append-nil}
 use Rattle.sim_types.specs.declared.event.EventId.{EventId}
@@ -42,8 +42,7 @@ use Rattle.sim_steps_model.specs.StandsFor.{StandsFor, LawfulOf}
 use Rattle.sim_steps_model.specs.Becoming.{Stands, Becomes, BecomesOwing, BecomesWith, IsOwing, Moves, most_held}
 use Rattle.sim_procs.specs.RecordOf.{RecordOf, record_of}
 use Rattle.sim_steps_model.specs.Calling.{called, events_left, target_in, CallsKept, TakesCallback}
-use Rattle.sim_happen_model.specs.Holders.{HasOwnHolder, PassesOn, unheld}
-use Rattle.sim_happen_model.specs.HappenOf.{held}
+use Rattle.sim_happen_model.specs.Holders.{PassesOn}
 use Rattle.sim_accounts.specs.Accounts.{Balanced, AreGoneClosed}
 use Rattle.sim_accounts.specs.Changes.{StatesTrade}
 use Rattle.sim_accounts.specs.Naming.{but_zero, held_alone, triggered_by}
@@ -54,7 +53,7 @@ use Rattle.sim_accounts.proofs.Quiet.{called_trade, settled_trade}
 use Rattle.sim_accounts.proofs.StateChanges.{popped_trade, processed_trade}
 use Rattle.sim_steps_model.specs.StandsFor.{Balances}
 use Rattle.sim_steps_law.proofs.Keeping.{adds_one_more, none_is_few, few_by, few_same, few_more}
-use Rattle.sim_steps_law.proofs.Accounting.{other_is, owing_after, owing_besides, owing_by, owing_own, stay_stated}
+use Rattle.sim_steps_law.proofs.Accounting.{other_is, owing_after, owing_besides, owing_by, stay_stated}
 use Rattle.sim_steps_law.proofs.Becoming.{lawful_stands, becomes_then, becomes_as, becomes_followed, no_fewer, owing_controlled, shown_with}
 use Rattle.sim_steps_law.proofs.Holding.{returning_any}
 

@@ -1,5 +1,5 @@
 -- Of holders that are to be given back it counts how often each event stands among them, and not in which order.
-use Rattle.std.proofs.Common.{◌≡◌, ℕ, ◌+◌, ◌<◌, List, [], ◌∷◌, ◌++◌, refl, sym, ap, subst, ◌∙◌, arith}
+use Rattle.std.proofs.Common.{◌≡◌, ℕ, ◌<◌, List, ◌++◌, refl, sym, ap, subst, arith}
 use Rattle.std.specs.Prelude.{count_by, nat_le, true}
 use Rattle.std.proofs.lemmas.Bool.Decides.{nat_tests}
 use Rattle.std.proofs.lemmas.List.{append_assoc}
@@ -8,7 +8,6 @@ use Rattle.sim_machine.specs.State.{State}
 use Rattle.sim_machine.specs.Events.{is_same}
 use Rattle.sim_machine_law.proofs.CallbackLaws.{count_by-append}
 use Rattle.sim_events.specs.TableOf.{IsKept}
-use Rattle.sim_accounts.specs.Accounts.{Balanced}
 use Rattle.sim_accounts.specs.Changes.{Trades}
 use Rattle.sim_accounts.specs.Naming.{held_alone}
 use Rattle.sim_accounts.proofs.GivenBack.{held_kept}

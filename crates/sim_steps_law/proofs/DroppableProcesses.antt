@@ -28,17 +28,16 @@ use Rattle.sim_machine.specs.MayAsk.{most_scopes}
 use Rattle.sim_machine.specs.Standing.{was_made, kind_at}
 use Rattle.sim_machine.specs.Tellings.{Telling}
 use Rattle.sim_machine.specs.Users.{resource_at}
-use Rattle.sim_machine.specs.LawfulProcesses.{is_living_well, is_process_kind}
+use Rattle.sim_machine.specs.LawfulProcesses.{is_process_kind}
 use Rattle.sim_machine.specs.LawfulCapacities.{waits_for_fitting}
 use Rattle.sim_machine.specs.LawfulRegistrations.{turned_out}
-use Rattle.sim_machine.specs.LawfulWaiting.{is_get_kind, is_put_kind, is_request_kind, may_wait_kind, request_has_scope, requests_of, waits_well}
+use Rattle.sim_machine.specs.LawfulWaiting.{is_get_kind, is_put_kind, is_request_kind, may_wait_kind, request_has_scope, requests_of}
 use Rattle.sim_machine_law.proofs.DroppedWaiting.{alone_each, kinds_apart}
 use Rattle.sim_machine_law.proofs.EventLaws.{is_same-self, same_event}
 use Rattle.sim_machine_law.proofs.FollowingCalendars.{uncancelled_kind}
 use Rattle.sim_machine_law.proofs.KeptBodies.{find_has, four_parts}
 use Rattle.sim_machine_law.proofs.KeptRegistrationsCalendar.{made_below}
 use Rattle.sim_procs.specs.RecordOf.{RecordOf, record_of}
-use Rattle.sim_events.specs.TableOf.{IsKept}
 use Rattle.sim_accounts.proofs.GivenBack.{held_kept}
 use Rattle.sim_accounts.proofs.NamedEvents.{held_in_body}
 use Rattle.sim_accounts.specs.Naming.{held_alone}
@@ -47,7 +46,6 @@ use Rattle.sim_steps_model.specs.StandsFor.{StandsForSome, process_of, scopes_of
 use Rattle.sim_steps_model.specs.Becoming.{Stands, BecomesOwing}
 use Rattle.sim_steps_model.specs.Dropping.{CanBeDropped, CanBeLeft, CanLeave, IsOpenIn}
 use Rattle.sim_steps_law.proofs.Becoming.{lawful_stands}
-use Rattle.sim_steps_law.proofs.Ending.{scopes_found}
 use Rattle.sim_steps_law.proofs.Running.{process_found}
 
 -- ---- what is pending is not processed

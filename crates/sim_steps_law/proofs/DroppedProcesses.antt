@@ -1,6 +1,6 @@
 -- A process that is dropped waits for nothing, has left its scopes, is no longer alive, and its event has succeeded, as the
 -- machine has it.
-use Rattle.std.proofs.Common.{◌≡◌, ◌≢◌, ℕ, ℤ, ◌+◌, ◌<◌, ◌≤◌, true, false, List, [], ◌∷◌, Option, Some, None, length, refl, sym, ap, subst, ◌∙◌, arith, All}
+use Rattle.std.proofs.Common.{◌≡◌, ℕ, ℤ, ◌+◌, ◌<◌, ◌≤◌, true, false, List, [], Option, Some, None, length, refl, sym, ap, subst, ◌∙◌, arith}
 use Rattle.std.specs.Prelude.{◌^◌, is_some, IfSome, IsSomeAnd}
 use Rattle.std.specs.Option.{option_map}
 use Rattle.std.proofs.lemmas.Option.{same_Some}
@@ -20,17 +20,15 @@ use Rattle.sim_machine.specs.Effect.{calendar, to_another}
 use Rattle.sim_machine.specs.MayAsk.{most_scopes}
 use Rattle.sim_machine_law.proofs.DroppedProcess.{stopped_state}
 use Rattle.sim_procs.specs.RecordOf.{RecordOf, record_of}
-use Rattle.sim_happen_model.specs.HappenOf.{HappenOf, IsOpen, as_before, held}
+use Rattle.sim_happen_model.specs.HappenOf.{HappenOf, IsOpen, as_before}
 use Rattle.sim_happen_model.specs.Shows.{Shows}
 use Rattle.sim_happen_law.proofs.Held.{holders_at}
-use Rattle.sim_shared_model.specs.ShowsAll.{ShowsAll}
 use Rattle.sim_accounts.proofs.CalendarChanges.{plainly_unregistered}
 use Rattle.sim_accounts.proofs.KeepingHolders.{keeps_all}
 use Rattle.sim_accounts.proofs.Quiet.{stripped_trade, unresumed_trade}
 use Rattle.sim_steps_model.specs.PartsOf.{HasUnitRoom, PartsOf, IsRunningIn, control_of, with_happen}
 use Rattle.sim_steps_model.specs.declared.mode.Mode.{Mode}
 use Rattle.sim_steps_model.specs.declared.mode.Mode.TheVariants as mode
-use Rattle.sim_steps_model.specs.StandsFor.{process_of}
 use Rattle.sim_steps_model.specs.Becoming.{Stands, Becomes, IsOwing}
 use Rattle.sim_steps_model.specs.Dropping.{CanBeDropped, CanBeLeft, CanLeave, IsOpenIn, LeavesAll, StopsWaiting, without_scopes}
 use Rattle.sim_steps_model.specs.Holding.{StandInPlaces}

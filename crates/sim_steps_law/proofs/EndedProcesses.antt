@@ -1,6 +1,6 @@
 -- A process that ends is no longer alive, its event has its outcome, and what it held is given back.
 use Rattle.std.proofs.Common.{◌≡◌, ◌≢◌, ℕ, ◌<◌, ◌^◌, Bool, true, false, pos, List, [], ◌∷◌, ◌++◌, length, get_or, refl, sym, ap, subst, ◌∙◌, suc, arith, map, filter, Option, Some, None, inl, inr}
-use Rattle.std.specs.Prelude.{All, AllPairs, not, ◌==◌, ◌&&◌, ◌||◌, is_none, IfSome, IsSomeAnd}
+use Rattle.std.specs.Prelude.{All, AllPairs, not, ◌==◌, ◌&&◌, ◌||◌, is_none, IsSomeAnd}
 use Rattle.std.specs.Option.{option_map}
 use Rattle.std.specs.List.{list_any}
 use Rattle.std.specs.List.Sorted.{IsPermutation}
@@ -33,7 +33,7 @@ use Rattle.sim_machine_law.proofs.KeptTimes.{found_pending}
 use Rattle.sim_machine_law.proofs.KeptWaitingPolls.{own_scopes, none_passes, alive_without}
 use Rattle.sim_machine_law.proofs.KeptProcessesParts.{is_process-self, is_process-yes}
 use Rattle.sim_procs.specs.RecordOf.{RecordOf, record_of}
-use Rattle.sim_events.specs.TableOf.{AreNeeded, IsKept}
+use Rattle.sim_events.specs.TableOf.{AreNeeded}
 use Rattle.sim_happen_model.specs.HappenOf.{HappenOf, IsOpen, as_before}
 use Rattle.sim_happen_model.specs.Shows.{Follows}
 use Rattle.sim_happen_law.proofs.Following.{read_is}

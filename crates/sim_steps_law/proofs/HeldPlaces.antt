@@ -1,6 +1,6 @@
 -- What stands in the places of a body is held, or given back, place by place.
-use Rattle.std.proofs.Common.{◌≡◌, ◌≢◌, ℕ, Option, zero, suc, ◌+◌, ◌<◌, ◌≤◌, List, [], ◌∷◌, ◌++◌, length, take, get_or, refl, sym, ap, subst, ◌∙◌, arith, ⊎_elim}
-use Rattle.std.specs.Prelude.{count_by, All, slice_index_or}
+use Rattle.std.proofs.Common.{◌≡◌, ◌≢◌, ℕ, Option, zero, suc, ◌+◌, ◌<◌, ◌≤◌, List, [], ◌∷◌, ◌++◌, length, take, refl, sym, ap, subst, ◌∙◌, arith, ⊎_elim}
+use Rattle.std.specs.Prelude.{All}
 use Rattle.std.proofs.Math.ListN.{drop}
 use Rattle.std.proofs.Math.Seq.{drop-cons}
 use Rattle.std.proofs.lemmas.Bool.{cases_lt}
@@ -18,9 +18,9 @@ use Rattle.sim_accounts.specs.Accounts.{Balanced}
 use Rattle.sim_accounts.proofs.Balancing.{held_balanced}
 use Rattle.sim_accounts.proofs.CalendarChanges.{after_same, none_events}
 use Rattle.sim_accounts.specs.Naming.{but_zero}
-use Rattle.sim_accounts.proofs.ChangedPlaces.{in_place, times_in, times_in-next, but_zero-append}
+use Rattle.sim_accounts.proofs.ChangedPlaces.{in_place, times_in-next, but_zero-append}
 use Rattle.sim_steps_model.specs.PartsOf.{PartsOf}
-use Rattle.sim_steps_model.specs.Becoming.{BecomesOwing, Becomes, IsOwing}
+use Rattle.sim_steps_model.specs.Becoming.{BecomesOwing, IsOwing}
 use Rattle.sim_steps_model.specs.Holding.{HoldsMore, TakesHolder}
 use Rattle.sim_steps_law.proofs.Accounting.{other_is, owing_after, owing_besides, zero_is}
 use Rattle.sim_steps_law.proofs.Becoming.{becomes_none, becomes_then}

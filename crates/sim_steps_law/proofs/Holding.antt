@@ -1,26 +1,26 @@
 -- A holder of an event is taken, and one is given back.
-use Rattle.std.proofs.Common.{◌≡◌, ◌≢◌, ◌+◌, ◌≤◌, ◌||◌, ◌==◌, true, false, Bool, ℕ, zero, suc, map, List, [], ◌∷◌, ◌++◌, length, refl, sym, ap, subst, ◌∙◌, arith, Option, Some, None}
-use Rattle.std.specs.Prelude.{slice_index_or, slice_set, All, IsSome, is_some, count_by}
+use Rattle.std.proofs.Common.{◌≡◌, ◌≢◌, ◌+◌, ◌≤◌, ◌||◌, true, false, Bool, ℕ, zero, suc, map, List, [], ◌∷◌, ◌++◌, length, refl, sym, ap, subst, ◌∙◌, arith, Option, Some, None}
+use Rattle.std.specs.Prelude.{slice_index_or, slice_set, IsSome, is_some}
 use Rattle.sim_machine.specs.Standing.{one_if}
 use Rattle.std.proofs.lemmas.Bool.{false≢true}
 use Rattle.std.proofs.lemmas.List.Elements.{All-set}
 use Rattle.std.specs.List.Sorted.{IsPermutation}
 use Rattle.std.proofs.Math.ListN.{length-set}
 use Rattle.sim_types.specs.declared.event.EventId.{EventId}
-use Rattle.sim_machine.specs.State.{EventOf, Calendar, State}
+use Rattle.sim_machine.specs.State.{Calendar, State}
 use Rattle.sim_machine.specs.Effect.{calendar}
 use Rattle.sim_machine_law.proofs.CallbackLaws.{count_by-cons}
 use Rattle.sim_events.specs.Changes.{without_holder}
-use Rattle.sim_events.specs.TableOf.{Kept, IsKept, is_needed, kept_at, kept_count, kept_or_new}
+use Rattle.sim_events.specs.TableOf.{Kept, IsKept, kept_at, kept_count, kept_or_new}
 use Rattle.sim_happen_model.specs.HappenOf.{HappenOf, KeepsRoom, held, one_more}
 use Rattle.sim_happen_model.specs.Shows.{IsShown, Shows, Turns}
-use Rattle.sim_happen_model.specs.Holders.{HasOwnHolder, unheld}
+use Rattle.sim_happen_model.specs.Holders.{unheld}
 use Rattle.sim_happen_law.proofs.Following.{event_then, time_then}
 use Rattle.sim_happen_law.proofs.Held.{held_at, holders_at, kept_of, of_kept}
-use Rattle.sim_happen_law.proofs.KeptPlaces.{at_set, kept_made, sum_set}
+use Rattle.sim_happen_law.proofs.KeptPlaces.{at_set, kept_made}
 use Rattle.sim_happen_law.proofs.SeenShown.{event_seen, shows_seen}
 use Rattle.sim_happen_model.specs.Seen.{seen}
-use Rattle.sim_accounts.specs.Accounts.{Balanced, AreGoneClosed}
+use Rattle.sim_accounts.specs.Accounts.{Balanced}
 use Rattle.sim_accounts.specs.Naming.{but_zero, held_alone}
 use Rattle.sim_accounts.proofs.Balancing.{held_balanced, held_gone}
 use Rattle.sim_accounts.proofs.CalendarChanges.{after_same, none_events}
@@ -28,7 +28,7 @@ use Rattle.sim_accounts.proofs.GivenBack.{StaysTrue, unheld_balanced, unheld_wit
 use Rattle.sim_accounts.proofs.ShownUnheld.{open_stays, unheld_gone}
 use Rattle.sim_steps_model.specs.PartsOf.{PartsOf, with_happen}
 use Rattle.sim_steps_model.specs.StandsFor.{Balances}
-use Rattle.sim_steps_model.specs.Becoming.{AddsFew, AreFew, Stands, Becomes, BecomesOwing, IsOwing}
+use Rattle.sim_steps_model.specs.Becoming.{AreFew, Stands, BecomesOwing, IsOwing}
 use Rattle.sim_steps_model.specs.Holding.{TakesHolder, ReturnsHolder}
 use Rattle.sim_steps_law.proofs.Keeping.{AtMost, adds_one_more, few_by, few_here, few_more, few_same, few_weaker}
 use Rattle.sim_steps_law.proofs.Accounting.{other_is, zero_is}

@@ -1,11 +1,9 @@
 -- How many hold each event that is kept.
-use Rattle.std.proofs.Common.{◌≡◌, ℕ, ◌+◌, ◌<◌, ◌≤◌, ◌^◌, zero, suc, Bool, true, false, map, List, [], ◌∷◌, length, refl, sym, subst, arith, Option, Some, None}
+use Rattle.std.proofs.Common.{◌≡◌, ℕ, ◌+◌, ◌<◌, ◌≤◌, ◌^◌, zero, suc, map, List, [], ◌∷◌, length, sym, subst, arith, Option, Some, None}
 use Rattle.std.specs.Prelude.{◌==◌, slice_index_or, slice_set, All, IfSome}
 use Rattle.std.specs.Option.{option_map}
-use Rattle.std.proofs.lemmas.Bool.Decides.{nat_tests}
-use Rattle.std.proofs.lemmas.List.{length-map, length-append, length-set, get_or-set_same}
+use Rattle.std.proofs.lemmas.List.{length-append, length-set}
 use Rattle.std.proofs.lemmas.List.Elements.{All-cons, All-head, All-tail, All-nil, All-append, All-set, All-weaker}
-use Rattle.std.proofs.Math.ListN.{get_or-map}
 use Rattle.sim_machine.specs.MayAsk.{most_scopes}
 use Rattle.sim_types.specs.declared.event.EventId.{EventId}
 use Rattle.sim_events.specs.TableOf.{Kept, kept_at}

@@ -9,7 +9,6 @@ use Rattle.sim_types.specs.declared.event.Callback.TheVariants as callback
 use Rattle.sim_types.specs.declared.event.EventKind.TheVariants as kind
 use Rattle.sim_types.specs.declared.event.Signal.TheVariants as signal
 use Rattle.sim_types.specs.declared.op.Op.TheVariants as op
-use Rattle.sim_types.specs.declared.setup.Resource.{Resource}
 use Rattle.sim_machine.specs.State.{Give, Calendar, EventOf, Facilities, State, Plan}
 use Rattle.sim_machine.specs.Events.{cancel_event}
 use Rattle.sim_machine.specs.KeptEvents.{is_closed}

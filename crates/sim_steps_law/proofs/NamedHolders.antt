@@ -12,7 +12,7 @@ use Rattle.sim_types.specs.declared.event.EventKind.TheVariants as kind
 use Rattle.sim_machine.specs.State.{EventOf}
 use Rattle.sim_machine.specs.Bodies.{BodyOf}
 use Rattle.sim_machine.specs.Conditions.{condition_of}
-use Rattle.sim_machine.specs.Events.{event_at, is_same, pending_event}
+use Rattle.sim_machine.specs.Events.{is_same, pending_event}
 use Rattle.sim_machine.specs.Runs.{blank_state, event_zero, first_calendar}
 use Rattle.sim_machine.specs.Standing.{one_if}
 use Rattle.sim_events.specs.TableOf.{Kept, kept_at, kept_or_new}

@@ -1,17 +1,15 @@
 -- What a polled process asks for is done as the machine does it.
-use Rattle.std.proofs.Common.{◌≡◌, ◌≢◌, ◌+◌, ◌<◌, ◌≤◌, ◌^◌, arith, ℕ, ℤ, true, false, List, [], ◌∷◌, ◌++◌, length, map, refl, sym, ap, subst, ◌∙◌, Option, Some, None}
+use Rattle.std.proofs.Common.{◌≡◌, ◌+◌, ◌<◌, ◌≤◌, ◌^◌, arith, ℕ, ℤ, true, false, List, [], ◌∷◌, ◌++◌, length, refl, sym, ap, subst, ◌∙◌, Option, Some, None}
 use Rattle.std.specs.Prelude.{int_lt, slice_index_or, is_some, IsSome}
 use Rattle.std.proofs.lemmas.Bool.{false≢true}
 use Rattle.std.specs.Option.{option_map}
 use Rattle.std.specs.List.{list_all}
 use Rattle.std.proofs.lemmas.Option.{none-some, same_Some}
-use Rattle.std.proofs.lemmas.List.{length-map}
 use Rattle.rand_pcg.specs.Lcg.{Lcg}
 use Rattle.rand_pcg.specs.Pcg.{pcg64}
 use Rattle.sim_types.specs.Throws.{empty_range}
 use Rattle.sim_types.specs.declared.event.EventId.{EventId}
 use Rattle.sim_types.specs.declared.event.ProcId.{ProcId}
-use Rattle.sim_types.specs.declared.event.Callback.{Callback}
 use Rattle.sim_types.specs.declared.event.Signal.{Signal}
 use Rattle.sim_types.specs.declared.event.Signal.TheVariants as signal
 use Rattle.sim_types.specs.declared.op.Op.{Op}
@@ -30,7 +28,7 @@ use Rattle.sim_machine_law.proofs.KeptBodies.{find_has}
 use Rattle.sim_machine_law.proofs.WrittenLines.{lines_by, effect_writes}
 use Rattle.sim_procs.specs.Premises.{CanBeTold, ChangesOnly, events_in_places}
 use Rattle.sim_procs.specs.RecordOf.{RecordOf, record_of, change_record}
-use Rattle.sim_events.specs.TableOf.{Kept, IsKept}
+use Rattle.sim_events.specs.TableOf.{Kept}
 use Rattle.sim_happen_model.specs.HappenOf.{HappenOf, held}
 use Rattle.sim_accounts.specs.Accounts.{AreGoneClosed, Balanced}
 use Rattle.sim_accounts.specs.Changes.{IsOnlyProcess, StatesTrade}
@@ -42,16 +40,15 @@ use Rattle.sim_accounts.proofs.StateChanges.{body_trade}
 use Rattle.sim_steps_model.specs.declared.mode.Unit.{Unit}
 use Rattle.sim_steps_model.specs.declared.mode.Unit.TheVariants as unit
 use Rattle.sim_steps_model.specs.PartsOf.{PartsOf, IsOpenedAs, IsRunning, KeepsButHappen, plan_of, with_happen}
-use Rattle.sim_steps_model.specs.StandsFor.{StandsFor, StandsForSome, LawfulOf, StepOf, Balances, process_of, lines_of}
+use Rattle.sim_steps_model.specs.StandsFor.{StandsFor, StandsForSome, LawfulOf, StepOf, process_of, lines_of}
 use Rattle.sim_steps_model.specs.Becoming.{AreFew, Becomes, BecomesOwing, BecomesWith, IsOwing, Moves, Stands, most_held}
 use Rattle.sim_steps_model.specs.Holding.{HoldsMore, StandInPlaces, TakesHolder}
 use Rattle.sim_steps_model.specs.Polling.{Asks, AsksOwing, DoesAsked, event_there, place_changed}
 use Rattle.sim_steps_law.proofs.Accounting.{owing_after, owing_besides}
 use Rattle.sim_steps_law.proofs.Becoming.{lawful_stands, becomes_then, becomes_as, becomes_drawn, becomes_told, becomes_within, becomes_written, owing_changed}
-use Rattle.sim_steps_law.proofs.BodyPlaces.{event_in, polled_alike, polled_numbers, stand_where}
+use Rattle.sim_steps_law.proofs.BodyPlaces.{polled_alike, polled_numbers, stand_where}
 use Rattle.sim_steps_law.proofs.Calls.{at_control}
 use Rattle.sim_steps_law.proofs.CountedHolders.{AreAlike, trades_alike}
-use Rattle.sim_steps_law.proofs.HeldPlaces.{takes_then}
 use Rattle.sim_steps_law.proofs.Running.{KeepsLaw, process_found, running_can_be_told, running_is}
 
 -- ---- the process that runs is polled
