@@ -6,8 +6,6 @@ use Rattle.sim_machine.specs.State.{Plan, State}
 use Rattle.sim_machine.specs.Bodies.{BodyOf}
 use Rattle.sim_machine.specs.Runs.{blank_state, start_process, opening}
 use Rattle.sim_machine.specs.Setups.{FitsCode}
-use Rattle.sim_machine.specs.Standing.{left_of}
-use Rattle.sim_machine_law.proofs.OpeningLaws.{starts_open}
 use Rattle.sim_machine_law.proofs.WholeSteps.{lawful_opening}
 use Rattle.sim_happen_model.specs.HappenOf.{held}
 use Rattle.sim_steps_model.specs.PartsOf.{PartsOf, plan_of}
@@ -26,11 +24,7 @@ pub opens_lawfully : {B Code : Type 0} (body : BodyOf B Code) (parts : PartsOf B
     FitsCode (body.facts parts.code) parts.setup → LawfulOf body parts (opening (plan_of body parts))
 opens_lawfully body parts law fits = lawful_opening (plan_of body parts) (body.tell parts.code) (body.sound parts.code) (body.turn parts.code) (body.facts parts.code) fits law
 
--- nothing is being done yet
-opening_idle : {B : Type 0} (g : Plan B) → left_of (opening g).control ≡ []
-opening_idle g = ap left_of (starts_open g).idle
-
--- and nothing was processed
+-- the starts process nothing
 processed_from : {B : Type 0} (g : Plan B) (s : State B) (xs : List Start) → (fold (start_process g) s xs).processed ≡ s.processed
 processed_from g s [] = refl
 processed_from g s (x ∷ xs) = processed_from g (start_process g s x) xs

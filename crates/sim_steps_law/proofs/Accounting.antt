@@ -128,12 +128,6 @@ module _ {B Code : Type 0} {body : BodyOf B Code} where
     balances = p.accounts h.others h.state h.stands h.balances;
   }
 
-  -- a holder that is to be given back is no condition
-  pub owing_own : (e : EventId) (a : PartsOf B Code) → e.0 ≢ 0 → IsOwing body (but_zero (e ∷ [])) a → HasOwnHolder a.shared.happen.events e
-  owing_own e a other h =
-      let alone : EventId → ℕ = held_alone a.setup.events (body.tell a.code) h.state in
-      owed_own alone e h.others a.shared.happen.events (subst (λ xs. Balanced alone (xs ++ h.others) a.shared.happen.events) (other_is e other) h.balances.holders)
-
-  -- nor is any event of which a holder is to be given back
+  -- an event of which a holder is to be given back is no condition
   pub owing_holder : (e : EventId) (a : PartsOf B Code) → IsOwing body (e ∷ []) a → HasOwnHolder a.shared.happen.events e
   owing_holder e a h = owed_own (held_alone a.setup.events (body.tell a.code) h.state) e h.others a.shared.happen.events h.balances.holders

@@ -1,5 +1,5 @@
 -- A process that is made where something arrives is the one that the machine makes.
-use Rattle.std.proofs.Common.{◌≡◌, ℕ, ◌<◌, ◌≤ℤ◌, ◌^◌, ℤ, pos, true, List, [], ◌∷◌, length, refl, sym, subst}
+use Rattle.std.proofs.Common.{◌≡◌, ℕ, ◌<◌, ℤ, true, List, [], ◌∷◌, length, refl, sym, subst}
 use Rattle.std.specs.Prelude.{All, IsTrue, slice_index_or}
 use Rattle.std.proofs.lemmas.Bool.{and_parts, false≢true}
 use Rattle.std.proofs.lemmas.List.Elements.{All-nil}
@@ -7,17 +7,13 @@ use Rattle.sim_types.specs.declared.event.EventId.{EventId}
 use Rattle.sim_types.specs.declared.line.Line.TheVariants as line
 use Rattle.sim_types.specs.declared.setup.Class.{Class}
 use Rattle.sim_types.specs.declared.setup.Class.TheVariants as class
-use Rattle.sim_types.specs.declared.setup.Setup.{Setup}
 use Rattle.sim_machine.specs.State.{State}
 use Rattle.sim_machine.specs.Bodies.{BodyOf}
-use Rattle.sim_machine.specs.NumberBounds.{arguments_within_bound}
 use Rattle.sim_machine.specs.Processes.{make_process, write_line}
 use Rattle.sim_machine.specs.Setups.{FitsCode, port_fits, takes_one_number}
 use Rattle.sim_machine.specs.Tellings.{CodeFacts}
 use Rattle.sim_machine.specs.Units.{arrive}
 use Rattle.sim_machine_law.specs.NamedEvents.{arguments_name}
-use Rattle.sim_machine_law.proofs.OpeningLaws.{port_fits_starts}
-use Rattle.sim_procs.specs.Premises.{CanBegin}
 use Rattle.sim_events.specs.TableOf.{IsKept}
 use Rattle.sim_steps_model.specs.PartsOf.{PartsOf, plan_of}
 use Rattle.sim_steps_model.specs.StandsFor.{StandsForSome}
@@ -27,22 +23,6 @@ use Rattle.sim_steps_law.proofs.Becoming.{becomes_then, becomes_written, lawful_
 use Rattle.sim_steps_law.proofs.CountedHolders.{owing_zero}
 
 -- ---- what is known where something arrives
-
-one_number_within : (cs : List Class) (v : ℤ) → takes_one_number cs ≡ true → arguments_within_bound cs (v ∷ []) ≡ true
-one_number_within [] v h = refl
-one_number_within (c ∷ []) v h = rw h refl
-one_number_within (c ∷ d ∷ cs) v h = absurd (false≢true h)
-
--- a process of the port's kind may begin with any number
-pub port_can_begin : (f : CodeFacts) (setup : Setup) (port : ℕ) (value : ℤ) → FitsCode f setup → port < length setup.ports →
-    CanBegin f (slice_index_or setup.ports port 0) (value ∷ [])
-port_can_begin f setup port value fits below =
-    let k = slice_index_or setup.ports port 0 in
-    let here : IsTrue (port_fits f k) = fits.ports port 0 below in
-    record {
-      fits = port_fits_starts f k value here;
-      bound = one_number_within (slice_index_or f.params k []) value (and_parts _ _ here).1;
-    }
 
 number_names_none : (cs : List Class) (v : ℤ) → takes_one_number cs ≡ true → arguments_name cs (v ∷ []) ≡ []
 number_names_none [] v h = refl
@@ -63,11 +43,6 @@ port_kept f parts port value fits below zero =
 pub zero_kept : {B Code : Type 0} (body : BodyOf B Code) (parts : PartsOf B Code) → StandsForSome body parts → IsKept parts.shared.happen.events (record { 0 = 0 })
 zero_kept body parts h =
     owing_zero [] parts (record { state = h.state; stands = lawful_stands body parts h.state h.lawful h.stands; others = []; balances = h.balances })
-
--- it is a time of the machine
-pub time_in_limit : {B Code : Type 0} (body : BodyOf B Code) (parts : PartsOf B Code) → StandsForSome body parts →
-    parts.shared.happen.time ≤ℤ pos (2 ^ 62)
-time_in_limit body parts h = rw h.stands.facilities.calendar.time h.lawful.times.in_limit
 
 -- ---- what becomes of the kernel
 

@@ -23,7 +23,7 @@ use Rattle.sim_accounts.proofs.CalendarChanges.{quietly_condition_made}
 use Rattle.sim_accounts.proofs.ConditionsMade.{condition_balanced, condition_gone, made_members}
 use Rattle.sim_accounts.proofs.StateChanges.{quiet_trade}
 use Rattle.sim_steps_model.specs.PartsOf.{PartsOf, with_happen}
-use Rattle.sim_steps_model.specs.Becoming.{Becomes, BecomesWith, most_held}
+use Rattle.sim_steps_model.specs.Becoming.{Becomes, BecomesWith}
 use Rattle.sim_steps_law.proofs.Keeping.{AddsHolders, adds_none, adds_one_more, adds_then, adds_unheld, adds_more, few_by}
 use Rattle.sim_steps_law.proofs.Becoming.{becomes_as, becomes_then, becomes_told, becomes_within, turned_stands_for}
 use Rattle.sim_machine.specs.Bodies.{BodyOf}
@@ -39,10 +39,6 @@ adds_each (e ∷ es) =
 adds_holding : (most : ℕ) (members : List EventId) → length members ≤ most → AddsHolders most (holding members)
 adds_holding most members few =
     adds_more (length members + 0) most (holding members) (omega (arith, few)) (adds_then (length members) 0 (one_more_each members) unheld_event (adds_each members) (adds_unheld 1))
-
--- no condition gives an event too many holders
-pub members_are_few : 16 ≤ most_held
-members_are_few = omega arith
 
 -- ---- a condition is made
 

@@ -19,9 +19,9 @@ use Rattle.sim_machine.specs.Standing.{left_of}
 use Rattle.sim_machine.specs.Tellings.{Place, CodeFacts}
 use Rattle.sim_machine.specs.LawfulTries.{tries_well}
 use Rattle.sim_machine_law.proofs.PolledMove.{has_resource_below, has_resource_of}
-use Rattle.sim_events.specs.TableOf.{AreNeeded, Spare, kept_at}
+use Rattle.sim_events.specs.TableOf.{AreNeeded, Spare}
 use Rattle.sim_events.specs.Changes.{more_callbacks}
-use Rattle.sim_happen_model.specs.HappenOf.{HappenOf, IsOpen, held}
+use Rattle.sim_happen_model.specs.HappenOf.{HappenOf, IsOpen}
 use Rattle.sim_happen_model.specs.Shows.{Shows}
 use Rattle.sim_shared_model.specs.Resources.{waiting_at}
 use Rattle.sim_shared_model.specs.SharedOf.{SharedOf}
@@ -30,12 +30,10 @@ use Rattle.sim_shared_model.specs.Making.{ShowsSome}
 use Rattle.sim_shared_model.specs.Waiting.{AreAllOpen}
 use Rattle.sim_steps_model.specs.PartsOf.{PartsOf, HasUnitRoom, IsRunning}
 use Rattle.sim_steps_model.specs.StandsFor.{StandsForSome}
-use Rattle.sim_steps_model.specs.Becoming.{AreFew, most_held}
 use Rattle.sim_steps_model.specs.Calling.{TakesCallback}
 use Rattle.sim_steps_model.specs.Holding.{TakesHolder}
 use Rattle.sim_steps_model.specs.Polling.{Asks, AsksOwing}
 use Rattle.sim_steps_model.specs.Resources.{AreResourcesReady, TakesMoves, TakesRequests}
-use Rattle.sim_steps_law.proofs.Keeping.{held_by_few}
 use Rattle.sim_steps_law.proofs.Becoming.{lawful_stands, shown_with}
 use Rattle.sim_steps_law.proofs.Running.{KeepsLaw, running_can_be_told}
 use Rattle.sim_steps_law.proofs.WaitingRequests.{resources_ready}
@@ -81,13 +79,6 @@ module _ {B Code : Type 0} (body : BodyOf B Code) (old mid : PartsOf B Code) (p 
         number = omega (arith, number, a.asks.takes.made);
       }
 
-  -- each event has few holders
-  pub still_few : (most : ℕ) → AreFew most (held old.shared.happen) → AreFew (most + 1) (held mid.shared.happen)
-  still_few most few = a.owes.few.few most few
-
-  pub polled_few : AreFew (2 ^ 40) (held old.shared.happen) → (e : EventId) → (kept_at mid.shared.happen.events e).holders < 2 ^ 60
-  polled_few few e = held_by_few (2 ^ 40 + 1) mid.shared.happen (omega arith) (still_few (2 ^ 40) few) e
-
 module _ {B Code : Type 0} (body : BodyOf B Code) (old mid : PartsOf B Code) (p : ProcId) (told : Signal) (asked : Op) (a : Asks body p told old asked mid)
     (h : StandsForSome body old) where
   module _ (event : EventId) (law : KeepsLaw body old.code) (fits : FitsCode (body.facts old.code) old.setup) (few : length old.shared.happen.events < 2 ^ 62)
@@ -118,10 +109,6 @@ module _ {B Code : Type 0} (body : BodyOf B Code) (old mid : PartsOf B Code) (p 
 
     pub polled_requests_at : (res : ℕ) → AsksAt (body.facts old.code) takes_requests res asked → TakesRequests res mid
     polled_requests_at res at = record { within = polled_within takes_requests res at; slots = polled_kind takes_requests res at }
-
--- one holder more is few
-pub one_is_few : 1 ≤ most_held
-one_is_few = omega arith
 
 -- ---- the callback that was taken out
 

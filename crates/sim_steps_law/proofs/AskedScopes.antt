@@ -1,11 +1,10 @@
 -- What is known of the open scopes of the process that asked to enter one, to leave its innermost or to release a request.
 use Rattle.std.proofs.Common.{◌≡◌, ℕ, ◌<◌, ◌^◌, ℤ, Bool, true, false, ◌||◌, List, [], ◌∷◌, length, refl, sym, ap, subst, ◌∙◌, arith, map, filter, Some, cond}
-use Rattle.std.specs.Prelude.{All, ◌==◌, nat_lt, IsSome, IsSomeAnd}
+use Rattle.std.specs.Prelude.{◌==◌, nat_lt, IsSome, IsSomeAnd}
 use Rattle.std.specs.Option.{option_map}
 use Rattle.std.specs.List.{list_any}
-use Rattle.std.proofs.lemmas.Bool.{and_parts, eqb-true, eq-eqb, false≢true, ltb-true}
+use Rattle.std.proofs.lemmas.Bool.{and_parts, eqb-true, eq-eqb, false≢true}
 use Rattle.std.proofs.lemmas.List.{length-map}
-use Rattle.std.proofs.lemmas.List.Elements.{All-weaker}
 use Rattle.sim_types.specs.declared.event.EventId.{EventId}
 use Rattle.sim_types.specs.declared.event.ProcId.{ProcId}
 use Rattle.sim_types.specs.declared.event.Scope.{Scope}
@@ -25,13 +24,11 @@ use Rattle.sim_machine_law.proofs.KeptProcessesParts.{is_process-self}
 use Rattle.sim_machine_law.proofs.KeptWaitingPolls.{own_scopes}
 use Rattle.sim_machine_law.proofs.LawfulBasis.{basis_of}
 use Rattle.sim_procs.specs.Premises.{EntersWithin}
-use Rattle.sim_procs.specs.RecordOf.{RecordOf, record_of, innermost, scope_of}
-use Rattle.sim_events.specs.TableOf.{AreNeeded, IsKept}
+use Rattle.sim_procs.specs.RecordOf.{RecordOf, record_of, scope_of}
 use Rattle.sim_steps_model.specs.PartsOf.{PartsOf, IsRunning, plan_of}
 use Rattle.sim_steps_model.specs.StandsFor.{StandsForSome, process_of, scopes_of}
 use Rattle.sim_steps_model.specs.Polling.{Asks}
 use Rattle.sim_steps_law.proofs.Running.{KeepsLaw, process_found, running_can_be_told, running_is}
-use Rattle.sim_steps_law.proofs.KeptNames.{own_scopes_kept}
 use Rattle.sim_steps_law.proofs.Ending.{record_polled, scopes_found}
 use Rattle.sim_steps_law.proofs.AskedResources.{AsksAt}
 use Rattle.sim_steps_law.proofs.EnteredScopes.{scope_in}
@@ -53,12 +50,6 @@ scope_some request (y ∷ ys) h = at (y.request.0 == request.0) refl (scope_some
         IsSome (cond v (Some (scope_in y)) (scope_of request (map scope_in ys)))
     at true is others = refl
     at false is others = others (later (request.0 == y.request.0) is refl h)
-
--- where scopes are open, one is the innermost
-innermost_some : (xs : List Scope) → 0 < length xs → IsSome (innermost xs)
-innermost_some [] h = absurd (omega (arith, h))
-innermost_some (x ∷ []) h = refl
-innermost_some (x ∷ y ∷ xs) h = innermost_some (y ∷ xs) (omega arith)
 
 -- who asks to enter does so at a resource that takes requests
 pub entered_at : (facts : CodeFacts) (res : ℕ) (priority : ℤ) (preempts : Bool) → AsksAt facts takes_requests res (op.Enter res priority preempts)
@@ -111,18 +102,8 @@ module _ {B Code : Type 0} (body : BodyOf B Code) (old mid : PartsOf B Code) (p 
       let has : r.room ≡ most = rw found_now at room in
       rw found_now (omega (arith, count, fewer, has))
 
-  -- who asks to leave has one
-  pub has_innermost : nat_lt 0 (length entered) ≡ true → IsSome (innermost r.scopes)
-  has_innermost may = innermost_some r.scopes (omega (arith, count, ltb-true 0 (length entered) may))
-
   -- and who asks to release a request has it in a scope
   pub has_scope : (request : EventId) → list_any (is_same request) entered ≡ true → IsSome (scope_of request r.scopes)
   has_scope request may =
       subst (λ (xs : List Scope). IsSome (scope_of request xs)) told_scopes
       (scope_some request (filter (λ y. is_process y.process p) h.state.scopes) (subst (λ (es : List EventId). list_any (is_same request) es ≡ true) (sym own) may))
-
-  -- the requests of all of them are kept
-  pub requests_kept : AreNeeded old.shared.happen.events →
-      IsSomeAnd (record_of p mid.live) (λ q. All (λ x. IsKept mid.shared.happen.events x.request) q.scopes)
-  requests_kept needed =
-      rw found_now (All-weaker (λ x. IsKept old.shared.happen.events x.request) (λ x. IsKept mid.shared.happen.events x.request) (λ x. a.takes.kept x.request) r.scopes (own_scopes_kept body old h needed p r found))

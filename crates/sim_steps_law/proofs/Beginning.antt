@@ -1,10 +1,9 @@
 -- A process that the code makes is the one that the machine makes.
-use Rattle.std.proofs.Common.{◌≡◌, ◌≢◌, ℕ, ℤ, zero, suc, ◌+◌, ◌<◌, Bool, true, false, List, [], ◌∷◌, ◌++◌, length, length-append, refl, sym, ap, subst, ◌∙◌, map, Option, Some, None, ◌⊎◌, inl, inr, arith}
+use Rattle.std.proofs.Common.{◌≡◌, ◌≢◌, ℕ, ℤ, zero, suc, ◌+◌, ◌<◌, Bool, true, false, List, [], ◌∷◌, ◌++◌, length, refl, sym, ap, subst, ◌∙◌, map, Option, Some, None, ◌⊎◌, inl, inr, arith}
 use Rattle.std.specs.Prelude.{All, AllPairs, IsSome, is_some, slice_index_or}
 use Rattle.std.specs.List.{list_any}
 use Rattle.std.specs.List.Sorted.{IsPermutation}
 use Rattle.std.proofs.lemmas.Bool.{both_ways, cases_Bool, or_left}
-use Rattle.std.proofs.lemmas.List.{length-map}
 use Rattle.std.proofs.lemmas.List.Elements.{All-append, All-cons, All-nil, All-weaker}
 use Rattle.std.proofs.lemmas.List.Folds.{list_any-append}
 use Rattle.std.proofs.lemmas.List.Quantifiers.{all_pairs_push}
@@ -34,8 +33,7 @@ use Rattle.sim_procs.specs.RecordOf.{RecordOf, begun_record, record_of}
 use Rattle.sim_events.specs.TableOf.{Kept, IsKept}
 use Rattle.sim_happen_model.specs.HappenOf.{HappenOf, held, unheld_event}
 use Rattle.sim_happen_model.specs.Shows.{Shows}
-use Rattle.sim_happen_law.proofs.Held.{held_at, holders_at, kept_of, of_kept}
-use Rattle.sim_happen_law.proofs.KeptPlaces.{at_end}
+use Rattle.sim_happen_law.proofs.Held.{held_at, kept_of, of_kept}
 use Rattle.sim_accounts.specs.Naming.{but_zero, named_by_process, named_in_places}
 use Rattle.sim_accounts.proofs.CalendarChanges.{plainly_process}
 use Rattle.sim_accounts.proofs.ChangedPlaces.{but_zero-append, in_place}
@@ -80,12 +78,6 @@ module _ (a x : HappenOf) (makes : MakesProcess a x) where
   kept_still e kept =
       let before : IsSome (slice_index_or (held a) e.0 None) = subst IsSome (sym (held_at a e)) (of_kept (slice_index_or a.events e.0 None) kept) in
       kept_by e (still_there (unheld_event (held a)) (Some 0) e.0 (still_there (held a) (Some 0) e.0 before))
-
-  pub init_kept : IsKept x.events (next_init a)
-  init_kept =
-      let hs : List (Option ℕ) = unheld_event (held a) in
-      let last : length hs ≡ (next_init a).0 = omega (arith, length-append (held a) (Some 0 ∷ []), length-map a.events holders_at) in
-      kept_by (next_init a) (subst (λ n. IsSome (slice_index_or (two_unheld (held a)) n None)) last (subst IsSome (sym (at_end hs (Some 0))) refl))
 
 -- nobody holds them yet
 pub begun_few : (most : ℕ) (a x : HappenOf) → MakesProcess a x → AreFew most (held a) → AreFew most (held x)

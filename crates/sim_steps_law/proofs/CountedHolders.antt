@@ -55,10 +55,6 @@ module _ {B Code : Type 0} {body : BodyOf B Code} where
     few = p.few;
   }
 
-  pub is_owing_alike : (es fs : List EventId) (a : PartsOf B Code) → AreAlike es fs → IsOwing body es a → IsOwing body fs a
-  is_owing_alike es fs a alike h =
-      record { state = h.state; stands = h.stands; others = h.others; balances = balances_alike es fs h.others a h.state alike h.balances }
-
   -- where more is to be given back, the first of it is
   pub is_owing_first : (es fs : List EventId) (a : PartsOf B Code) → IsOwing body (es ++ fs) a → IsOwing body es a
   is_owing_first es fs a h = record {

@@ -16,14 +16,14 @@ use Rattle.sim_machine.specs.Scopes.{on_events}
 use Rattle.sim_machine.specs.Processes.{tell, told_more}
 use Rattle.sim_machine.specs.Effect.{calendar, tell_made, trigger_pending, pass_on, chain, effect}
 use Rattle.sim_events.specs.TableOf.{IsKept, kept_at}
-use Rattle.sim_happen_model.specs.HappenOf.{HappenOf, as_before, one_more, unheld_event}
+use Rattle.sim_happen_model.specs.HappenOf.{HappenOf, one_more, unheld_event}
 use Rattle.sim_happen_model.specs.Shows.{Shows, Turns, Follows}
 use Rattle.sim_accounts.specs.Accounts.{Balanced}
 use Rattle.sim_accounts.specs.Naming.{held_alone}
 use Rattle.sim_accounts.proofs.Balancing.{held_balanced, held_gone, trades_balanced}
 use Rattle.sim_accounts.proofs.CalendarChanges.{after_events, none_events, plainly_made, plainly_passed, plainly_scheduled}
 use Rattle.sim_accounts.proofs.StateChanges.{registered_trade}
-use Rattle.sim_happen_law.proofs.Following.{follows_none, read_is, turns_as}
+use Rattle.sim_happen_law.proofs.Following.{read_is}
 use Rattle.sim_happen_law.proofs.NewEvents.{next_is}
 use Rattle.sim_steps_model.specs.PartsOf.{PartsOf, with_happen}
 use Rattle.sim_steps_model.specs.Becoming.{Stands, Becomes, BecomesWith}
@@ -88,27 +88,6 @@ triggered_becomes {B} {Code} {body} a n x e o kept pending follows is =
     (λ s h. rw (event_is a e s kept h, pending) refl)
     (becomes_then gets (tell signal.Done) a (with_happen x a) _ (becomes_followed (trigger e o) a x (plainly_scheduled e o normal (pos 0)) follows) (becomes_told signal.Done (with_happen x a))))
 
--- one that has an outcome keeps it
-pub refused_becomes : {B Code : Type 0} {body : BodyOf B Code} (a n : PartsOf B Code) (e : EventId) (o : Outcome) → IsKept a.shared.happen.events e →
-    IsSome (kept_event a e).outcome → n ≡ record a { control = told_more (signal.Raised 3) a.control } → Becomes body (trigger_pending e o) a n
-refused_becomes {B} {Code} {body} a n e o kept triggered is =
-    subst (Becomes body (trigger_pending e o) a) (sym is)
-    (becomes_as (tell (signal.Raised 3)) (trigger_pending e o) a _ (λ s h. rw (event_is a e s kept h, some_is (kept_event a e).outcome triggered) refl) (becomes_told (signal.Raised 3) a))
-
--- ---- an outcome that is passed on
-
--- a pending event gets it
-pub passed_follows : (a x : HappenOf) (y : EventId) (o : Outcome) → IsKept a.events y → (kept_at a.events y).event.outcome ≡ None →
-    Follows (trigger y o) a x → Follows (pass_on (Some o) y) a x
-passed_follows a x y o kept pending follows =
-    turns_as (trigger y o) (pass_on (Some o) y) as_before a x (λ c s. rw (sym (read_is a c y kept s), pending) refl) follows
-
--- one that is not pending stays as it is
-pub refused_follows : (a : HappenOf) (y : EventId) (o : Outcome) → IsKept a.events y → IsSome (kept_at a.events y).event.outcome →
-    Follows (pass_on (Some o) y) a a
-refused_follows a y o kept triggered =
-    turns_as (λ c. c) (pass_on (Some o) y) as_before a a (λ c s. rw (sym (read_is a c y kept s), some_is (kept_at a.events y).event.outcome triggered) refl) (follows_none a)
-
 -- ---- chains
 
 -- a callback is registered that passes an outcome on, and holds its event
@@ -157,15 +136,6 @@ passed_becomes {B} {Code} {body} a n x e y kept other processed pending follows 
     (becomes_as (λ s. tell signal.Done (passed s)) (chain e y) a _
     (λ s h. rw (processed_is a e s kept h ∙ processed, pending_is a y s other h ∙ ap (λ z. is_none z) pending, outcome_is a e s kept h) refl)
     (becomes_then passed (tell signal.Done) a (with_happen x a) _ (becomes_followed (pass_on o y) a x (plainly_passed o y) follows) (becomes_told signal.Done (with_happen x a))))
-
--- and one that has an outcome already gets no other
-pub unpassed_becomes : {B Code : Type 0} {body : BodyOf B Code} (a n : PartsOf B Code) (e y : EventId) → IsKept a.shared.happen.events e → IsKept a.shared.happen.events y →
-    (kept_event a e).processed ≡ true → IsSome (kept_event a y).outcome → n ≡ record a { control = told_more (signal.Raised 3) a.control } →
-    Becomes body (chain e y) a n
-unpassed_becomes {B} {Code} {body} a n e y kept other processed triggered is =
-    subst (Becomes body (chain e y) a) (sym is)
-    (becomes_as (tell (signal.Raised 3)) (chain e y) a _
-    (λ s h. rw (processed_is a e s kept h ∙ processed, pending_is a y s other h ∙ some_is (kept_event a y).outcome triggered) refl) (becomes_told (signal.Raised 3) a))
 
 -- a chain that is not refused does one or the other
 pub chain_becomes : {B Code : Type 0} {body : BodyOf B Code} (a n : PartsOf B Code) (x : HappenOf) (e y : EventId) → IsKept a.shared.happen.events e →

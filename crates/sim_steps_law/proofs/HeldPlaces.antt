@@ -21,24 +21,13 @@ use Rattle.sim_accounts.specs.Naming.{but_zero}
 use Rattle.sim_accounts.proofs.ChangedPlaces.{in_place, times_in-next, but_zero-append}
 use Rattle.sim_steps_model.specs.PartsOf.{PartsOf}
 use Rattle.sim_steps_model.specs.Becoming.{BecomesOwing, IsOwing}
-use Rattle.sim_steps_model.specs.Holding.{HoldsMore, TakesHolder}
+use Rattle.sim_steps_model.specs.Holding.{HoldsMore}
 use Rattle.sim_steps_law.proofs.Accounting.{other_is, owing_after, owing_besides, zero_is}
 use Rattle.sim_steps_law.proofs.Becoming.{becomes_none, becomes_then}
 use Rattle.sim_steps_law.proofs.CountedHolders.{AreAlike, alike_itself, is_owing_first, owing_alike}
 use Rattle.sim_machine.specs.Bodies.{BodyOf}
 
--- one holder is taken after another
-pub takes_then : (a b c : HappenOf) → TakesHolder a b → TakesHolder b c → TakesHolder a c
-takes_then a b c h k = record {
-  kept = λ e kept. k.kept e (h.kept e kept);
-  event = λ e kept. k.event e (h.kept e kept) ∙ h.event e kept;
-  made = k.made ∙ h.made;
-  time = k.time ∙ h.time;
-  left = k.left ∙ h.left;
-  spare = k.spare ∙ h.spare;
-}
-
--- and so the accounts change
+-- where a holder is taken, the accounts have one more
 pub holds_more : (e : EventId) (a x : HappenOf) → e.0 ≢ 0 → IsKept a.events e → Turns (λ c. c) (one_more e) a x → HoldsMore e a.events x.events
 holds_more e a x other kept t =
     let c : Calendar = seen a in

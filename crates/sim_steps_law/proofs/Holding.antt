@@ -30,8 +30,8 @@ use Rattle.sim_steps_model.specs.PartsOf.{PartsOf, with_happen}
 use Rattle.sim_steps_model.specs.StandsFor.{Balances}
 use Rattle.sim_steps_model.specs.Becoming.{AreFew, Stands, BecomesOwing, IsOwing}
 use Rattle.sim_steps_model.specs.Holding.{TakesHolder, ReturnsHolder}
-use Rattle.sim_steps_law.proofs.Keeping.{AtMost, adds_one_more, few_by, few_here, few_more, few_same, few_weaker}
-use Rattle.sim_steps_law.proofs.Accounting.{other_is, zero_is}
+use Rattle.sim_steps_law.proofs.Keeping.{AtMost, adds_one_more, few_by, few_here, few_weaker}
+use Rattle.sim_steps_law.proofs.Accounting.{other_is}
 use Rattle.sim_steps_law.proofs.Becoming.{shown_with, turned_stands_for}
 use Rattle.sim_machine.specs.Bodies.{BodyOf}
 
@@ -127,24 +127,7 @@ fewer_kept most = record {
 -- ---- what of the kernel
 
 module _ {B Code : Type 0} {body : BodyOf B Code} (e : EventId) (a : PartsOf B Code) (x : HappenOf) where
-  -- event 0 is not held
-  pub holding_none : e.0 ≡ 0 → BecomesOwing body [] (but_zero (e ∷ [])) 1 (λ s. s) a a
-  holding_none is_zero = record {
-    each = λ s h. h;
-    accounts = λ todo s h k. subst (λ xs. Balances body (xs ++ todo) a s) (sym (zero_is e is_zero)) k;
-    opened = record { code = refl; setup = refl; seed = refl };
-    few = few_more 0 1 a a (omega arith) (few_same a a refl);
-  }
-
-  pub returning_none : e.0 ≡ 0 → BecomesOwing body (but_zero (e ∷ [])) [] 0 (λ s. s) a a
-  returning_none is_zero = record {
-    each = λ s h. h;
-    accounts = λ todo s h k. subst (λ xs. Balances body (xs ++ todo) a s) (zero_is e is_zero) k;
-    opened = record { code = refl; setup = refl; seed = refl };
-    few = few_same a a refl;
-  }
-
-  -- any other is
+  -- any event but event 0 is held
   pub holding_owes : e.0 ≢ 0 → IsKept a.shared.happen.events e → Turns (λ c. c) (one_more e) a.shared.happen x →
       BecomesOwing body [] (but_zero (e ∷ [])) 1 (λ s. s) a (with_happen x a)
   holding_owes other kept t =
@@ -259,15 +242,3 @@ module _ {B Code : Type 0} {body : BodyOf B Code} (e : EventId) (a n : PartsOf B
       x ≡ record a.shared.happen { events = x.events; spare = x.spare } → BecomesOwing body (but_zero (e ∷ [])) [] 0 (λ s. s) a n
   returns_owes owing events others =
       subst (λ (m : PartsOf B Code). BecomesOwing body (but_zero (e ∷ [])) [] 0 (λ s. s) a m) (sym is) (returning_owes e a x other owing events others)
-
--- nothing is done for event 0
-pub returns_none : (a : HappenOf) → ReturnsHolder a a
-returns_none a = record {
-  kept = λ e kept unclosed. kept;
-  event = λ e kept unclosed. refl;
-  made = refl;
-  events = omega arith;
-  callbacks = omega arith;
-  conditions = omega arith;
-  others = refl;
-}

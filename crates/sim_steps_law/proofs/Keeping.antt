@@ -4,7 +4,6 @@ use Rattle.std.specs.Prelude.{◌==◌, slice_index_or, slice_set, All, IfSome}
 use Rattle.std.specs.Option.{option_map}
 use Rattle.std.proofs.lemmas.List.{length-append, length-set}
 use Rattle.std.proofs.lemmas.List.Elements.{All-cons, All-head, All-tail, All-nil, All-append, All-set, All-weaker}
-use Rattle.sim_machine.specs.MayAsk.{most_scopes}
 use Rattle.sim_types.specs.declared.event.EventId.{EventId}
 use Rattle.sim_events.specs.TableOf.{Kept, kept_at}
 use Rattle.sim_happen_model.specs.HappenOf.{HappenOf, AreHeldByFew, held, as_before, unheld_event, one_more, none_if_unheld, gone_if_unheld}
@@ -143,6 +142,3 @@ few_more m n a b few p = record { few = λ most h. few_weaker (most + m) (most +
 -- what gives no event a holder more gives none too many
 pub none_is_few : 0 ≤ most_held
 none_is_few = omega arith
-
-pub scopes_are_few : most_scopes ≤ most_held
-scopes_are_few = omega arith

@@ -13,7 +13,6 @@ use Rattle.sim_types.specs.declared.setup.Class.TheVariants as class
 use Rattle.sim_machine.specs.State.{OpenScope, ProcessOf, Control, Idle, Calling, Active, Over}
 use Rattle.sim_machine.specs.Events.{is_process}
 use Rattle.sim_machine.specs.Processes.{event_of, process_at}
-use Rattle.sim_machine.specs.Effect.{calendar}
 use Rattle.sim_machine.specs.Bodies.{BodyOf}
 use Rattle.sim_machine.specs.Tellings.{Place, is_class}
 use Rattle.sim_machine.specs.KeptEvents.{is_in_process, is_kept}
@@ -22,13 +21,13 @@ use Rattle.sim_machine_law.specs.ReachedEvents.{is_over, names_kept}
 use Rattle.sim_machine_law.proofs.EventLaws.{is_same-self}
 use Rattle.sim_machine_law.proofs.KeptBodies.{find_has, find_passes}
 use Rattle.sim_machine_law.proofs.KeptProcessesParts.{is_process-yes}
-use Rattle.sim_machine_law.proofs.KeptReached.{all_named_kept, entries_kept, left_kept, places_kept, process_kept, processes_kept, scopes_kept, targets_kept, told_kept, waiters_kept}
+use Rattle.sim_machine_law.proofs.KeptReached.{all_named_kept, left_kept, places_kept, process_kept, processes_kept, scopes_kept, targets_kept, told_kept, waiters_kept}
 use Rattle.sim_procs.specs.RecordOf.{RecordOf, record_of}
 use Rattle.sim_events.specs.TableOf.{IsKept, AreNeeded}
 use Rattle.sim_accounts.specs.Accounts.{Accounts}
 use Rattle.sim_accounts.specs.Naming.{but_zero, named_in_places}
 use Rattle.sim_accounts.proofs.KeptExactly.{kept_exactly}
-use Rattle.sim_steps_model.specs.PartsOf.{PartsOf, IsCalling, IsRunning, IsRunningAt, plan_of}
+use Rattle.sim_steps_model.specs.PartsOf.{PartsOf, IsCalling, IsRunning, plan_of}
 use Rattle.sim_steps_model.specs.StandsFor.{StandsForSome, process_of, scopes_of}
 use Rattle.sim_steps_law.proofs.Running.{process_found, running_is}
 
@@ -39,12 +38,6 @@ called_in_process Idle event h = absurd h
 called_in_process (Calling e left) event h = rw h (is_same-self event)
 called_in_process (Active e left p x) event h = absurd h
 called_in_process (Over why e left) event h = absurd h
-
-run_in_process : (c : Control) (event : EventId) → IsRunningAt event c → is_in_process c event ≡ true
-run_in_process Idle event h = absurd h
-run_in_process (Calling e left) event h = absurd h
-run_in_process (Active e left p x) event h = rw h (is_same-self event)
-run_in_process (Over why e left) event h = absurd h
 
 -- ---- what places name
 
@@ -81,12 +74,6 @@ module _ {B Code : Type 0} (body : BodyOf B Code) (parts : PartsOf B Code) (h : 
       kept_here event
       (process_kept (plan_of body parts) (body.tell parts.code) (body.sound parts.code) h.state h.lawful event (subst (λ c. is_in_process c event ≡ true) h.stands.control (called_in_process parts.control event calling)))
 
-  -- the event within whose call a process runs
-  pub running_kept : (event : EventId) → IsRunningAt event parts.control → IsKept parts.shared.happen.events event
-  running_kept event running =
-      kept_here event
-      (process_kept (plan_of body parts) (body.tell parts.code) (body.sound parts.code) h.state h.lawful event (subst (λ c. is_in_process c event ≡ true) h.stands.control (run_in_process parts.control event running)))
-
   -- the event that a process made and is told of
   pub made_kept : (event : EventId) (p : ProcId) (e : EventId) → IsRunning event p (signal.Made e) parts.control → IsKept parts.shared.happen.events e
   made_kept event p e running =
@@ -107,11 +94,6 @@ module _ {B Code : Type 0} (body : BodyOf B Code) (parts : PartsOf B Code) (h : 
   -- the named events, and event 0
   pub named_kept : (e : EventId) → e.0 ≤ parts.setup.events → IsKept parts.shared.happen.events e
   named_kept e few = kept_here e (all_named_kept (plan_of body parts) (body.tell parts.code) (body.sound parts.code) h.state h.lawful e few)
-
-  pub all_entries_kept : All (λ x. IsKept parts.shared.happen.events x.event) (calendar h.state).agenda
-  all_entries_kept =
-      All-weaker (λ x. is_kept parts.setup.events (body.tell parts.code) h.state x.event ≡ true) (λ x. Kept x.event) (λ x. kept_here x.event) (calendar h.state).agenda
-      (entries_kept (plan_of body parts) (body.tell parts.code) (body.sound parts.code) h.state h.lawful)
 
   pub all_waiters_kept : All (λ w. IsKept parts.shared.happen.events w.event) h.state.facilities.waiters
   all_waiters_kept =

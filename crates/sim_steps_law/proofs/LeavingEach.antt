@@ -1,6 +1,6 @@
 -- All scopes of a process are left, one after another.
 use Rattle.std.proofs.Common.{◌≡◌, ◌≢◌, ℕ, ◌+◌, ◌<◌, ◌≤◌, Bool, true, false, not, List, [], ◌∷◌, ◌++◌, Option, Some, None, length, filter, refl, sym, ap, ◌∙◌, arith, if◌then◌else◌, All, AllPairs}
-use Rattle.std.specs.Prelude.{fold, reverse, is_some, IsSome, IsSomeAnd, option_and_then}
+use Rattle.std.specs.Prelude.{fold, reverse, is_some, IsSomeAnd, option_and_then}
 use Rattle.std.specs.Option.{option_map}
 use Rattle.std.proofs.lemmas.Bool.{false≢true}
 use Rattle.std.proofs.lemmas.Option.{none-some}
@@ -210,10 +210,6 @@ scope_count None = 0
 scope_count (Some r) = length r.scopes
 
 module _ {B Code : Type 0} {body : BodyOf B Code} (p : ProcId) {a b : PartsOf B Code} (l : LeavesSome body p a b) where
-  -- the process is alive
-  pub some_alive : IsSome (record_of p b.live)
-  some_alive = rw l.now refl
-
   -- so many may be open as were at most
   pub gone_few : IsSomeAnd (record_of p a.live) (λ r. length r.scopes ≤ most_scopes) → l.gone + length l.still ≤ most_scopes
   gone_few few = let h : length l.was.scopes ≤ most_scopes = rw l.before at few in omega (arith, h, l.count)

@@ -4,11 +4,9 @@ use Rattle.std.specs.Prelude.{◌↔◌, slice_index_or, IsSome}
 use Rattle.std.proofs.lemmas.Bool.{false≢true, or_right}
 use Rattle.std.proofs.lemmas.List.{length-map, length-append, length-set}
 use Rattle.sim_types.specs.declared.event.EventId.{EventId}
-use Rattle.sim_types.specs.declared.event.ProcId.{ProcId}
 use Rattle.sim_types.specs.declared.event.Callback.TheVariants as callback
 use Rattle.sim_types.specs.declared.event.EventKind.TheVariants as kind
 use Rattle.sim_types.specs.declared.event.Signal.TheVariants as signal
-use Rattle.sim_types.specs.declared.op.Op.TheVariants as op
 use Rattle.sim_machine.specs.State.{Give, Calendar, EventOf, Facilities, State, Plan}
 use Rattle.sim_machine.specs.Events.{cancel_event}
 use Rattle.sim_machine.specs.KeptEvents.{is_closed}
@@ -18,7 +16,7 @@ use Rattle.sim_machine.specs.Bodies.{BodyOf}
 use Rattle.sim_machine.specs.Trying.{on_calendar, try_put, try_get, unqueue}
 use Rattle.sim_machine.specs.Scopes.{on_facilities}
 use Rattle.sim_machine.specs.Processes.{tell, told_more}
-use Rattle.sim_machine.specs.Effect.{calendar, effect, with_move}
+use Rattle.sim_machine.specs.Effect.{calendar, with_move}
 use Rattle.sim_machine_law.proofs.MadeEvents.{put_made_more, get_made_more}
 use Rattle.sim_events.specs.TableOf.{Spare, IsKept, kept_at}
 use Rattle.sim_happen_model.specs.HappenOf.{held, gone_if_unheld, none_if_unheld}
@@ -149,16 +147,6 @@ move_refused {B} {Code} {body} g res amount change a n resources refuses is =
           subst (Becomes body (with_move g res amount change after) a) (sym is)
           (becomes_as (tell (signal.Raised 2)) (with_move g res amount change after) a _ (λ s h. rw refused refl) (becomes_told (signal.Raised 2) a));
     }
-
--- ---- how much is in use
-
-pub counted_becomes : {B Code : Type 0} {body : BodyOf B Code} (g : Plan B) (a n : PartsOf B Code) (p : ProcId) (res : ℕ) (number : ℤ) →
-    ((f : Facilities) → ShowsAll a.shared f → number ≡ requests.held g.setup.resources res f) →
-    n ≡ record a { control = told_more (signal.Number number) a.control } → Becomes body (effect g p (op.Count res)) a n
-counted_becomes {B} {Code} {body} g a n p res number counts is =
-    subst (Becomes body (effect g p (op.Count res)) a) (sym is)
-    (becomes_as (tell (signal.Number number)) (effect g p (op.Count res)) a _
-    (λ s h. ap (λ m. tell (signal.Number m) s) (counts s.facilities h.stands.facilities)) (becomes_told (signal.Number number) a))
 
 -- ---- tries
 

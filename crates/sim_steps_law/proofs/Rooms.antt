@@ -8,7 +8,7 @@ use Rattle.sim_types.specs.declared.setup.Until.{Until}
 use Rattle.sim_machine.specs.State.{Calendar, Facilities, State}
 use Rattle.sim_machine.specs.Bodies.{BodyOf}
 use Rattle.sim_procs.specs.RecordOf.{RecordOf}
-use Rattle.sim_events.specs.TableOf.{Spare, AreNeeded}
+use Rattle.sim_events.specs.TableOf.{Spare}
 use Rattle.sim_happen_model.specs.HappenOf.{HappenOf, held}
 use Rattle.sim_happen_model.specs.Shows.{Shows}
 use Rattle.sim_shared_model.specs.declared.resource.SharedResource.{SharedResource}
@@ -136,13 +136,6 @@ roomier_opening {B} {Code} {body} old new k h =
       older = subst (λ live. older live (length new.shared.happen.events)) (sym same_live) (subst (λ n. older old.live n) (sym same_made) h.older);
       owing = roomier_owing [] old new k h.owing;
     }
-
--- what is kept is to be kept as before
-pub roomier_needed : {B Code : Type 0} (old new : PartsOf B Code) → KeepsButRoom old new → AreNeeded old.shared.happen.events →
-    AreNeeded new.shared.happen.events
-roomier_needed old new k h =
-    let same : new.shared.happen.events ≡ old.shared.happen.events = ap (λ (x : HappenOf). x.events) k.shared.happen in
-    subst AreNeeded (sym same) h
 
 pub roomier_held : {B Code : Type 0} (old new : PartsOf B Code) → KeepsButRoom old new → held new.shared.happen ≡ held old.shared.happen
 roomier_held old new k = ap held k.shared.happen
