@@ -33,7 +33,8 @@ pub opened_then : {B Code : Type 0} (a b c : PartsOf B Code) → IsOpenedAs a b 
 opened_then a b c h k = record { code = k.code ∙ h.code; setup = k.setup ∙ h.setup; seed = k.seed ∙ h.seed }
 
 -- who holds what is the same for what was opened alike
-opened_alone : {B Code : Type 0} (body : BodyOf B Code) (a b : PartsOf B Code) (s : State B) → IsOpenedAs a b → held_alone b.setup.events (body.tell b.code) s ≡ held_alone a.setup.events (body.tell a.code) s
+opened_alone : {B Code : Type 0} (body : BodyOf B Code) (a b : PartsOf B Code) (s : State B) → IsOpenedAs a b →
+    held_alone b.setup.events (body.tell b.code) s ≡ held_alone a.setup.events (body.tell a.code) s
 opened_alone body a b s o = rw (o.code, o.setup) refl
 
 -- an event but event 0 is held by being named
@@ -51,7 +52,8 @@ pub record HoldersStay {B Code : Type 0} (a b : PartsOf B Code) (s t : State B) 
   pub keeps : KeepsHolders (calendar t) (held a.shared.happen) (held b.shared.happen)
 
 -- where the calendar stays, and the table
-pub stay_stated : {B Code : Type 0} (a b : PartsOf B Code) (s t : State B) → calendar t ≡ calendar s → held b.shared.happen ≡ held a.shared.happen → HoldersStay a b s t
+pub stay_stated : {B Code : Type 0} (a b : PartsOf B Code) (s t : State B) → calendar t ≡ calendar s → held b.shared.happen ≡ held a.shared.happen →
+    HoldersStay a b s t
 stay_stated a b s t same table = record {
   after = after_events (calendar s) (calendar t) (ap (λ (c : Calendar). c.events) same);
   none = none_events (calendar s) (calendar t) (ap (λ (c : Calendar). c.events) same);
@@ -70,7 +72,8 @@ stay_plainly holds a b s t keeps table plainly = record {
 module _ {B Code : Type 0} {body : BodyOf B Code} where
   -- ---- the general lift: the holders of the table stay, and in the state these trade
 
-  pub balances_by : (gained lost todo : List EventId) (a b : PartsOf B Code) (s t : State B) → IsOpenedAs a b → Stands a s → Stands b t → HoldersStay a b s t →
+  pub balances_by : (gained lost todo : List EventId) (a b : PartsOf B Code) (s t : State B) → IsOpenedAs a b → Stands a s → Stands b t →
+      HoldersStay a b s t →
       StatesTrade a.setup.events (body.tell a.code) gained lost s t → Balances body (gained ++ todo) a s → Balances body (lost ++ todo) b t
   balances_by gained lost todo a b s t o old new stay trade h =
       let before : Shows a.shared.happen (calendar s) = old.stands.facilities.calendar in
@@ -78,14 +81,16 @@ module _ {B Code : Type 0} {body : BodyOf B Code} where
       let was : EventId → ℕ = held_alone a.setup.events (body.tell a.code) s in
       let is_now : EventId → ℕ = held_alone a.setup.events (body.tell a.code) t in
       let table : Balanced was (gained ++ todo) b.shared.happen.events =
-      kept_balanced a.shared.happen b.shared.happen (calendar s) (calendar t) before now_shown stay.after stay.none stay.keeps was (gained ++ todo) h.holders in
+      kept_balanced a.shared.happen b.shared.happen (calendar s)
+      (calendar t) before now_shown stay.after stay.none stay.keeps was (gained ++ todo) h.holders in
       record {
         holders = subst (λ alone. Balanced alone (lost ++ todo) b.shared.happen.events) (sym (opened_alone body a b t o))
             (trades_balanced gained lost todo was is_now b.shared.happen.events trade table);
         gone = kept_gone a.shared.happen b.shared.happen (calendar s) (calendar t) before now_shown stay.after stay.none stay.keeps h.gone;
       }
 
-  pub owing_by : (gained lost : List EventId) (more : ℕ) (f : State B → State B) (a b : PartsOf B Code) → ((s : State B) → Stands a s → Stands b (f s)) →
+  pub owing_by : (gained lost : List EventId) (more : ℕ) (f : State B → State B) (a b : PartsOf B Code) →
+      ((s : State B) → Stands a s → Stands b (f s)) →
       IsOpenedAs a b → AddsFew more a b → ((s : State B) → Stands a s → HoldersStay a b s (f s)) →
       ((s : State B) → Stands a s → StatesTrade a.setup.events (body.tell a.code) gained lost s (f s)) → BecomesOwing body gained lost more f a b
   owing_by gained lost more f a b each opened few stay trades = record {
@@ -98,7 +103,8 @@ module _ {B Code : Type 0} {body : BodyOf B Code} where
   -- ---- one change after another
 
   -- the second uses up what the first leaves
-  pub owing_then : {m n : ℕ} {gained between lost : List EventId} (f g : State B → State B) (a b c : PartsOf B Code) → BecomesOwing body gained between m f a b →
+  pub owing_then : {m n : ℕ} {gained between lost : List EventId} (f g : State B → State B) (a b c : PartsOf B Code) →
+      BecomesOwing body gained between m f a b →
       AddsFew (m + n) a c → BecomesOwing body between lost n g b c → BecomesOwing body gained lost (m + n) (λ s. g (f s)) a c
   owing_then f g a b c p few q = record {
     each = λ s h. q.each (f s) (p.each s h);
@@ -113,7 +119,8 @@ module _ {B Code : Type 0} {body : BodyOf B Code} where
   owing_besides {m} {gained} {lost} more f a b p = record {
     each = p.each;
     accounts = λ todo s h k.
-        subst (λ xs. Balances body xs b (f s)) (sym (append_assoc lost more todo)) (p.accounts (more ++ todo) s h (subst (λ xs. Balances body xs a s) (append_assoc gained more todo) k));
+        subst (λ xs. Balances body xs b (f s)) (sym (append_assoc lost more todo))
+        (p.accounts (more ++ todo) s h (subst (λ xs. Balances body xs a s) (append_assoc gained more todo) k));
     opened = p.opened;
     few = p.few;
   }

@@ -31,16 +31,23 @@ number_names_none (c ∷ []) v h = absurd (false≢true h)
 number_names_none (c ∷ d ∷ cs) v h = absurd (false≢true h)
 
 -- it names no event
-pub port_kept : {B Code : Type 0} (f : CodeFacts) (parts : PartsOf B Code) (port : ℕ) (value : ℤ) → FitsCode f parts.setup → port < length parts.setup.ports →
-    IsKept parts.shared.happen.events (record { 0 = 0 }) → AreArgumentsKept f (slice_index_or parts.setup.ports port 0) (value ∷ []) parts.shared.happen.events
+pub port_kept : {B Code : Type 0} (f : CodeFacts) (parts : PartsOf B Code) (port : ℕ) (value : ℤ) → FitsCode f parts.setup →
+    port < length parts.setup.ports →
+    IsKept parts.shared.happen.events (record { 0 = 0 }) →
+    AreArgumentsKept f (slice_index_or parts.setup.ports port 0) (value ∷ []) parts.shared.happen.events
 port_kept f parts port value fits below zero =
     let k = slice_index_or parts.setup.ports port 0 in
     let here : IsTrue (port_fits f k) = fits.ports port 0 below in
     let P : EventId → Type 0 = IsKept parts.shared.happen.events in
-    record { zero = zero; named = subst (λ (es : List EventId). All P es) (sym (number_names_none (slice_index_or f.params k []) value (and_parts _ _ here).1)) (All-nil P) }
+    record {
+      zero = zero;
+      named = subst (λ (es : List EventId). All P es)
+          (sym (number_names_none (slice_index_or f.params k []) value (and_parts _ _ here).1)) (All-nil P);
+    }
 
 -- event 0 is kept
-pub zero_kept : {B Code : Type 0} (body : BodyOf B Code) (parts : PartsOf B Code) → StandsForSome body parts → IsKept parts.shared.happen.events (record { 0 = 0 })
+pub zero_kept : {B Code : Type 0} (body : BodyOf B Code) (parts : PartsOf B Code) → StandsForSome body parts →
+    IsKept parts.shared.happen.events (record { 0 = 0 })
 zero_kept body parts h =
     owing_zero [] parts (record { state = h.state; stands = lawful_stands body parts h.state h.lawful h.stands; others = []; balances = h.balances })
 

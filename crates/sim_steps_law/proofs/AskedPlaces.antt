@@ -35,9 +35,11 @@ use Rattle.sim_steps_law.proofs.Running.{KeepsLaw, running_can_be_told}
 -- ---- the place that changes
 
 -- it is one of the 64
-pub place_within : {B Code : Type 0} (body : BodyOf B Code) (place : Code → B → Option ℕ) (a : PartsOf B Code) (event : EventId) (p : ProcId) (told : Signal) →
+pub place_within : {B Code : Type 0} (body : BodyOf B Code) (place : Code → B → Option ℕ)
+    (a : PartsOf B Code) (event : EventId) (p : ProcId) (told : Signal) →
     ((code : Code) (b : B) (e : EventId) (at : ℕ) → CanBeTold body code b (signal.Made e) → place code b ≡ Some at → at < 64) → StandsForSome body a →
-    length a.shared.happen.events < 2 ^ 62 → IsRunning event p told a.control → IfSome (place_given (place a.code) told (record_of p a.live)) (λ at. at < 64)
+    length a.shared.happen.events < 2 ^ 62 → IsRunning event p told a.control →
+    IfSome (place_given (place a.code) told (record_of p a.live)) (λ at. at < 64)
 place_within {B} body place a event p told within h few running = at (record_of p a.live) told refl refl
   where
     of : (o : Option ℕ) → ((at : ℕ) → o ≡ Some at → at < 64) → IfSome o (λ at. at < 64)
@@ -62,8 +64,10 @@ with_zero P (e ∷ es) zero h = at (e.0 == 0) refl h (with_zero P es zero)
     at true is all later = All-cons P e es (subst P (same_event (record { 0 = 0 }) e (sym (eqb-true e.0 0 is))) zero) (later all)
     at false is all later = All-cons P e es (All-head P e (but_zero es) all) (later (All-tail P e (but_zero es) all))
 
-module _ {B Code : Type 0} (body : BodyOf B Code) (events : B → List EventId) (place : B → Option ℕ) (old : PartsOf B Code) (p : ProcId) (event : EventId) (told : Signal)
-    (reads : ReadsPlaces body old.code events place) (law : KeepsLaw body old.code) (h : StandsForSome body old) (few : length old.shared.happen.events < 2 ^ 62)
+module _ {B Code : Type 0} (body : BodyOf B Code) (events : B → List EventId)
+    (place : B → Option ℕ) (old : PartsOf B Code) (p : ProcId) (event : EventId) (told : Signal)
+    (reads : ReadsPlaces body old.code events place) (law : KeepsLaw body old.code)
+    (h : StandsForSome body old) (few : length old.shared.happen.events < 2 ^ 62)
     (running : IsRunning event p told old.control) (mid : PartsOf B Code) (asked : Op) (a : Asks body p told old asked mid) where
   abbrev changed : Option ℕ
   changed = place_changed (place a.before) told
@@ -89,14 +93,19 @@ module _ {B Code : Type 0} (body : BodyOf B Code) (events : B → List EventId) 
       let r = record_polled body old mid p told asked a in
       let zero : P (record { 0 = 0 }) = named_kept body old h needed (record { 0 = 0 }) (omega arith) in
       let stand : StandInPlaces tell (events r.0.body) r.0.body = lawful_stand body events place old p r.0 reads h r.1 in
-      let before : All P (events r.0.body) = with_zero P (events r.0.body) zero (subst (All P) stand.named (placed_kept body old h needed p r.0 r.1)) in
+      let before : All P (events r.0.body) =
+      with_zero P (events r.0.body) zero (subst (All P) stand.named (placed_kept body old h needed p r.0 r.1)) in
       let places : All P (events_in_places body old.code a.before) =
-      subst (All P) (sym (reads.places a.before (can body events place old p event told reads law h few running mid asked a).sound)) (subst (λ b. All P (events b)) r.2 before) in
-      let made : (e : EventId) → told ≡ signal.Made e → P e = λ e is. made_kept body old h needed event p e (subst (λ x. IsRunning event p x old.control) is running) in
+      subst (All P) (sym (reads.places a.before (can body events place old p event told reads law h few running mid asked a).sound))
+      (subst (λ b. All P (events b)) r.2 before) in
+      let made : (e : EventId) → told ≡ signal.Made e → P e =
+      λ e is. made_kept body old h needed event p e (subst (λ x. IsRunning event p x old.control) is running) in
       subst (All P) (reads.places a.later (sound_later body events place old p event told reads law h few running mid asked a))
-      (polled_events (tell.last a.before) told P (tell.places a.before) (tell.places a.later) (poll body events place old p event told reads law h few running mid asked a).places made places)
+      (polled_events (tell.last a.before) told P (tell.places a.before) (tell.places a.later)
+      (poll body events place old p event told reads law h few running mid asked a).places made places)
 
-  module _ (at : Option ℕ) (now : EventId) (given : at ≡ place_given place told (record_of p old.live)) (is : now ≡ event_placed events at (record_of p mid.live)) where
+  module _ (at : Option ℕ) (now : EventId) (given : at ≡ place_given place told (record_of p old.live))
+      (is : now ≡ event_placed events at (record_of p mid.live)) where
     now_is : now ≡ event_there (events a.later) changed
     now_is = is ∙ (ap (λ (o : Option ℕ). event_placed events o (record_of p mid.live)) (given ∙ placed_before) ∙ event_later)
 
@@ -118,11 +127,13 @@ module _ {B Code : Type 0} (body : BodyOf B Code) (events : B → List EventId) 
         let left_is : event_placed events at (record_of p old.live) ≡ event_there (events a.before) changed =
         ap (λ (o : Option ℕ). event_placed events o (record_of p old.live)) (given ∙ placed_before) ∙ event_before in
         subst (λ e. AsksOwing body p told e old asked new) (sym left_is)
-        (asked_owing body events place old p event told reads law h few running mid asked a new same (subst (λ e. BecomesOwing body [] (but_zero (e ∷ [])) 1 (λ s. s) mid new) now_is hold)
+        (asked_owing body events place old p event told reads law h few running mid asked a new same
+        (subst (λ e. BecomesOwing body [] (but_zero (e ∷ [])) 1 (λ s. s) mid new) now_is hold)
         (subst (λ e. HoldsMore e mid.shared.happen.events new.shared.happen.events) now_is more) takes rest)
 
 -- the kernel stands for some state then, and owes what it owes
-pub asked_owing_some : {B Code : Type 0} (body : BodyOf B Code) (old new : PartsOf B Code) (p : ProcId) (told : Signal) (left : EventId) (asked : Op) →
+pub asked_owing_some : {B Code : Type 0} (body : BodyOf B Code) (old new : PartsOf B Code)
+    (p : ProcId) (told : Signal) (left : EventId) (asked : Op) →
     StandsForSome body old → AsksOwing body p told left old asked new → IsOwing body [] new
 asked_owing_some body old new p told left asked h a =
     is_owing_first [] (but_zero (left ∷ [])) new
@@ -139,20 +150,24 @@ changed_has {B} P p q b h (r ∷ live) all = at (r.id.0 == q.0) (r.id.0 == p.0) 
   where
     at : (v w : Bool) → (r.id.0 == q.0) ≡ v → IfSome (cond v (Some r) (record_of q live)) (λ x. P x.body) →
         (IfSome (record_of q live) (λ x. P x.body) → IfSome (record_of q (change_record p (λ x. record x { body = b }) live)) (λ x. P x.body)) →
-        IfSome (cond ((if w then record r { body = b } else r).id.0 == q.0) (Some (if w then record r { body = b } else r)) (record_of q (change_record p (λ x. record x { body = b }) live))) (λ x. P x.body)
+        IfSome (cond ((if w then record r { body = b } else r).id.0 == q.0) (Some (if w then record r { body = b } else r))
+        (record_of q (change_record p (λ x. record x { body = b }) live))) (λ x. P x.body)
     at true true is all later = rw is h
     at true false is all later = rw is all
     at false true is all later = rw is (later all)
     at false false is all later = rw is (later all)
 
 -- what its body names stands in its places
-pub all_stand : {B Code : Type 0} (body : BodyOf B Code) (events : B → List EventId) (place : B → Option ℕ) (old : PartsOf B Code) (p : ProcId) (event : EventId) (told : Signal)
-    (reads : ReadsPlaces body old.code events place) (law : KeepsLaw body old.code) (h : StandsForSome body old) (few : length old.shared.happen.events < 2 ^ 62)
+pub all_stand : {B Code : Type 0} (body : BodyOf B Code) (events : B → List EventId)
+    (place : B → Option ℕ) (old : PartsOf B Code) (p : ProcId) (event : EventId) (told : Signal)
+    (reads : ReadsPlaces body old.code events place) (law : KeepsLaw body old.code)
+    (h : StandsForSome body old) (few : length old.shared.happen.events < 2 ^ 62)
     (running : IsRunning event p told old.control) (mid : PartsOf B Code) (asked : Op) → Asks body p told old asked mid → (q : ProcId) →
     IfSome (record_of q mid.live) (λ r. StandInPlaces (body.tell mid.code) (events r.body) r.body)
 all_stand {B} body events place old p event told reads law h few running mid asked a q =
     let P : B → Type 0 = λ b. StandInPlaces (body.tell old.code) (events b) b in
-    rw a.others (changed_has P p q a.later (stand_later body events place old p event told reads law h few running mid asked a) old.live (at (record_of q old.live) refl))
+    rw a.others (changed_has P p q a.later
+    (stand_later body events place old p event told reads law h few running mid asked a) old.live (at (record_of q old.live) refl))
   where
     at : (o : Option (RecordOf B)) → record_of q old.live ≡ o → IfSome o (λ r. StandInPlaces (body.tell old.code) (events r.body) r.body)
     at None found = tt

@@ -43,7 +43,8 @@ use Rattle.sim_steps_law.proofs.WaitingRequests.{resources_ready}
 -- an operation that comes only at a resource of a kind that passes
 abbrev pub AsksAt : CodeFacts → (ResourceKind → Bool) → ℕ → Op → Type 0
 AsksAt facts test res asked =
-    (own : ProcId) (places : List Place) (scopes : List EventId) → may_ask facts own places scopes asked ≡ true → has_resource facts.resources test res ≡ true
+    (own : ProcId) (places : List Place) (scopes : List EventId) → may_ask facts own places scopes asked ≡ true →
+    has_resource facts.resources test res ≡ true
 
 -- what was open before a holder was taken is open then
 pub open_still : (a b : HappenOf) (e : EventId) → TakesHolder a b → IsOpen a e → IsOpen b e
@@ -62,7 +63,8 @@ module _ {B Code : Type 0} (body : BodyOf B Code) (old mid : PartsOf B Code) (p 
       let s : SharedOf = record old.shared { happen = mid.shared.happen } in
       let is : mid.shared ≡ s = ap (λ (k : PartsOf B Code). k.shared) a.asks.others in
       let waits : AreAllOpen s = record {
-        each = λ res z there. All-weaker (IsOpen old.shared.happen) (IsOpen mid.shared.happen) (λ e. open_still old.shared.happen mid.shared.happen e a.asks.takes) (waiting_at z) (r.waiting.each res z there);
+        each = λ res z there. All-weaker (IsOpen old.shared.happen) (IsOpen mid.shared.happen)
+            (λ e. open_still old.shared.happen mid.shared.happen e a.asks.takes) (waiting_at z) (r.waiting.each res z there);
       } in
       let shown = (a.owes.each h.state (lawful_stands body old h.state h.lawful h.stands)).stands.facilities in
       record {
@@ -79,9 +81,11 @@ module _ {B Code : Type 0} (body : BodyOf B Code) (old mid : PartsOf B Code) (p 
         number = omega (arith, number, a.asks.takes.made);
       }
 
-module _ {B Code : Type 0} (body : BodyOf B Code) (old mid : PartsOf B Code) (p : ProcId) (told : Signal) (asked : Op) (a : Asks body p told old asked mid)
+module _ {B Code : Type 0} (body : BodyOf B Code) (old mid : PartsOf B Code)
+    (p : ProcId) (told : Signal) (asked : Op) (a : Asks body p told old asked mid)
     (h : StandsForSome body old) where
-  module _ (event : EventId) (law : KeepsLaw body old.code) (fits : FitsCode (body.facts old.code) old.setup) (few : length old.shared.happen.events < 2 ^ 62)
+  module _ (event : EventId) (law : KeepsLaw body old.code)
+      (fits : FitsCode (body.facts old.code) old.setup) (few : length old.shared.happen.events < 2 ^ 62)
       (running : IsRunning event p told old.control) where
     -- what it asked for it may ask for
     pub polled_may : may_ask (body.facts old.code) ((body.tell old.code).own a.later) ((body.tell old.code).places a.later)
@@ -92,7 +96,9 @@ module _ {B Code : Type 0} (body : BodyOf B Code) (old mid : PartsOf B Code) (p 
 
     module _ (test : ResourceKind → Bool) (res : ℕ) (at : AsksAt (body.facts old.code) test res asked) where
       has_it : has_resource old.setup.resources test res ≡ true
-      has_it = subst (λ rs. has_resource rs test res ≡ true) (sym fits.resources) (at ((body.tell old.code).own a.later) ((body.tell old.code).places a.later) (scopes_told ((body.tell old.code).scopes a.before) ((body.tell old.code).last a.before) told) polled_may)
+      has_it = subst (λ rs. has_resource rs test res ≡ true) (sym fits.resources)
+          (at ((body.tell old.code).own a.later) ((body.tell old.code).places a.later)
+          (scopes_told ((body.tell old.code).scopes a.before) ((body.tell old.code).last a.before) told) polled_may)
 
       pub polled_within : res < length mid.setup.resources
       polled_within = rw a.others (has_resource_below old.setup.resources test res has_it)
@@ -127,12 +133,16 @@ module _ {B Code : Type 0} (body : BodyOf B Code) (a m : PartsOf B Code) (event 
       let r = resources_ready body a h needed room number in
       let y : HappenOf = record a.shared.happen { left = m.shared.happen.left; spare = m.shared.happen.spare } in
       let s : SharedOf = record a.shared { happen = y } in
-      let is : m.shared ≡ s = ap (λ (k : PartsOf B Code). k.shared) t.others ∙ ap (λ (z : HappenOf). let u : SharedOf = record a.shared { happen = z } in u) t.happen in
+      let is : m.shared ≡ s =
+      ap (λ (k : PartsOf B Code). k.shared) t.others ∙ ap (λ (z : HappenOf). let u : SharedOf = record a.shared { happen = z } in u) t.happen in
       let waits : AreAllOpen s = record {
-        each = λ res z there. All-weaker (IsOpen a.shared.happen) (IsOpen y) (open_taken a.shared.happen m.shared.happen.left m.shared.happen.spare) (waiting_at z) (r.waiting.each res z there);
+        each = λ res z there. All-weaker (IsOpen a.shared.happen) (IsOpen y)
+            (open_taken a.shared.happen m.shared.happen.left m.shared.happen.spare) (waiting_at z) (r.waiting.each res z there);
       } in
       let f = r.shown.facilities in
-      let shows : ShowsAll s f = shown_with a.shared y f f.calendar (omega arith) (shows_taken a.shared.happen m.shared.happen.left m.shared.happen.spare f.calendar r.shown.shown.calendar) r.shown.shown in
+      let shows : ShowsAll s f =
+      shown_with a.shared y f f.calendar (omega arith)
+      (shows_taken a.shared.happen m.shared.happen.left m.shared.happen.spare f.calendar r.shown.shown.calendar) r.shown.shown in
       record {
         waiting = subst AreAllOpen (sym is) waits;
         shown = subst ShowsSome (sym is) (record { facilities = f; shown = shows });

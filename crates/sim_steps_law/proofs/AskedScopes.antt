@@ -53,9 +53,11 @@ scope_some request (y ∷ ys) h = at (y.request.0 == request.0) refl (scope_some
 
 -- who asks to enter does so at a resource that takes requests
 pub entered_at : (facts : CodeFacts) (res : ℕ) (priority : ℤ) (preempts : Bool) → AsksAt facts takes_requests res (op.Enter res priority preempts)
-entered_at facts res priority preempts own places scopes h = (and_parts (nat_lt (length scopes) most_scopes) (has_resource facts.resources takes_requests res) h).1
+entered_at facts res priority preempts own places scopes h =
+    (and_parts (nat_lt (length scopes) most_scopes) (has_resource facts.resources takes_requests res) h).1
 
-module _ {B Code : Type 0} (body : BodyOf B Code) (old mid : PartsOf B Code) (p : ProcId) (told : Signal) (asked : Op) (a : Asks body p told old asked mid)
+module _ {B Code : Type 0} (body : BodyOf B Code) (old mid : PartsOf B Code)
+    (p : ProcId) (told : Signal) (asked : Op) (a : Asks body p told old asked mid)
     (h : StandsForSome body old) (event : EventId) (law : KeepsLaw body old.code) (fits : FitsCode (body.facts old.code) old.setup)
     (few : length old.shared.happen.events < 2 ^ 62) (running : IsRunning event p told old.control) where
   -- the requests of the scopes that its body knows of
@@ -78,7 +80,8 @@ module _ {B Code : Type 0} (body : BodyOf B Code) (old mid : PartsOf B Code) (p 
       let s = h.state in
       let tell = body.tell old.code in
       let is = running_is old.control event p told running in
-      let here : process_at p s ≡ Some (process_of r) = process_found old s p h.lawful.processes.distinct h.stands ∙ ap (λ o. option_map process_of o) found in
+      let here : process_at p s ≡ Some (process_of r) =
+      process_found old s p h.lawful.processes.distinct h.stands ∙ ap (λ o. option_map process_of o) found in
       let waiting = (basis_of (plan_of body old) tell (body.sound old.code) s h.lawful).waiting in
       (own_scopes (plan_of body old) tell s event is.0 p told (process_of r) (sym h.stands.control ∙ is.1) here waiting p (is_process-self p)).0
       ∙ ap (λ (b : B). scopes_told (tell.scopes b) (tell.last b) told) (record_polled body old mid p told asked a).2
@@ -106,4 +109,5 @@ module _ {B Code : Type 0} (body : BodyOf B Code) (old mid : PartsOf B Code) (p 
   pub has_scope : (request : EventId) → list_any (is_same request) entered ≡ true → IsSome (scope_of request r.scopes)
   has_scope request may =
       subst (λ (xs : List Scope). IsSome (scope_of request xs)) told_scopes
-      (scope_some request (filter (λ y. is_process y.process p) h.state.scopes) (subst (λ (es : List EventId). list_any (is_same request) es ≡ true) (sym own) may))
+      (scope_some request (filter (λ y. is_process y.process p) h.state.scopes)
+      (subst (λ (es : List EventId). list_any (is_same request) es ≡ true) (sym own) may))

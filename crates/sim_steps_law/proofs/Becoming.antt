@@ -50,9 +50,11 @@ lawful_stands body a s h st =
     record {
       stands = st;
       distinct = h.processes.distinct;
-      owned = All-weaker (λ x. is_scope_well a.setup.resources s x ≡ true) (λ x. is_alive x.process s ≡ true) (λ x well. scope_alive a.setup.resources s x well) s.scopes h.waiting.scopes;
+      owned = All-weaker (λ x. is_scope_well a.setup.resources s x ≡ true) (λ x. is_alive x.process s ≡ true)
+          (λ x well. scope_alive a.setup.resources s x well) s.scopes h.waiting.scopes;
       apart = h.waiting.apart;
-      entered = All-weaker (λ x. is_scope_well a.setup.resources s x ≡ true) (λ x. was_made s.facilities.calendar x.request ≡ true) (λ x well. scope_made a.setup.resources s x well) s.scopes h.waiting.scopes;
+      entered = All-weaker (λ x. is_scope_well a.setup.resources s x ≡ true) (λ x. was_made s.facilities.calendar x.request ≡ true)
+          (λ x well. scope_made a.setup.resources s x well) s.scopes h.waiting.scopes;
     }
 
 -- so its accounts balance, with nothing to give back
@@ -61,12 +63,14 @@ some_owing body a h = record { state = h.state; stands = lawful_stands body a h.
 
 -- ---- one change after another
 
-pub becomes_then : {B Code : Type 0} {body : BodyOf B Code} {m n : ℕ} {gained between lost : List EventId} (f g : State B → State B) (a b c : PartsOf B Code) →
+pub becomes_then : {B Code : Type 0} {body : BodyOf B Code} {m n : ℕ}
+    {gained between lost : List EventId} (f g : State B → State B) (a b c : PartsOf B Code) →
     BecomesOwing body gained between m f a b → BecomesOwing body between lost n g b c → BecomesOwing body gained lost (m + n) (λ s. g (f s)) a c
 becomes_then {B} {Code} {body} {m} {n} f g a b c p q = owing_then f g a b c p (few_then m n a b c p.few q.few) q
 
 -- so many holders more, or fewer than so many
-pub becomes_within : {B Code : Type 0} {body : BodyOf B Code} {gained lost : List EventId} (m n : ℕ) (f : State B → State B) (a b : PartsOf B Code) → m ≤ n →
+pub becomes_within : {B Code : Type 0} {body : BodyOf B Code} {gained lost : List EventId}
+    (m n : ℕ) (f : State B → State B) (a b : PartsOf B Code) → m ≤ n →
     BecomesOwing body gained lost m f a b → BecomesOwing body gained lost n f a b
 becomes_within m n f a b few p = record { each = p.each; accounts = p.accounts; opened = p.opened; few = few_more m n a b few p.few }
 
@@ -117,7 +121,8 @@ entered_still c d xs longer h =
 
 -- the kernel stands for what is turned
 pub turned_stands : {B Code : Type 0} (more : ℕ) (change : Facilities → Facilities) (holds : List (Option ℕ) → List (Option ℕ)) (a : PartsOf B Code)
-    (x : SharedOf) → AddsHolders more holds → TurnsAll change holds a.shared x → (s : State B) → Stands a s → Stands (record a { shared = x }) (on_facilities change s)
+    (x : SharedOf) → AddsHolders more holds → TurnsAll change holds a.shared x → (s : State B) → Stands a s →
+    Stands (record a { shared = x }) (on_facilities change s)
 turned_stands more change holds a x adds t s h =
     record {
       stands = stands_on_facilities change a x s (t.each s.facilities) h.stands;
@@ -125,11 +130,17 @@ turned_stands more change holds a x adds t s h =
       owned = h.owned;
       apart = h.apart;
       entered = entered_still s.facilities.calendar (change s.facilities).calendar s.scopes
-          (omega (arith, no_fewer more holds a.shared.happen x.happen adds t.held, h.stands.facilities.calendar.made, (t.each s.facilities h.stands.facilities).calendar.made)) h.entered;
+          (omega (
+            arith,
+            no_fewer more holds a.shared.happen x.happen adds t.held,
+            h.stands.facilities.calendar.made,
+            (t.each s.facilities h.stands.facilities).calendar.made,
+          )) h.entered;
     }
 
 -- where nobody's holders change but by what is made, and what changes in the calendar is plain
-pub becomes_turned_all : {B Code : Type 0} {body : BodyOf B Code} (change : Facilities → Facilities) (holds : List (Option ℕ) → List (Option ℕ)) (a : PartsOf B Code)
+pub becomes_turned_all : {B Code : Type 0} {body : BodyOf B Code} (change : Facilities → Facilities)
+    (holds : List (Option ℕ) → List (Option ℕ)) (a : PartsOf B Code)
     (x : SharedOf) → AddsHolders 0 holds → KeepsAllHolders holds → ((f : Facilities) → ComesPlainly f.calendar (change f).calendar) →
     TurnsAll change holds a.shared x → Becomes body (on_facilities change) a (record a { shared = x })
 becomes_turned_all {B} {Code} {body} change holds a x adds keeps plainly t =
@@ -139,14 +150,16 @@ becomes_turned_all {B} {Code} {body} change holds a x adds keeps plainly t =
     (λ s h. quiet_trade a.setup.events (body.tell a.code) s (change s.facilities) (plainly s.facilities).quietly.triggers)
 
 pub becomes_on_facilities : {B Code : Type 0} {body : BodyOf B Code} (change : Facilities → Facilities) (a : PartsOf B Code) (x : SharedOf) →
-    ((f : Facilities) → ComesPlainly f.calendar (change f).calendar) → FollowsAll change a.shared x → Becomes body (on_facilities change) a (record a { shared = x })
+    ((f : Facilities) → ComesPlainly f.calendar (change f).calendar) → FollowsAll change a.shared x →
+    Becomes body (on_facilities change) a (record a { shared = x })
 becomes_on_facilities change a x plainly t = becomes_turned_all change as_before a x adds_none keeps_all plainly t
 
 -- so many events more at most
 pub becomes_made_all : {B Code : Type 0} {body : BodyOf B Code} (most : ℕ) (change : Facilities → Facilities) (a : PartsOf B Code) (x : SharedOf) →
     ((f : Facilities) → ComesPlainly f.calendar (change f).calendar) → MakesAll most change a.shared x →
     Becomes body (on_facilities change) a (record a { shared = x })
-becomes_made_all most change a x plainly m = becomes_turned_all change (unheld_events m.made) a x (adds_unheld m.made) (keeps_unheld m.made) plainly m.turns
+becomes_made_all most change a x plainly m =
+    becomes_turned_all change (unheld_events m.made) a x (adds_unheld m.made) (keeps_unheld m.made) plainly m.turns
 
 -- ---- what happens, which changes no resource
 
@@ -162,7 +175,8 @@ shown_with a x f d more s h =
     }
 
 -- what turns in what happens turns in all
-pub turns_all : (change : Calendar → Calendar) (holds : List (Option ℕ) → List (Option ℕ)) (a : SharedOf) (x : HappenOf) (more : ℕ) → AddsHolders more holds →
+pub turns_all : (change : Calendar → Calendar) (holds : List (Option ℕ) → List (Option ℕ)) (a : SharedOf) (x : HappenOf) (more : ℕ) →
+    AddsHolders more holds →
     Turns change holds a.happen x → TurnsAll (on_calendar change) holds a (record a { happen = x })
 turns_all change holds a x more adds t =
     record {
@@ -174,21 +188,27 @@ turns_all change holds a x more adds t =
 
 -- so does the kernel stand for what happens then
 pub turned_stands_for : {B Code : Type 0} (more : ℕ) (change : Calendar → Calendar) (holds : List (Option ℕ) → List (Option ℕ)) (a : PartsOf B Code)
-    (x : HappenOf) → AddsHolders more holds → Turns change holds a.shared.happen x → (s : State B) → Stands a s → Stands (with_happen x a) (on_events change s)
-turned_stands_for more change holds a x adds t = turned_stands more (on_calendar change) holds a (record a.shared { happen = x }) adds (turns_all change holds a.shared x more adds t)
+    (x : HappenOf) → AddsHolders more holds → Turns change holds a.shared.happen x → (s : State B) → Stands a s →
+    Stands (with_happen x a) (on_events change s)
+turned_stands_for more change holds a x adds t =
+    turned_stands more (on_calendar change) holds a (record a.shared { happen = x }) adds (turns_all change holds a.shared x more adds t)
 
-pub becomes_turned : {B Code : Type 0} {body : BodyOf B Code} (change : Calendar → Calendar) (holds : List (Option ℕ) → List (Option ℕ)) (a : PartsOf B Code)
+pub becomes_turned : {B Code : Type 0} {body : BodyOf B Code} (change : Calendar → Calendar)
+    (holds : List (Option ℕ) → List (Option ℕ)) (a : PartsOf B Code)
     (x : HappenOf) → AddsHolders 0 holds → KeepsAllHolders holds → ((c : Calendar) → ComesPlainly c (change c)) →
     Turns change holds a.shared.happen x → Becomes body (on_events change) a (with_happen x a)
 becomes_turned change holds a x adds keeps plainly t =
-    becomes_turned_all (on_calendar change) holds a (record a.shared { happen = x }) adds keeps (λ f. plainly f.calendar) (turns_all change holds a.shared x 0 adds t)
+    becomes_turned_all (on_calendar change) holds a (record a.shared { happen = x }) adds keeps
+    (λ f. plainly f.calendar) (turns_all change holds a.shared x 0 adds t)
 
-pub becomes_followed : {B Code : Type 0} {body : BodyOf B Code} (change : Calendar → Calendar) (a : PartsOf B Code) (x : HappenOf) → ((c : Calendar) → ComesPlainly c (change c)) →
+pub becomes_followed : {B Code : Type 0} {body : BodyOf B Code} (change : Calendar → Calendar) (a : PartsOf B Code) (x : HappenOf) →
+    ((c : Calendar) → ComesPlainly c (change c)) →
     Follows change a.shared.happen x → Becomes body (on_events change) a (with_happen x a)
 becomes_followed change a x plainly t = becomes_turned change as_before a x adds_none keeps_all plainly t
 
 -- an event more
-pub becomes_made : {B Code : Type 0} {body : BodyOf B Code} (change : Calendar → Calendar) (a : PartsOf B Code) (x : HappenOf) → ((c : Calendar) → ComesPlainly c (change c)) →
+pub becomes_made : {B Code : Type 0} {body : BodyOf B Code} (change : Calendar → Calendar) (a : PartsOf B Code) (x : HappenOf) →
+    ((c : Calendar) → ComesPlainly c (change c)) →
     Turns change unheld_event a.shared.happen x → Becomes body (on_events change) a (with_happen x a)
 becomes_made change a x plainly t = becomes_turned change unheld_event a x (adds_unheld 1) (keeps_unheld 1) plainly t
 
@@ -214,10 +234,17 @@ owing_controlled {B} {Code} {body} lost f a trades =
     let b : PartsOf B Code = record a { control = f a.control } in
     let change : State B → State B = λ s. record s { control = f s.control } in
     owing_by [] lost 0 change a b
-    (λ s h. record { stands = stands_controlled a s (f a.control) (f s.control) (ap f h.stands.control) h.stands; distinct = h.distinct; owned = h.owned; apart = h.apart; entered = h.entered })
+    (λ s h. record {
+      stands = stands_controlled a s (f a.control) (f s.control) (ap f h.stands.control) h.stands;
+      distinct = h.distinct;
+      owned = h.owned;
+      apart = h.apart;
+      entered = h.entered;
+    })
     (record { code = refl; setup = refl; seed = refl }) (few_same a b refl) (λ s h. stay_stated a b s (change s) refl refl) trades
 
-pub becomes_told : {B Code : Type 0} {body : BodyOf B Code} (x : Signal) (a : PartsOf B Code) → Becomes body (tell x) a (record a { control = told_more x a.control })
+pub becomes_told : {B Code : Type 0} {body : BodyOf B Code} (x : Signal) (a : PartsOf B Code) →
+    Becomes body (tell x) a (record a { control = told_more x a.control })
 becomes_told {B} {Code} {body} x a = owing_controlled [] (told_more x) a (λ s h. told_trade a.setup.events (body.tell a.code) x s)
 
 pub becomes_rested : {B Code : Type 0} {body : BodyOf B Code} (a : PartsOf B Code) → Becomes body rest a (record a { control = not_active a.control })
@@ -226,7 +253,8 @@ becomes_rested {B} {Code} {body} a = owing_controlled [] not_active a (λ s h. r
 -- ---- what no kernel keeps, or nobody holds an event by
 
 -- the state is stood for as well, and names as before
-pub becomes_unnamed : {B Code : Type 0} {body : BodyOf B Code} (f : State B → State B) (a b : PartsOf B Code) → ((s : State B) → Stands a s → Stands b (f s)) →
+pub becomes_unnamed : {B Code : Type 0} {body : BodyOf B Code} (f : State B → State B) (a b : PartsOf B Code) →
+    ((s : State B) → Stands a s → Stands b (f s)) →
     IsOpenedAs a b → b.shared ≡ a.shared → ((s : State B) → calendar (f s) ≡ calendar s) →
     ((s : State B) → StatesTrade a.setup.events (body.tell a.code) [] [] s (f s)) → Becomes body f a b
 becomes_unnamed f a b each opened same stays trades =
@@ -234,7 +262,8 @@ becomes_unnamed f a b each opened same stays trades =
     owing_by [] [] 0 f a b each opened (few_same a b table) (λ s h. stay_stated a b s (f s) (stays s) table) (λ s h. trades s)
 
 -- lines, which no kernel keeps
-pub becomes_written : {B Code : Type 0} {body : BodyOf B Code} (line : State B → Line) (a : PartsOf B Code) → Becomes body (λ s. write_line (line s) s) a a
+pub becomes_written : {B Code : Type 0} {body : BodyOf B Code} (line : State B → Line) (a : PartsOf B Code) →
+    Becomes body (λ s. write_line (line s) s) a a
 becomes_written {B} {Code} {body} line a =
     becomes_unnamed (λ s. write_line (line s) s) a a
     (λ s h. record {
@@ -252,7 +281,8 @@ becomes_written {B} {Code} {body} line a =
       entered = h.entered;
     })
     (record { code = refl; setup = refl; seed = refl }) refl (λ s. refl)
-    (λ s. trades_nothing (held_alone a.setup.events (body.tell a.code) s) (held_alone a.setup.events (body.tell a.code) (write_line (line s) s)) (λ e. refl))
+    (λ s. trades_nothing (held_alone a.setup.events (body.tell a.code) s)
+    (held_alone a.setup.events (body.tell a.code) (write_line (line s) s)) (λ e. refl))
 
 -- ---- random words
 
@@ -275,12 +305,14 @@ becomes_drawn {B} {Code} {body} a =
       entered = h.entered;
     })
     (record { code = refl; setup = refl; seed = refl }) refl (λ s. refl)
-    (λ s. trades_nothing (held_alone a.setup.events (body.tell a.code) s) (held_alone a.setup.events (body.tell a.code) (record s { drawn = s.drawn + 1 })) (λ e. refl))
+    (λ s. trades_nothing (held_alone a.setup.events (body.tell a.code) s)
+    (held_alone a.setup.events (body.tell a.code) (record s { drawn = s.drawn + 1 })) (λ e. refl))
 
 -- ---- one process, which keeps its number and its scopes
 
 -- the holders gained are used up, and those lost are to be given back
-pub owing_changed : {B Code : Type 0} {body : BodyOf B Code} (gained lost : List EventId) (p : ProcId) (change : RecordOf B → RecordOf B) (changes : ProcessOf B → ProcessOf B)
+pub owing_changed : {B Code : Type 0} {body : BodyOf B Code} (gained lost : List EventId)
+    (p : ProcId) (change : RecordOf B → RecordOf B) (changes : ProcessOf B → ProcessOf B)
     (a : PartsOf B Code) → ((r : RecordOf B) → process_of (change r) ≡ changes (process_of r)) → ((r : RecordOf B) → (change r).id ≡ r.id) →
     ((r : RecordOf B) → (change r).scopes ≡ r.scopes) → ((x : ProcessOf B) → (changes x).id ≡ x.id) →
     ((s : State B) → Stands a s → StatesTrade a.setup.events (body.tell a.code) gained lost s (change_process p changes s)) →
@@ -295,12 +327,14 @@ owing_changed {B} {Code} {body} gained lost p change changes a same ids scopes k
         facilities = h.stands.facilities;
         processed = h.stands.processed;
         generator = h.stands.generator;
-        processes = subst P (changed_mapped p change changes same a.live) (IsPermutation-map (λ x. if is_process x.id p then changes x else x) s.processes (map process_of a.live) h.stands.processes);
+        processes = subst P (changed_mapped p change changes same a.live)
+            (IsPermutation-map (λ x. if is_process x.id p then changes x else x) s.processes (map process_of a.live) h.stands.processes);
         scopes = changed_scopes p change (λ q. scopes_of q s) ids scopes a.live h.stands.scopes;
         control = h.stands.control;
       };
       distinct = changed_distinct p changes s keeps h.distinct;
-      owned = All-weaker (λ x. is_alive x.process s ≡ true) (λ x. is_alive x.process (change_process p changes s) ≡ true) (λ x lives. alive_changed p x.process changes s keeps ∙ lives) s.scopes h.owned;
+      owned = All-weaker (λ x. is_alive x.process s ≡ true) (λ x. is_alive x.process (change_process p changes s) ≡ true)
+          (λ x lives. alive_changed p x.process changes s keeps ∙ lives) s.scopes h.owned;
       apart = h.apart;
       entered = h.entered;
     })

@@ -72,7 +72,8 @@ still_there (y ∷ hs) x (suc i) h = still_there hs x i h
 -- what was kept is kept, and so is the init event
 module _ (a x : HappenOf) (makes : MakesProcess a x) where
   kept_by : (e : EventId) → IsSome (slice_index_or (two_unheld (held a)) e.0 None) → IsKept x.events e
-  kept_by e h = kept_of (slice_index_or x.events e.0 None) (subst IsSome (ap (λ (hs : List (Option ℕ)). slice_index_or hs e.0 None) (sym makes.held) ∙ held_at x e) h)
+  kept_by e h = kept_of (slice_index_or x.events e.0 None)
+      (subst IsSome (ap (λ (hs : List (Option ℕ)). slice_index_or hs e.0 None) (sym makes.held) ∙ held_at x e) h)
 
   pub kept_still : (e : EventId) → IsKept a.events e → IsKept x.events e
   kept_still e kept =
@@ -86,13 +87,17 @@ begun_few most a x makes h = subst (AreFew most) (sym makes.held) (few_made most
 -- ---- a process that is not alive
 
 -- no open scope is its own
-pub scopes_of_none : {B : Type 0} (p : ProcId) (s : State B) → is_alive p s ≡ false → All (λ x. is_alive x.process s ≡ true) s.scopes → scopes_of p s ≡ []
+pub scopes_of_none : {B : Type 0} (p : ProcId) (s : State B) → is_alive p s ≡ false → All (λ x. is_alive x.process s ≡ true) s.scopes →
+    scopes_of p s ≡ []
 scopes_of_none {B} p s ended owned =
     let others : All (λ x. is_process x.process p ≡ false) s.scopes =
-    All-weaker (λ x. is_alive x.process s ≡ true) (λ x. is_process x.process p ≡ false) (λ x lives. other x lives (cases_Bool (is_process x.process p))) s.scopes owned in
-    ap (λ (xs : List OpenScope). map (λ (x : OpenScope). let y : Scope = record { request = x.request; res = x.res } in y) xs) (none_found (λ x. is_process x.process p) s.scopes others)
+    All-weaker (λ x. is_alive x.process s ≡ true) (λ x. is_process x.process p ≡ false)
+    (λ x lives. other x lives (cases_Bool (is_process x.process p))) s.scopes owned in
+    ap (λ (xs : List OpenScope). map (λ (x : OpenScope). let y : Scope = record { request = x.request; res = x.res } in y) xs)
+    (none_found (λ x. is_process x.process p) s.scopes others)
   where
-    other : (x : OpenScope) → is_alive x.process s ≡ true → (is_process x.process p ≡ true) ⊎ (is_process x.process p ≡ false) → is_process x.process p ≡ false
+    other : (x : OpenScope) → is_alive x.process s ≡ true → (is_process x.process p ≡ true) ⊎ (is_process x.process p ≡ false) →
+        is_process x.process p ≡ false
     other x lives (inl same) = absurd (both_ways (is_alive p s) ended (subst (λ q. is_alive q s ≡ true) (is_process-yes x.process p same) lives))
     other x lives (inr differ) = differ
 
@@ -115,14 +120,16 @@ processes_joined : {B : Type 0} (ps : List (ProcessOf B)) (r : RecordOf B) (old 
     IsPermutation (r ∷ old) new → IsPermutation (ps ++ process_of r ∷ []) (map process_of new)
 processes_joined ps r old new h k =
     IsPermutation-trans (ps ++ process_of r ∷ []) (process_of r ∷ ps) (map process_of new) (IsPermutation-to_front ps (process_of r))
-    (IsPermutation-trans (process_of r ∷ ps) (process_of r ∷ map process_of old) (map process_of new) (IsPermutation-cons (process_of r) ps (map process_of old) h) (IsPermutation-map process_of (r ∷ old) new k))
+    (IsPermutation-trans (process_of r ∷ ps) (process_of r ∷ map process_of old) (map process_of new)
+    (IsPermutation-cons (process_of r) ps (map process_of old) h) (IsPermutation-map process_of (r ∷ old) new k))
 
 -- ---- a process more is alive
 
 abbrev pub with_process : {B : Type 0} → ProcessOf B → State B → State B
 with_process x s = record s { processes = s.processes ++ x ∷ [] }
 
-joined_stands : {B Code : Type 0} (a : PartsOf B Code) (r : RecordOf B) (live : List (RecordOf B)) (spare : ℕ) → record_of r.id a.live ≡ None → r.scopes ≡ [] →
+joined_stands : {B Code : Type 0} (a : PartsOf B Code) (r : RecordOf B) (live : List (RecordOf B)) (spare : ℕ) → record_of r.id a.live ≡ None →
+    r.scopes ≡ [] →
     IsPermutation (r ∷ a.live) live → (s : State B) → Stands a s → Stands (record a { live = live; spare = spare }) (with_process (process_of r) s)
 joined_stands {B} a r live spare none alone others s h =
     let ended : is_alive r.id s ≡ false = alive_is a r.id s h ∙ ap is_some none in
@@ -134,11 +141,13 @@ joined_stands {B} a r live spare none alone others s h =
         processed = h.stands.processed;
         generator = h.stands.generator;
         processes = processes_joined s.processes r a.live live h.stands.processes others;
-        scopes = All-permutation (λ y. y.scopes ≡ scopes_of y.id t) (r ∷ a.live) live others (All-cons (λ y. y.scopes ≡ scopes_of y.id t) r a.live own h.stands.scopes);
+        scopes = All-permutation (λ y. y.scopes ≡ scopes_of y.id t) (r ∷ a.live) live others
+            (All-cons (λ y. y.scopes ≡ scopes_of y.id t) r a.live own h.stands.scopes);
         control = h.stands.control;
       };
       distinct = distinct_joined s (process_of r) ended h.distinct;
-      owned = All-weaker (λ x. is_alive x.process s ≡ true) (λ x. list_any (λ z. is_process z.id x.process) (s.processes ++ process_of r ∷ []) ≡ true) (λ x lives. alive_joined s (process_of r) x.process lives) s.scopes h.owned;
+      owned = All-weaker (λ x. is_alive x.process s ≡ true) (λ x. list_any (λ z. is_process z.id x.process) (s.processes ++ process_of r ∷ []) ≡ true)
+          (λ x lives. alive_joined s (process_of r) x.process lives) s.scopes h.owned;
       apart = h.apart;
       entered = h.entered;
     }
@@ -185,14 +194,17 @@ module _ {B Code : Type 0} (body : BodyOf B Code) where
   -- ---- a process is made
 
   -- first its events
-  pub events_made : (a : PartsOf B Code) (x : HappenOf) → MakesProcess a.shared.happen x → Becomes body (on_events make_events_of_process) a (with_happen x a)
+  pub events_made : (a : PartsOf B Code) (x : HappenOf) → MakesProcess a.shared.happen x →
+      Becomes body (on_events make_events_of_process) a (with_happen x a)
   events_made a x t = becomes_turned make_events_of_process two_unheld a x (adds_unheld 2) (keeps_unheld 2) plainly_process t
 
   module _ (a : PartsOf B Code) (k : ℕ) (args : List ℤ) (room : ℕ) where
     abbrev pub begun_here : RecordOf B
-    begun_here = begun_record (next_process a.shared.happen) (start_of body a.code k args (next_process a.shared.happen)) (next_init a.shared.happen) room
+    begun_here = begun_record (next_process a.shared.happen)
+        (start_of body a.code k args (next_process a.shared.happen)) (next_init a.shared.happen) room
 
-    same_made : (s : State B) → Stands a s → with_process (process_of begun_here) (on_events make_events_of_process s) ≡ make_process (plan_of body a) k args s
+    same_made : (s : State B) → Stands a s →
+        with_process (process_of begun_here) (on_events make_events_of_process s) ≡ make_process (plan_of body a) k args s
     same_made s h =
         let c : Calendar = calendar s in
         rw (next_processes a.shared.happen c h.stands.facilities.calendar, next_inits a.shared.happen c h.stands.facilities.calendar) refl
@@ -203,20 +215,27 @@ module _ {B Code : Type 0} (body : BodyOf B Code) where
         BecomesOwing body [] (but_zero (next_init a.shared.happen ∷ [])) 1 (λ s. s) b m → KeepsButHappen b m →
         o ≡ record m { ready = ready } → BecomesOwing body [] (but_zero es) 64 (λ s. s) o p → KeepsButHappen o p →
         StandInPlaces (body.tell a.code) es (start_of body a.code k args (next_process a.shared.happen)) →
-        IsPermutation (begun_here ∷ p.live) live → n ≡ record p { live = live; spare = spare } → BecomesWith body most_begun (make_process (plan_of body a) k args) a n
+        IsPermutation (begun_here ∷ p.live) live → n ≡ record p { live = live; spare = spare } →
+        BecomesWith body most_begun (make_process (plan_of body a) k args) a n
     begun_becomes x b m o p n es live ready spare none makes is_b holds_init keeps_init is_o holds_places keeps_places stand others is_n =
         let r : RecordOf B = begun_here in
         let made : State B → State B = on_events make_events_of_process in
         let init : List EventId = but_zero (next_init a.shared.happen ∷ []) in
         let places : List EventId = but_zero es in
-        let first : BecomesOwing body [] init 1 made a m = becomes_then made (λ s. s) a b m (subst (Becomes body made a) (sym is_b) (events_made a x makes)) holds_init in
-        let second : BecomesOwing body [] init 1 made a o = subst (BecomesOwing body [] init 1 made a) (sym is_o) (owing_readied made a m ready first) in
-        let third : BecomesOwing body [] (places ++ init) 65 made a p = becomes_then made (λ s. s) a o p second (owing_besides init (λ s. s) o p holds_places) in
+        let first : BecomesOwing body [] init 1 made a m =
+        becomes_then made (λ s. s) a b m (subst (Becomes body made a) (sym is_b) (events_made a x makes)) holds_init in
+        let second : BecomesOwing body [] init 1 made a o =
+        subst (BecomesOwing body [] init 1 made a) (sym is_o) (owing_readied made a m ready first) in
+        let third : BecomesOwing body [] (places ++ init) 65 made a p =
+        becomes_then made (λ s. s) a o p second (owing_besides init (λ s. s) o p holds_places) in
         let live_of : PartsOf B Code → List (RecordOf B) = λ y. y.live in
         let same_live : p.live ≡ a.live = ap live_of keeps_places ∙ (ap live_of is_o ∙ (ap live_of keeps_init ∙ ap live_of is_b)) in
         let named : List EventId = named_in_places (body.tell a.code) r.body in
         let alike : AreAlike (places ++ init) (but_zero (named_by_process (body.tell p.code) (process_of r))) =
-        subst (λ xs. AreAlike (places ++ init) xs) (ap (λ xs. init ++ xs) (sym stand.named) ∙ (sym (but_zero-append (next_init a.shared.happen ∷ []) named) ∙ ap (λ c. but_zero (named_by_process (body.tell c) (process_of r))) (sym third.opened.code)))
+        subst (λ xs. AreAlike (places ++ init) xs)
+        (ap (λ xs. init ++ xs) (sym stand.named)
+        ∙ (sym (but_zero-append (next_init a.shared.happen ∷ []) named)
+        ∙ ap (λ c. but_zero (named_by_process (body.tell c) (process_of r))) (sym third.opened.code)))
         (alike_swapped places init) in
         let joins : BecomesOwing body (places ++ init) [] 0 (with_process (process_of r)) p n =
         owing_alike (places ++ init) [] (with_process (process_of r)) p n alike (alike_itself [])
@@ -238,16 +257,19 @@ module _ {B Code : Type 0} (body : BodyOf B Code) (code : Code) (events : B → 
   pub begun_stand : StandInPlaces (body.tell code) (events begins) begins
   begun_stand =
       let is_sound : body.sound code begins = law.begins k args p can.fits in
-      stand_where (body.tell code) begins (events begins) (begun_numbers (slice_index_or (body.facts code).params k []) args ((body.tell code).places begins) starts.places)
+      stand_where (body.tell code) begins (events begins)
+      (begun_numbers (slice_index_or (body.facts code).params k []) args ((body.tell code).places begins) starts.places)
       (reads.places begins is_sound) (reads.few begins is_sound)
 
   -- it is kept where its arguments are
-  pub begun_kept : (table : List (Option Kept)) → AreArgumentsKept (body.facts code) k args table → (i : ℕ) → IsKept table (in_place (events begins) i)
+  pub begun_kept : (table : List (Option Kept)) → AreArgumentsKept (body.facts code) k args table → (i : ℕ) →
+      IsKept table (in_place (events begins) i)
   begun_kept table kept i =
       let is_sound : body.sound code begins = law.begins k args p can.fits in
       all_in_places (IsKept table) (events begins) kept.zero
       (subst (λ (es : List EventId). All (IsKept table) es) (reads.places begins is_sound)
-      (begun_events (slice_index_or (body.facts code).params k []) args (IsKept table) ((body.tell code).places begins) kept.zero kept.named starts.places)) i
+      (begun_events (slice_index_or (body.facts code).params k []) args (IsKept table)
+      ((body.tell code).places begins) kept.zero kept.named starts.places)) i
 
 -- what was kept is kept once its events are made and more holders are taken
 pub arguments_still : (f : CodeFacts) (k : ℕ) (args : List ℤ) (es fs : List (Option Kept)) → ((e : EventId) → IsKept es e → IsKept fs e) →
@@ -261,13 +283,16 @@ arguments_still f k args es fs still h = record {
 
 -- one that is made once there was room
 pub begun_starts : {B Code : Type 0} {body : BodyOf B Code} (old mid new : PartsOf B Code) (x : Start) → KeepsButRoom old mid →
-    BecomesWith body most_begun (make_process (plan_of body mid) x.kind x.args) mid new → BecomesWith body most_begun (λ s. start_process (plan_of body old) s x) old new
+    BecomesWith body most_begun (make_process (plan_of body mid) x.kind x.args) mid new →
+    BecomesWith body most_begun (λ s. start_process (plan_of body old) s x) old new
 begun_starts {B} {Code} {body} old mid new x room begins =
     let plan : plan_of body mid ≡ plan_of body old = rw room.others refl in
     let makes : State B → State B = make_process (plan_of body old) x.kind x.args in
-    becomes_then (λ s. s) makes old mid new (roomier_becomes old mid room) (subst (λ (g : Plan B). BecomesWith body most_begun (make_process g x.kind x.args) mid new) plan begins)
+    becomes_then (λ s. s) makes old mid new (roomier_becomes old mid room)
+    (subst (λ (g : Plan B). BecomesWith body most_begun (make_process g x.kind x.args) mid new) plan begins)
 
-pub begun_opening : {B Code : Type 0} {body : BodyOf B Code} (g : Plan B) (k : ℕ) (args : List ℤ) (old new : PartsOf B Code) → BecomesWith body most_begun (make_process g k args) old new →
+pub begun_opening : {B Code : Type 0} {body : BodyOf B Code} (g : Plan B) (k : ℕ) (args : List ℤ) (old new : PartsOf B Code) →
+    BecomesWith body most_begun (make_process g k args) old new →
     IsOpening body old → IsOpening body new
 begun_opening {B} {Code} {body} g k args old new b h =
     let s : State B = h.owing.state in
@@ -276,15 +301,23 @@ begun_opening {B} {Code} {body} g k args old new b h =
     let later : Stands new t = b.each s before in
     let n : ℕ = length new.shared.happen.events in
     let m : ℕ = length old.shared.happen.events in
-    let more : n ≡ m + 2 = omega (arith, later.stands.facilities.calendar.made, before.stands.facilities.calendar.made, of_process_events (calendar s)) in
+    let more : n ≡ m + 2 =
+    omega (arith, later.stands.facilities.calendar.made, before.stands.facilities.calendar.made, of_process_events (calendar s)) in
     let P : ProcessOf B → Type 0 = λ x. x.id.0 < n in
-    let x : ProcessOf B = record { id = record { 0 = (next_event (calendar s)).0 }; body = g.start k args (record { 0 = (next_event (calendar s)).0 }); target = next_event (make kind.Process (calendar s)) } in
+    let x : ProcessOf B =
+    record {
+      id = record { 0 = (next_event (calendar s)).0 };
+      body = g.start k args (record { 0 = (next_event (calendar s)).0 });
+      target = next_event (make kind.Process (calendar s));
+    } in
     let older : All P s.processes =
     All-weaker (λ y. y.id.0 < m) P (λ y below. omega (arith, below, more)) s.processes
-    (All-permutation (λ y. y.id.0 < m) (map process_of old.live) s.processes (IsPermutation-sym s.processes (map process_of old.live) before.stands.processes) h.older) in
+    (All-permutation (λ y. y.id.0 < m) (map process_of old.live) s.processes
+    (IsPermutation-sym s.processes (map process_of old.live) before.stands.processes) h.older) in
     let here : P x = omega (arith, more, before.stands.facilities.calendar.made) in
     record {
       time = later.stands.facilities.calendar.time ∙ (sym before.stands.facilities.calendar.time ∙ h.time);
-      older = All-permutation P t.processes (map process_of new.live) later.stands.processes (All-append P s.processes (x ∷ []) older (All-cons P x [] here (All-nil P)));
+      older = All-permutation P t.processes (map process_of new.live) later.stands.processes
+          (All-append P s.processes (x ∷ []) older (All-cons P x [] here (All-nil P)));
       owing = owing_after (make_process g k args) old new b h.owing;
     }

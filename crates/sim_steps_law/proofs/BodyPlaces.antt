@@ -25,7 +25,8 @@ abbrev pub event_in : Place → EventId
 event_in y = y.event
 
 -- where that is so, the events in the places are those that the body names
-pub stand_where : {B : Type 0} (tell : Telling B) (b : B) (es : List EventId) → list_all number_is_zero (tell.places b) ≡ true → map event_in (tell.places b) ≡ es →
+pub stand_where : {B : Type 0} (tell : Telling B) (b : B) (es : List EventId) → list_all number_is_zero (tell.places b) ≡ true →
+    map event_in (tell.places b) ≡ es →
     length es ≤ 64 → StandInPlaces tell es b
 stand_where tell b es numbers is few = record { few = few; named = numbers_alike (tell.places b) numbers ∙ ap but_zero is }
 
@@ -53,13 +54,15 @@ holds_event [] vs y h number = absurd (false≢true h)
 holds_event (c ∷ cs) [] y h number = absurd (false≢true h)
 holds_event (c ∷ cs) (pos n ∷ vs) y h number =
     ⊎_elim
-    (λ here. false≢true (sym (no_argument c y.class number) ∙ (and_parts (not (is_class c class.Number) && is_class c y.class) (y.event.0 == n) here).0))
+    (λ here. false≢true (sym (no_argument c y.class number)
+    ∙ (and_parts (not (is_class c class.Number) && is_class c y.class) (y.event.0 == n) here).0))
     (λ later. holds_event cs vs y later number)
     (or_cases (not (is_class c class.Number) && is_class c y.class && (y.event.0 == n)) (holds_argument cs vs y) h)
 holds_event (c ∷ cs) (negsuc n ∷ vs) y h number = holds_event cs vs y h number
 
 -- it is an event that the arguments name
-holds_named : (P : EventId → Type 0) (cs : List Class) (vs : List ℤ) (y : Place) → holds_argument cs vs y ≡ true → All P (arguments_name cs vs) → P y.event
+holds_named : (P : EventId → Type 0) (cs : List Class) (vs : List ℤ) (y : Place) → holds_argument cs vs y ≡ true → All P (arguments_name cs vs) →
+    P y.event
 holds_named P [] vs y h all = absurd (false≢true h)
 holds_named P (c ∷ cs) [] y h all = absurd (false≢true h)
 holds_named P (class.Number ∷ cs) (pos n ∷ vs) y h all = holds_named P cs vs y h all
@@ -67,7 +70,9 @@ holds_named P (class.Number ∷ cs) (negsuc n ∷ vs) y h all = holds_named P cs
 holds_named P (c ∷ cs) (pos n ∷ vs) y h all =
     let e : EventId = record { 0 = n } in
     ⊎_elim
-    (λ here. subst P (sym (same_event y.event e (eqb-true y.event.0 n (and_parts (not (is_class c class.Number) && is_class c y.class) (y.event.0 == n) here).1))) (All-head P e (arguments_name cs vs) all))
+    (λ here. subst P (sym (same_event y.event e
+    (eqb-true y.event.0 n (and_parts (not (is_class c class.Number) && is_class c y.class) (y.event.0 == n) here).1)))
+    (All-head P e (arguments_name cs vs) all))
     (λ later. holds_named P cs vs y later (All-tail P e (arguments_name cs vs) all))
     (or_cases (not (is_class c class.Number) && is_class c y.class && (y.event.0 == n)) (holds_argument cs vs y) h)
 holds_named P (c ∷ cs) (negsuc n ∷ vs) y h all = holds_named P cs vs y h all
@@ -83,7 +88,8 @@ module _ (cs : List Class) (vs : List ℤ) where
       let both = and_parts (begins_well y) (list_all begins_well ys) h in
       and_from (number_is_zero y) (list_all number_is_zero ys)
       (if_number (is_class y.class class.Number) (y.event.0 == 0)
-      (λ number. ⊎_elim (λ zero. zero) (λ holds. absurd (holds_event cs vs y holds number)) (or_cases (is_zero y.event) (holds_argument cs vs y) both.0)))
+      (λ number. ⊎_elim (λ zero. zero) (λ holds. absurd (holds_event cs vs y holds number))
+      (or_cases (is_zero y.event) (holds_argument cs vs y) both.0)))
       (begun_numbers ys both.1)
 
   pub begun_events : (P : EventId → Type 0) (ys : List Place) → P (record { 0 = 0 }) → All P (arguments_name cs vs) → list_all begins_well ys ≡ true →
@@ -92,7 +98,8 @@ module _ (cs : List Class) (vs : List ℤ) where
   begun_events P (y ∷ ys) none all h =
       let both = and_parts (begins_well y) (list_all begins_well ys) h in
       All-cons P y.event (map event_in ys)
-      (⊎_elim (λ zero. subst P (sym (same_event y.event (record { 0 = 0 }) (eqb-true y.event.0 0 zero))) none) (λ holds. holds_named P cs vs y holds all) (or_cases (is_zero y.event) (holds_argument cs vs y) both.0))
+      (⊎_elim (λ zero. subst P (sym (same_event y.event (record { 0 = 0 }) (eqb-true y.event.0 0 zero))) none)
+      (λ holds. holds_named P cs vs y holds all) (or_cases (is_zero y.event) (holds_argument cs vs y) both.0))
       (begun_events P ys none all both.1)
 
 -- ---- a body that was polled
@@ -121,7 +128,8 @@ class_is _ _ h = absurd (false≢true h)
 
 gets_no_number : (last : Option Op) (told : Signal) (y : Place) → is_class y.class class.Number ≡ true → gets_made last told y ≡ true → ⊥
 gets_no_number last (signal.Made e) y number h =
-    false≢true (sym (ap (makes_class last) (class_is y.class class.Number number) ∙ makes_no_number last) ∙ (and_parts (is_same y.event e) (makes_class last y.class) h).1)
+    false≢true (sym (ap (makes_class last) (class_is y.class class.Number number) ∙ makes_no_number last)
+    ∙ (and_parts (is_same y.event e) (makes_class last y.class) h).1)
 gets_no_number last _ y number h = false≢true h
 
 module _ (last : Option Op) (told : Signal) where
@@ -135,11 +143,13 @@ module _ (last : Option Op) (told : Signal) where
       let same : y.class ≡ x.class = class_is y.class x.class parts.0 in
       if_number (is_class y.class class.Number) (y.event.0 == 0)
       (λ number. ⊎_elim
-      (λ stays. ap (λ (e : EventId). e.0 == 0) (is_same-yes y.event x.event stays) ∙ number_then (is_class x.class class.Number) (x.event.0 == 0) was (ap (λ c. is_class c class.Number) (sym same) ∙ number))
+      (λ stays. ap (λ (e : EventId). e.0 == 0) (is_same-yes y.event x.event stays)
+      ∙ number_then (is_class x.class class.Number) (x.event.0 == 0) was (ap (λ c. is_class c class.Number) (sym same) ∙ number))
       (λ gets. absurd (gets_no_number last told y number gets))
       (or_cases (is_same y.event x.event) (gets_made last told y) parts.1))
 
-  pub polled_numbers : (xs ys : List Place) → places_kept last told xs ys ≡ true → list_all number_is_zero xs ≡ true → list_all number_is_zero ys ≡ true
+  pub polled_numbers : (xs ys : List Place) → places_kept last told xs ys ≡ true → list_all number_is_zero xs ≡ true →
+      list_all number_is_zero ys ≡ true
   polled_numbers [] [] h was = refl
   polled_numbers [] (y ∷ ys) h was = absurd (false≢true h)
   polled_numbers (x ∷ xs) [] h was = absurd (false≢true h)
@@ -156,11 +166,13 @@ module _ (last : Option Op) (told : Signal) where
   gets_told y h = by told refl h
     where
       by : (x : Signal) → told ≡ x → gets_made last x y ≡ true → told ≡ signal.Made y.event
-      by (signal.Made e) is gets = is ∙ ap (λ f. signal.Made f) (sym (is_same-yes y.event e (and_parts (is_same y.event e) (makes_class last y.class) gets).0))
+      by (signal.Made e) is gets = is
+          ∙ ap (λ f. signal.Made f) (sym (is_same-yes y.event e (and_parts (is_same y.event e) (makes_class last y.class) gets).0))
       by _ is gets = absurd (false≢true gets)
 
   -- what stands in the places then stood there, or is told
-  pub polled_events : (P : EventId → Type 0) (xs ys : List Place) → places_kept last told xs ys ≡ true → ((e : EventId) → IsMade e → P e) → All P (map event_in xs) →
+  pub polled_events : (P : EventId → Type 0) (xs ys : List Place) → places_kept last told xs ys ≡ true → ((e : EventId) → IsMade e → P e) →
+      All P (map event_in xs) →
       All P (map event_in ys)
   polled_events P [] [] h made all = All-nil P
   polled_events P [] (y ∷ ys) h made all = absurd (false≢true h)
@@ -169,7 +181,8 @@ module _ (last : Option Op) (told : Signal) where
       let parts = and_parts (stays_well x y) (places_kept last told xs ys) h in
       let later = and_parts (is_class y.class x.class) (is_same y.event x.event || gets_made last told y) parts.0 in
       All-cons P y.event (map event_in ys)
-      (⊎_elim (λ stays. subst P (sym (is_same-yes y.event x.event stays)) (All-head P x.event (map event_in xs) all)) (λ gets. made y.event (gets_told y gets)) (or_cases (is_same y.event x.event) (gets_made last told y) later.1))
+      (⊎_elim (λ stays. subst P (sym (is_same-yes y.event x.event stays)) (All-head P x.event (map event_in xs) all))
+      (λ gets. made y.event (gets_told y gets)) (or_cases (is_same y.event x.event) (gets_made last told y) later.1))
       (polled_events P xs ys parts.1 made (All-tail P x.event (map event_in xs) all))
 
   -- where nothing is told that was made, no place changes
@@ -180,6 +193,8 @@ module _ (last : Option Op) (told : Signal) where
   polled_alike (x ∷ xs) (y ∷ ys) h none =
       let parts = and_parts (stays_well x y) (places_kept last told xs ys) h in
       let later = and_parts (is_class y.class x.class) (is_same y.event x.event || gets_made last told y) parts.0 in
-      let same : y.event ≡ x.event = ⊎_elim (λ stays. is_same-yes y.event x.event stays) (λ gets. absurd (none y.event (gets_told y gets))) (or_cases (is_same y.event x.event) (gets_made last told y) later.1) in
+      let same : y.event ≡ x.event =
+      ⊎_elim (λ stays. is_same-yes y.event x.event stays) (λ gets. absurd (none y.event (gets_told y gets)))
+      (or_cases (is_same y.event x.event) (gets_made last told y) later.1) in
       let rest = polled_alike xs ys parts.1 none in
       cc

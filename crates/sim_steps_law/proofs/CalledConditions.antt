@@ -43,7 +43,11 @@ member_checked : (c : Calendar) (e cond : EventId) (left : List Callback) → Co
 member_checked c e cond left h =
     let before : Control = Calling e (callback.Check cond ∷ left) in
     let once : 1 ≤ checks_at c before cond e =
-    omega (arith, callbacks_at-called (is_check_of cond) c before (Calling e left) (callback.Check cond) e refl refl, counts_one (is_same e e && is_same cond cond) (rw (is_same-self e, is_same-self cond) refl)) in
+    omega (
+      arith,
+      callbacks_at-called (is_check_of cond) c before (Calling e left) (callback.Check cond) e refl refl,
+      counts_one (is_same e e && is_same cond cond) (rw (is_same-self e, is_same-self cond) refl),
+    ) in
     any_counted (is_same e) (members_of c cond) (omega (arith, once, h.checks cond e))
 
 -- a pending condition has not counted all
@@ -55,7 +59,8 @@ below_all x is h pending =
 
 module _ {B Code : Type 0} (body : BodyOf B Code) (parts : PartsOf B Code) (h : StandsForSome body parts)
     (needed : AreNeeded parts.shared.happen.events) where
-  read_here : (e : EventId) → IsKept parts.shared.happen.events e → (kept_at parts.shared.happen.events e).event ≡ event_at h.state.facilities.calendar e
+  read_here : (e : EventId) → IsKept parts.shared.happen.events e →
+      (kept_at parts.shared.happen.events e).event ≡ event_at h.state.facilities.calendar e
   read_here e kept = read_is parts.shared.happen h.state.facilities.calendar e kept h.stands.facilities.calendar
 
   checks_known : (event cond : EventId) (left : List Callback) → parts.control ≡ Calling event (callback.Check cond ∷ left) →
@@ -73,7 +78,8 @@ module _ {B Code : Type 0} (body : BodyOf B Code) (parts : PartsOf B Code) (h : 
         kept = kept;
         not_cancelled =
             ap (λ (x : EventOf). x.cancelled) read
-            ∙ uncancelled_kind (event_at c cond) (h.lawful.waiting.cancelled cond.0 _ has.made) (cond_no_waiter (kind_at c cond) (condition_kind c cond h.lawful.conditions.kinds has.is));
+            ∙ uncancelled_kind (event_at c cond) (h.lawful.waiting.cancelled cond.0 _ has.made)
+            (cond_no_waiter (kind_at c cond) (condition_kind c cond h.lawful.conditions.kinds has.is));
         member =
             ap (λ (x : EventOf). list_any (is_same event) (condition_of x.condition).members) read
             ∙ member_checked c event cond left (subst (λ k. ConditionsBasis c k) calling basis);
@@ -88,7 +94,8 @@ module _ {B Code : Type 0} (body : BodyOf B Code) (parts : PartsOf B Code) (h : 
       let s : State B = h.state in
       let c : Calendar = s.facilities.calendar in
       let calling : s.control ≡ Calling event (callback.Build cond ∷ left) = sym h.stands.control ∙ is in
-      let builds : AllPass (builds_condition c) (callback.Build cond ∷ left) = subst (λ k. AllPass (builds_condition c) (left_of k)) calling h.lawful.conditions.left_builds in
+      let builds : AllPass (builds_condition c) (callback.Build cond ∷ left) =
+      subst (λ k. AllPass (builds_condition c) (left_of k)) calling h.lawful.conditions.left_builds in
       let built : is_condition c cond ≡ true = All-head (λ x. builds_condition c x ≡ true) (callback.Build cond) left builds in
       let kept = kept_here body parts h needed cond (called_kept body parts h needed event (callback.Build cond) left is) in
       record { kept = kept; is = ap (λ (x : EventOf). is_some x.condition) (read_here cond kept) ∙ built }
@@ -108,6 +115,8 @@ pub condition_taken : {B Code : Type 0} (a m : PartsOf B Code) (event : EventId)
 condition_taken a m event x t h = subst (λ events. CallsCondition event x events) (sym (ap (λ (y : HappenOf). y.events) t.happen)) h
 
 -- only what happens is changed
-pub followed_becomes : {B Code : Type 0} {body : BodyOf B Code} (change : Calendar → Calendar) (a n : PartsOf B Code) (x : HappenOf) → ((c : Calendar) → ComesPlainly c (change c)) →
+pub followed_becomes : {B Code : Type 0} {body : BodyOf B Code} (change : Calendar → Calendar) (a n : PartsOf B Code) (x : HappenOf) →
+    ((c : Calendar) → ComesPlainly c (change c)) →
     Follows change a.shared.happen x → n ≡ with_happen x a → Becomes body (on_events change) a n
-followed_becomes {B} {Code} {body} change a n x plainly follows is = subst (Becomes body (on_events change) a) (sym is) (becomes_followed change a x plainly follows)
+followed_becomes {B} {Code} {body} change a n x plainly follows is =
+    subst (Becomes body (on_events change) a) (sym is) (becomes_followed change a x plainly follows)

@@ -69,7 +69,8 @@ record IsDueOpen (c : Calendar) (e : EventId) : Type 0 where
   made : e.0 < length c.events
   other : e.0 ≢ 0
 
-due_open : {B Code : Type 0} (body : BodyOf B Code) (a : PartsOf B Code) (s : State B) (x : Entry) → LawfulOf body a s → due (calendar s).agenda ≡ Some x →
+due_open : {B Code : Type 0} (body : BodyOf B Code) (a : PartsOf B Code) (s : State B) (x : Entry) → LawfulOf body a s →
+    due (calendar s).agenda ≡ Some x →
     IsDueOpen (calendar s) x.event
 due_open body a s x h is =
     let c : Calendar = calendar s in
@@ -77,7 +78,8 @@ due_open body a s x h is =
     let parts = and_parts (not (is_pending c e)) (not (is_processed c e)) (due_triggered x c is h.times) in
     let unprocessed : is_processed c e ≡ false = not-true (is_processed c e) parts.1 in
     let uncancelled : (event_at c e).cancelled ≡ false =
-    never (event_at c e).cancelled (may_wait_kind (event_at c e).kind) (is_pending c e) (passes_at is_cancelled_well c e refl h.waiting.cancelled) (not-true (is_pending c e) parts.0) in
+    never (event_at c e).cancelled (may_wait_kind (event_at c e).kind) (is_pending c e)
+    (passes_at is_cancelled_well c e refl h.waiting.cancelled) (not-true (is_pending c e) parts.0) in
     record {
       unclosed = rw (unprocessed, uncancelled) refl;
       made = due_made x c is h.times;
@@ -104,7 +106,8 @@ module _ {B Code : Type 0} (body : BodyOf B Code) (a n : PartsOf B Code) (x : En
 
   popped_stands : (s : State B) → StandsFor a s → StandsFor m (pop_entry x s)
   popped_stands s st = record {
-    facilities = shown_with a.shared y s.facilities (popped x (calendar s)) (no_fewer 1 (one_more x.event) a.shared.happen y (adds_one_more x.event) p.held) (p.each (calendar s) st.facilities.calendar) st.facilities;
+    facilities = shown_with a.shared y s.facilities (popped x (calendar s))
+        (no_fewer 1 (one_more x.event) a.shared.happen y (adds_one_more x.event) p.held) (p.each (calendar s) st.facilities.calendar) st.facilities;
     processed = ap (λ n. n + 1) st.processed;
     generator = st.generator;
     processes = st.processes;
@@ -120,14 +123,17 @@ module _ {B Code : Type 0} (body : BodyOf B Code) (a n : PartsOf B Code) (x : En
       let old : Shows a.shared.happen c = st.facilities.calendar in
       let new : Shows y d = p.each c old in
       let first = due_open body a s x h (p.due c old) in
-      let kept : IsKept a.shared.happen.events x.event = unclosed_kept a.shared.happen.events c x.event k.gone (omega (arith, first.made, old.made)) first.unclosed in
+      let kept : IsKept a.shared.happen.events x.event =
+      unclosed_kept a.shared.happen.events c x.event k.gone (omega (arith, first.made, old.made)) first.unclosed in
       let was : EventId → ℕ = held_alone a.setup.events (body.tell a.code) s in
       let is_now : EventId → ℕ = held_alone a.setup.events (body.tell a.code) (pop_entry x s) in
       let table : Balanced was (x.event ∷ []) y.events =
       held_balanced a.shared.happen y c d old new (after_popped x c) (none_popped x c) x.event kept p.held was [] k.holders in
-      let trade : StatesTrade a.setup.events (body.tell a.code) (but_zero (x.event ∷ [])) [] s (pop_entry x s) = popped_trade a.setup.events (body.tell a.code) s x (sym st.control ∙ idle) in
+      let trade : StatesTrade a.setup.events (body.tell a.code) (but_zero (x.event ∷ [])) [] s (pop_entry x s) =
+      popped_trade a.setup.events (body.tell a.code) s x (sym st.control ∙ idle) in
       record {
-        holders = trades_balanced (x.event ∷ []) [] [] was is_now y.events (subst (λ gained. StatesTrade a.setup.events (body.tell a.code) gained [] s (pop_entry x s)) (other_is x.event first.other) trade) table;
+        holders = trades_balanced (x.event ∷ []) [] [] was is_now y.events
+            (subst (λ gained. StatesTrade a.setup.events (body.tell a.code) gained [] s (pop_entry x s)) (other_is x.event first.other) trade) table;
         gone = held_gone a.shared.happen y c d old new (after_popped x c) (none_popped x c) x.event kept p.held k.gone;
       }
 
@@ -137,7 +143,8 @@ module _ {B Code : Type 0} (body : BodyOf B Code) (a n : PartsOf B Code) (x : En
       (record {
         each = λ s h st. record {
           state = pop_entry x s;
-          stepped = at_control (plan_of body a) (body.turn a.code) s (pop_entry x s) Idle (sym idle ∙ st.control) (record { entry = x; is_due = p.due (calendar s) st.facilities.calendar; then_is = refl });
+          stepped = at_control (plan_of body a) (body.turn a.code) s (pop_entry x s) Idle (sym idle ∙ st.control)
+              (record { entry = x; is_due = p.due (calendar s) st.facilities.calendar; then_is = refl });
           stands = popped_stands s st;
           accounts = popped_accounts s h st;
           lines = ap (λ m. s.lines ++ m ∷ []) (sym (p.line (calendar s) st.facilities.calendar));
@@ -157,13 +164,15 @@ told_of x l m a y p same = ap told_event (sym same) ∙ ap told_event (p.line (s
 
 -- ---- the calls
 
-pub called_moves : {B Code : Type 0} (body : BodyOf B Code) (more : ℕ) (a n : PartsOf B Code) (event : EventId) (left : List Callback) → a.control ≡ Calling event left →
+pub called_moves : {B Code : Type 0} (body : BodyOf B Code) (more : ℕ) (a n : PartsOf B Code) (event : EventId) (left : List Callback) →
+    a.control ≡ Calling event left →
     more ≤ most_held → BecomesWith body more (call_or_settle (plan_of body a) event left) a n → Moves body a unit.Quiet n
 called_moves body more a n event left is few b =
     record {
       each = λ s h st. record {
         state = call_or_settle (plan_of body a) event left s;
-        stepped = at_control (plan_of body a) (body.turn a.code) s (call_or_settle (plan_of body a) event left s) (Calling event left) (sym is ∙ st.control) refl;
+        stepped = at_control (plan_of body a) (body.turn a.code) s
+            (call_or_settle (plan_of body a) event left s) (Calling event left) (sym is ∙ st.control) refl;
         stands = (b.each s (lawful_stands body a s h st)).stands;
         accounts = b.accounts [] s (lawful_stands body a s h st);
         lines = call_writes (plan_of body a) event left s ∙ sym (append-nil s.lines);
@@ -207,10 +216,15 @@ becomes_taken {B} {Code} {body} a m event x t =
         record { time = s.time; scheduled = s.scheduled; agenda = s.agenda; made = s.made; kept = s.kept; unmade = s.unmade }
 
 -- what it names is kept as before
-pub taken_names : {B Code : Type 0} (a m : PartsOf B Code) (event : EventId) (x : Callback) → TakesCallback event x a m → CallsKept x a → CallsKept x m
+pub taken_names : {B Code : Type 0} (a m : PartsOf B Code) (event : EventId) (x : Callback) → TakesCallback event x a m → CallsKept x a →
+    CallsKept x m
 taken_names {B} {Code} a m event x t k =
     let live : m.live ≡ a.live = ap (λ (n : PartsOf B Code). n.live) t.others in
-    record { kept = rw t.happen k.kept; left = subst (All (IsKept m.shared.happen.events)) (sym (same x live)) (rw t.happen k.left); not_cancelled = rw t.happen k.not_cancelled }
+    record {
+      kept = rw t.happen k.kept;
+      left = subst (All (IsKept m.shared.happen.events)) (sym (same x live)) (rw t.happen k.left);
+      not_cancelled = rw t.happen k.not_cancelled;
+    }
   where
     same : (y : Callback) → m.live ≡ a.live → events_left y m ≡ events_left y a
     same (callback.Strike p) h = ap (λ (live : List (RecordOf B)). target_in (record_of p live)) h
@@ -235,9 +249,11 @@ taken_moves {B} {Code} body a m n event x t does =
     let g : Plan B = plan_of body a in
     let left : List Callback = m.shared.happen.left in
     let opened : plan_of body m ≡ g = rw t.others refl in
-    let calls : BecomesOwing body (triggered_by x) [] 0 (called g event x) m n = subst (λ h. BecomesOwing body (triggered_by x) [] 0 (called h event x) m n) opened does in
+    let calls : BecomesOwing body (triggered_by x) [] 0 (called g event x) m n =
+    subst (λ h. BecomesOwing body (triggered_by x) [] 0 (called h event x) m n) opened does in
     called_moves body 0 a n event (x ∷ left) t.before none_is_few
-    (becomes_as (λ s. called g event x (control_to (Calling event left) s)) (call_or_settle g event (x ∷ left)) a n (λ s h. call_after g event x left s)
+    (becomes_as (λ s. called g event x (control_to (Calling event left) s))
+    (call_or_settle g event (x ∷ left)) a n (λ s h. call_after g event x left s)
     (becomes_then (control_to (Calling event left)) (called g event x) a m n (becomes_taken a m event x t) calls))
 
 -- its callbacks are being called
@@ -257,8 +273,10 @@ pub stays_calling : {B Code : Type 0} (g : Plan B) (a : PartsOf B Code) (event :
 stays_calling g a event s calling h = ap (λ c. control_to c s) (sym (calling_now a event s calling h))
 
 -- the event's outcome is passed on to another, which was held for this and is given back then
-pub trigger_called : {B Code : Type 0} {body : BodyOf B Code} (g : Plan B) (a n : PartsOf B Code) (x : HappenOf) (event y : EventId) → IsCalling event a.control →
-    IsKept a.shared.happen.events event → IsOwing body (y ∷ []) a → PassesOn (kept_at a.shared.happen.events event).event.outcome y a.shared.happen x →
+pub trigger_called : {B Code : Type 0} {body : BodyOf B Code} (g : Plan B) (a n : PartsOf B Code) (x : HappenOf) (event y : EventId) →
+    IsCalling event a.control →
+    IsKept a.shared.happen.events event → IsOwing body (y ∷ []) a →
+    PassesOn (kept_at a.shared.happen.events event).event.outcome y a.shared.happen x →
     n ≡ with_happen x a → BecomesOwing body (y ∷ []) [] 0 (called g event (callback.Trigger y)) a n
 trigger_called {B} {Code} {body} g a n x event y calling kept owing passes is =
     let o = (kept_at a.shared.happen.events event).event.outcome in
@@ -269,9 +287,12 @@ trigger_called {B} {Code} {body} g a n x event y calling kept owing passes is =
     subst (BecomesOwing body (y ∷ []) [] 0 (called g event (callback.Trigger y)) a) (sym is)
     (becomes_as passed (called g event (callback.Trigger y)) a (with_happen x a)
     (λ s h.
-    let read : event_at (calendar s) event ≡ (kept_at a.shared.happen.events event).event = sym (read_is a.shared.happen (calendar s) event kept h.stands.facilities.calendar) in
-    ap passed (sym (stays_calling g a event s calling h)) ∙ ap (λ (z : EventOf). on_events (pass_on z.outcome y) (control_to (Calling event (left_of s.control)) s)) (sym read))
-    (becomes_then passed (λ s. s) a mid (with_happen x a) held_still (returning_any y mid x (owing_after passed a mid held_still owing) passes.events passes.rest)))
+    let read : event_at (calendar s) event ≡ (kept_at a.shared.happen.events event).event =
+    sym (read_is a.shared.happen (calendar s) event kept h.stands.facilities.calendar) in
+    ap passed (sym (stays_calling g a event s calling h))
+    ∙ ap (λ (z : EventOf). on_events (pass_on z.outcome y) (control_to (Calling event (left_of s.control)) s)) (sym read))
+    (becomes_then passed (λ s. s) a mid (with_happen x a) held_still
+    (returning_any y mid x (owing_after passed a mid held_still owing) passes.events passes.rest)))
 
 -- ---- the event is settled, stops the run, or resumes a process
 
@@ -285,18 +306,23 @@ event_now a event kept s h = sym (read_is a.shared.happen (calendar s) event kep
 
 module _ {B Code : Type 0} {body : BodyOf B Code} (a n : PartsOf B Code) (event : EventId) (kept : IsKept a.shared.happen.events event) where
   -- all its callbacks were called
-  pub settled_owes : (unhandled : Bool) → a.control ≡ Calling event [] → unhandled ≡ (is_fail (kept_now a event).outcome && not (kept_now a event).defused) →
-      n ≡ record a { control = if unhandled then Over end.Crash event [] else Idle } → BecomesOwing body [] (but_zero (event ∷ [])) 0 (settle event) a n
+  pub settled_owes : (unhandled : Bool) → a.control ≡ Calling event [] →
+      unhandled ≡ (is_fail (kept_now a event).outcome && not (kept_now a event).defused) →
+      n ≡ record a { control = if unhandled then Over end.Crash event [] else Idle } →
+      BecomesOwing body [] (but_zero (event ∷ [])) 0 (settle event) a n
   settled_owes unhandled done read is =
       let c : Control = if unhandled then Over end.Crash event [] else Idle in
       let ends : State B → State B = λ s. record s { control = c } in
       subst (BecomesOwing body [] (but_zero (event ∷ [])) 0 (settle event) a) (sym is)
       (becomes_as ends (settle event) a (record a { control = c }) (λ s h. ap (λ k. control_to k s) (crashed s h))
       (owing_controlled (but_zero (event ∷ [])) (λ k. c) a
-      (λ s h. subst (StatesTrade a.setup.events (body.tell a.code) [] (but_zero (event ∷ [])) s) (sym (ap (λ k. control_to k s) (crashed s h))) (settled_trade a.setup.events (body.tell a.code) s event (sym h.stands.control ∙ done)))))
+      (λ s h. subst (StatesTrade a.setup.events (body.tell a.code) [] (but_zero (event ∷ [])) s) (sym (ap (λ k. control_to k s) (crashed s h)))
+      (settled_trade a.setup.events (body.tell a.code) s event (sym h.stands.control ∙ done)))))
     where
-      crashed : (s : State B) → Stands a s → (if unhandled then Over end.Crash event [] else Idle) ≡ (if is_crash event s then Over end.Crash event [] else Idle)
-      crashed s h = ap (λ (b : Bool). if b then Over end.Crash event [] else Idle) (read ∙ ap (λ (y : EventOf). is_fail y.outcome && not y.defused) (sym (event_now a event kept s h)))
+      crashed : (s : State B) → Stands a s →
+          (if unhandled then Over end.Crash event [] else Idle) ≡ (if is_crash event s then Over end.Crash event [] else Idle)
+      crashed s h = ap (λ (b : Bool). if b then Over end.Crash event [] else Idle)
+          (read ∙ ap (λ (y : EventOf). is_fail y.outcome && not y.defused) (sym (event_now a event kept s h)))
 
   -- it stops the run
   pub stopped_owes : (g : Plan B) (failed : Bool) → IsCalling event a.control → failed ≡ is_fail (kept_now a event).outcome →
@@ -308,7 +334,8 @@ module _ {B Code : Type 0} {body : BodyOf B Code} (a n : PartsOf B Code) (event 
       let ends : State B → State B = λ s. record s { control = over s.control } in
       subst (BecomesOwing body [] (but_zero (event ∷ [])) 0 (called g event callback.Stop) a) (sym is)
       (becomes_as ends (called g event callback.Stop) a (record a { control = over a.control })
-      (λ s h. ap (λ (b : Bool). control_to (Over (if b then end.Crash else end.Until) event (left_of s.control)) s) (read ∙ ap (λ (y : EventOf). is_fail y.outcome) (sym (event_now a event kept s h))))
+      (λ s h. ap (λ (b : Bool). control_to (Over (if b then end.Crash else end.Until) event (left_of s.control)) s)
+      (read ∙ ap (λ (y : EventOf). is_fail y.outcome) (sym (event_now a event kept s h))))
       (owing_controlled (but_zero (event ∷ [])) over a (λ s h. over_trade s (calling_now a event s calling h) why)))
     where
       over_trade : (s : State B) → s.control ≡ Calling event (left_of s.control) → (why : End) →
@@ -318,7 +345,8 @@ module _ {B Code : Type 0} {body : BodyOf B Code} (a n : PartsOf B Code) (event 
           (λ f. rw calling (omega (arith, count_by-one (is_same f) event, ap one_if (is_same-swap f event)))) (λ f. omega arith)
 
 -- a process that it resumes runs, and a failure that it is told of ends no run by itself
-pub resumed_becomes : {B Code : Type 0} {body : BodyOf B Code} (g : Plan B) (a n : PartsOf B Code) (x : HappenOf) (event : EventId) (p : ProcId) (told : Signal) →
+pub resumed_becomes : {B Code : Type 0} {body : BodyOf B Code} (g : Plan B)
+    (a n : PartsOf B Code) (x : HappenOf) (event : EventId) (p : ProcId) (told : Signal) →
     IsCalling event a.control → IsKept a.shared.happen.events event →
     (let y = (kept_at a.shared.happen.events event).event in told ≡ signal_by y.kind y.outcome) → Follows (defuse_failed event) a.shared.happen x →
     n ≡ record (with_happen x a) { control = Active event (left_of a.control) p told } → Becomes body (called g event (callback.Resume p)) a n
@@ -328,12 +356,16 @@ resumed_becomes {B} {Code} {body} g a n x event p told calling kept read follows
     subst (Becomes body (called g event (callback.Resume p)) a) (sym is)
     (becomes_as (λ s. let t : State B = defused s in record t { control = runs t.control }) (called g event (callback.Resume p)) a _
     (λ s h.
-    let same : event_at (calendar s) event ≡ (kept_at a.shared.happen.events event).event = sym (read_is a.shared.happen (calendar s) event kept h.stands.facilities.calendar) in
-    ap (λ (y : Signal). control_to (Active event (left_of s.control) p y) (defused s)) (read ∙ ap (λ (y : EventOf). signal_by y.kind y.outcome) (sym same)))
-    (becomes_then defused (λ t. record t { control = runs t.control }) a (with_happen x a) _ (becomes_followed (defuse_failed event) a x (plainly_defused_failed event) follows)
+    let same : event_at (calendar s) event ≡ (kept_at a.shared.happen.events event).event =
+    sym (read_is a.shared.happen (calendar s) event kept h.stands.facilities.calendar) in
+    ap (λ (y : Signal). control_to (Active event (left_of s.control) p y) (defused s))
+    (read ∙ ap (λ (y : EventOf). signal_by y.kind y.outcome) (sym same)))
+    (becomes_then defused (λ t. record t { control = runs t.control }) a (with_happen x a) _
+    (becomes_followed (defuse_failed event) a x (plainly_defused_failed event) follows)
     (owing_controlled [] runs (with_happen x a) (λ s h. still_processed s (calling_now (with_happen x a) event s calling h)))))
   where
     still_processed : (s : State B) → s.control ≡ Calling event (left_of s.control) →
         StatesTrade a.setup.events (body.tell a.code) [] [] s (record s { control = Active event (left_of s.control) p told })
     still_processed s is_calling =
-        processed_trade a.setup.events (body.tell a.code) s (Active event (left_of s.control) p told) [] [] (λ f. rw is_calling (omega arith)) (λ f. omega arith)
+        processed_trade a.setup.events (body.tell a.code) s (Active event (left_of s.control) p told)
+        [] [] (λ f. rw is_calling (omega arith)) (λ f. omega arith)

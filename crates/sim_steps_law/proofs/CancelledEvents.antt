@@ -47,10 +47,12 @@ module _ (c : Calendar) (kinds : (n : ℕ) → n < length c.events → IsConditi
 
   zero_plain : (e : EventId) → e.0 ≡ 0 → IsPlain e
   zero_plain e is =
-      let none : IsPlain (record { 0 = 0 }) = no_condition (event_at c (record { 0 = 0 })) (kinds 0 made) (plain_is (kind_at c (record { 0 = 0 })) plain) in
+      let none : IsPlain (record { 0 = 0 }) =
+      no_condition (event_at c (record { 0 = 0 })) (kinds 0 made) (plain_is (kind_at c (record { 0 = 0 })) plain) in
       subst IsPlain (same_event (record { 0 = 0 }) e (sym is)) none
 
-  placed_plain : (e : EventId) (xs : List Place) → list_all (place_fits c) xs ≡ true → list_any (λ x. is_class x.class class.Move && is_same x.event e) xs ≡ true →
+  placed_plain : (e : EventId) (xs : List Place) → list_all (place_fits c) xs ≡ true →
+      list_any (λ x. is_class x.class class.Move && is_same x.event e) xs ≡ true →
       IsPlain e
   placed_plain e [] h any = absurd (false≢true any)
   placed_plain e (x ∷ xs) h any =
@@ -58,15 +60,19 @@ module _ (c : Calendar) (kinds : (n : ℕ) → n < length c.events → IsConditi
       ⊎_elim
       (λ here. let both = and_parts (is_class x.class class.Move) (is_same x.event e) here in
       subst IsPlain (is_same-yes x.event e both.1)
-      (⊎_elim (λ zero. zero_plain x.event (eqb-true x.event.0 0 zero)) (λ fits. move_plain both.0 fits) (or_cases (x.event.0 == 0) (was_made c x.event && kind_fits x.class (kind_at c x.event)) all.0)))
+      (⊎_elim (λ zero. zero_plain x.event (eqb-true x.event.0 0 zero)) (λ fits. move_plain both.0 fits)
+      (or_cases (x.event.0 == 0) (was_made c x.event && kind_fits x.class (kind_at c x.event)) all.0)))
       (λ later. placed_plain e xs all.1 later)
       (or_cases (is_class x.class class.Move && is_same x.event e) (list_any (λ z. is_class z.class class.Move && is_same z.event e) xs) any)
     where
       move_plain : is_class x.class class.Move ≡ true → (was_made c x.event && kind_fits x.class (kind_at c x.event)) ≡ true → IsPlain x.event
       move_plain moves fits =
           let parts = and_parts (was_made c x.event) (kind_fits x.class (kind_at c x.event)) fits in
-          no_condition (event_at c x.event) (kinds x.event.0 (ltb-true x.event.0 (length c.events) parts.0)) (move_is x.class moves (kind_at c x.event) parts.1)
+          no_condition (event_at c x.event) (kinds x.event.0 (ltb-true x.event.0 (length c.events) parts.0))
+          (move_is x.class moves (kind_at c x.event) parts.1)
 
-  pub cancelled_plain : (e : EventId) (xs : List Place) → list_all (place_fits c) xs ≡ true → (is_zero e || is_in_place xs class.Move e) ≡ true → IsPlain e
+  pub cancelled_plain : (e : EventId) (xs : List Place) → list_all (place_fits c) xs ≡ true → (is_zero e || is_in_place xs class.Move e) ≡ true →
+      IsPlain e
   cancelled_plain e xs h may =
-      ⊎_elim (λ zero. zero_plain e (eqb-true e.0 0 zero)) (λ placed. placed_plain e xs h placed) (or_cases (is_zero e) (is_in_place xs class.Move e) may)
+      ⊎_elim (λ zero. zero_plain e (eqb-true e.0 0 zero)) (λ placed. placed_plain e xs h placed)
+      (or_cases (is_zero e) (is_in_place xs class.Move e) may)

@@ -31,13 +31,15 @@ pub alike_swapped : (es fs : List EventId) → AreAlike (es ++ fs) (fs ++ es)
 alike_swapped es fs = record { each = λ e. omega (arith, count_by-append (is_same e) es fs, count_by-append (is_same e) fs es) }
 
 -- where these come and go in place of those, as often
-pub trades_alike : (gained lost gained' lost' : List EventId) (old new : EventId → ℕ) → AreAlike (gained ++ lost') (gained' ++ lost) → Trades gained lost old new
+pub trades_alike : (gained lost gained' lost' : List EventId) (old new : EventId → ℕ) → AreAlike (gained ++ lost') (gained' ++ lost) →
+    Trades gained lost old new
     → Trades gained' lost' old new
 trades_alike gained lost gained' lost' old new h t =
     record { each = λ e. omega (arith, t.each e, h.each e, count_by-append (is_same e) gained lost', count_by-append (is_same e) gained' lost) }
 
 module _ {B Code : Type 0} {body : BodyOf B Code} where
-  pub balances_alike : (es fs todo : List EventId) (a : PartsOf B Code) (s : State B) → AreAlike es fs → Balances body (es ++ todo) a s → Balances body (fs ++ todo) a s
+  pub balances_alike : (es fs todo : List EventId) (a : PartsOf B Code) (s : State B) → AreAlike es fs → Balances body (es ++ todo) a s →
+      Balances body (fs ++ todo) a s
   balances_alike es fs todo a s h b = record {
     holders = record {
       each = λ e. omega (arith, b.holders.each e, h.each e, count_by-append (is_same e) es todo, count_by-append (is_same e) fs todo);
@@ -67,7 +69,8 @@ module _ {B Code : Type 0} {body : BodyOf B Code} where
   -- ---- what is kept
 
   -- event 0 and the named ones
-  pub owing_named : (owed : List EventId) (a : PartsOf B Code) (e : EventId) → nat_le e.0 a.setup.events ≡ true → IsOwing body owed a → IsKept a.shared.happen.events e
+  pub owing_named : (owed : List EventId) (a : PartsOf B Code) (e : EventId) → nat_le e.0 a.setup.events ≡ true → IsOwing body owed a →
+      IsKept a.shared.happen.events e
   owing_named owed a e named h =
       let alone : EventId → ℕ = held_alone a.setup.events (body.tell a.code) h.state in
       let some : 0 < alone e = held_for_good a.setup.events (body.tell a.code) h.state e named in

@@ -93,15 +93,18 @@ waits_there_alone c r scopes x w (Slot p key) alone of has fits same =
     let y : OpenScope = found.1 in
     let parts = and_parts (is_same y.request w.event && is_process y.process p) (y.res == w.res) found.4 in
     let here : is_same y.request w.event ≡ true = (and_parts (is_same y.request w.event) (is_process y.process p) parts.0).0 in
-    let request : is_same y.request x.request ≡ true = ap (λ (e : EventId). is_same e x.request) (same_event y.request w.event (eqb-true y.request.0 w.event.0 here)) ∙ same in
+    let request : is_same y.request x.request ≡ true =
+    ap (λ (e : EventId). is_same e x.request) (same_event y.request w.event (eqb-true y.request.0 w.event.0 here)) ∙ same in
     let is_x : y ≡ x = subst (λ (z : OpenScope). is_same z.request x.request ≡ true → z ≡ x) found.3 (alone found.0 y found.2) request in
     sym (eqb-true y.res w.res parts.1) ∙ ap (λ (z : OpenScope). z.res) is_x
 waits_there_alone c r scopes x w (Give amount priority) alone of has fits same =
     let is : w.event ≡ x.request = same_event w.event x.request (eqb-true w.event.0 x.request.0 same) in
-    absurd (request_no_put (kind_at c x.request) of (subst (λ (e : EventId). is_put_kind (kind_at c e) ≡ true) is (and_parts (is_put_kind (kind_at c w.event)) _ fits).0))
+    absurd (request_no_put (kind_at c x.request) of
+    (subst (λ (e : EventId). is_put_kind (kind_at c e) ≡ true) is (and_parts (is_put_kind (kind_at c w.event)) _ fits).0))
 waits_there_alone c r scopes x w (Take least greatest) alone of has fits same =
     let is : w.event ≡ x.request = same_event w.event x.request (eqb-true w.event.0 x.request.0 same) in
-    absurd (request_no_get (kind_at c x.request) of (subst (λ (e : EventId). is_get_kind (kind_at c e) ≡ true) is (and_parts (is_get_kind (kind_at c w.event)) _ fits).0))
+    absurd (request_no_get (kind_at c x.request) of
+    (subst (λ (e : EventId). is_get_kind (kind_at c e) ≡ true) is (and_parts (is_get_kind (kind_at c w.event)) _ fits).0))
 
 -- ---- what is known of a lawful state
 
@@ -119,7 +122,8 @@ module _ {B : Type 0} (g : Plan B) (tell : Telling B) (sound : B → Type 0) (s 
   all_waiting k d below =
       let w : Waiter = get_or s.facilities.waiters k d in
       let e : EventId = w.event in
-      let parts = four_parts (was_made c e) (is_pending c e) (not (event_at c e).cancelled) (may_wait_kind (kind_at c e)) (h.waiting.waiters k d below) in
+      let parts = four_parts (was_made c e) (is_pending c e) (not (event_at c e).cancelled)
+      (may_wait_kind (kind_at c e)) (h.waiting.waiters k d below) in
       pending_open c e h.registrations.outcomes parts.0 parts.1 (not-true (event_at c e).cancelled parts.2)
 
   all_scopes : All (CanBeLeft g.setup.resources s.facilities) s.scopes
@@ -132,7 +136,8 @@ module _ {B : Type 0} (g : Plan B) (tell : Telling B) (sound : B → Type 0) (s 
         slots = outer.1;
         alone = λ i v j equal.
             let w : Waiter = get_or s.facilities.waiters i v in
-            waits_there_alone c (resource_at g.setup.resources w.res) s.scopes x w w.want (alone_each s.scopes h.waiting.apart k d below) well.2 (h.waiting.requests i v j) (and_parts _ _ (h.capacities.waiting i v j)).1 equal;
+            waits_there_alone c (resource_at g.setup.resources w.res) s.scopes x w w.want (alone_each s.scopes h.waiting.apart k d below) well.2
+            (h.waiting.requests i v j) (and_parts _ _ (h.capacities.waiting i v j)).1 equal;
       }
 
   all_end : All (λ x. EndsWell s x.id) s.processes
@@ -140,14 +145,16 @@ module _ {B : Type 0} (g : Plan B) (tell : Telling B) (sound : B → Type 0) (s 
       let x : ProcessOf B = get_or s.processes k d in
       let e : EventId = event_of x.id in
       let well = four_parts (was_made c x.target) (was_made c e) (is_pending c e) (is_process_kind (kind_at c e)) (h.processes.living k d below) in
-      let not_cancelled : (event_at c e).cancelled ≡ false = uncancelled_kind (event_at c e) (h.waiting.cancelled e.0 _ (made_below c e well.1)) (kinds_apart (kind_at c e) well.3) in
+      let not_cancelled : (event_at c e).cancelled ≡ false =
+      uncancelled_kind (event_at c e) (h.waiting.cancelled e.0 _ (made_below c e well.1)) (kinds_apart (kind_at c e) well.3) in
       record {
         is_open = pending_open c e h.registrations.outcomes well.1 well.2 not_cancelled;
         apart = λ i v j is.
             let y : OpenScope = get_or s.scopes i v in
             let outer = and_parts _ _ (h.waiting.scopes i v j) in
             let of = four_parts (is_alive y.process s) (was_made c y.request) (is_request_kind (kind_at c y.request)) _ outer.0 in
-            request_no_process (kind_at c y.request) of.2 (subst (λ (f : EventId). is_process_kind (kind_at c f) ≡ true) (sym (same_event y.request e is)) well.3);
+            request_no_process (kind_at c y.request) of.2
+            (subst (λ (f : EventId). is_process_kind (kind_at c f) ≡ true) (sym (same_event y.request e is)) well.3);
         few = (h.waiting.bodies k d below).1;
       }
 
@@ -165,7 +172,8 @@ found_any {X} p test (y ∷ ys) x h k = at (p y) h (found_any p test ys x)
     or_later true b q = refl
     or_later false b q = q
 
-    at : (b : Bool) → cond b (Some y) (find p ys) ≡ Some x → (find p ys ≡ Some x → test x ≡ true → list_any test ys ≡ true) → (test y || list_any test ys) ≡ true
+    at : (b : Bool) → cond b (Some y) (find p ys) ≡ Some x → (find p ys ≡ Some x → test x ≡ true → list_any test ys ≡ true) →
+        (test y || list_any test ys) ≡ true
     at true q later = rw (ap test (same_Some y x q) ∙ k) refl
     at false q later = or_later (test y) (list_any test ys) (later q k)
 
@@ -209,16 +217,26 @@ module _ {B Code : Type 0} (body : BodyOf B Code) (old mid : PartsOf B Code) (p 
   pub can_be_dropped : (q : ProcId) (r : RecordOf B) → record_of q mid.live ≡ Some r → CanBeDropped body r mid
   unfolding polled_can
   can_be_dropped q r found =
-      let here : process_at q t ≡ Some (process_of r) = process_found mid t q mid_stands.distinct mid_stands.stands ∙ ap (option_map process_of) found in
+      let here : process_at q t ≡ Some (process_of r) =
+      process_found mid t q mid_stands.distinct mid_stands.stands ∙ ap (option_map process_of) found in
       let ends : EndsWell s r.id = find_has (λ x. EndsWell s x.id) (λ x. is_process x.id q) t.processes (process_of r) here ends_well in
-      let scopes : r.scopes ≡ scopes_of r.id t = find_has (λ x. x.scopes ≡ scopes_of x.id t) (λ x. x.id.0 == q.0) mid.live r found mid_stands.stands.scopes in
+      let scopes : r.scopes ≡ scopes_of r.id t =
+      find_has (λ x. x.scopes ≡ scopes_of x.id t) (λ x. x.id.0 == q.0) mid.live r found mid_stands.stands.scopes in
       let alone : EventId → ℕ = held_alone mid.setup.events (body.tell mid.code) t in
       let names : list_any (is_in_body (body.tell mid.code) r.target) t.processes ≡ true =
-      found_any (λ x. is_process x.id q) (is_in_body (body.tell mid.code) r.target) t.processes (process_of r) here (rw (is_same-self r.target) refl) in
+      found_any (λ x. is_process x.id q) (is_in_body (body.tell mid.code) r.target) t.processes
+      (process_of r) here (rw (is_same-self r.target) refl) in
       let own : List OpenScope = filter (λ x. is_process x.process r.id) s.scopes in
       record {
-        target = held_kept alone r.target (lost ++ []) mid.shared.happen.events polled_can.balances.holders (omega (arith, held_in_body mid.setup.events (body.tell mid.code) t r.target names));
-        few = omega (arith, ends.few, ap (λ xs. length xs) scopes, length-map own (λ (x : OpenScope). x.request), length-map own (λ (x : OpenScope). let y : Scope = record { request = x.request; res = x.res } in y));
+        target = held_kept alone r.target (lost ++ []) mid.shared.happen.events polled_can.balances.holders
+            (omega (arith, held_in_body mid.setup.events (body.tell mid.code) t r.target names));
+        few = omega (
+          arith,
+          ends.few,
+          ap (λ xs. length xs) scopes,
+          length-map own (λ (x : OpenScope). x.request),
+          length-map own (λ (x : OpenScope). let y : Scope = record { request = x.request; res = x.res } in y),
+        );
         can = polled_can;
         is_open = ends.is_open;
         apart = ends.apart;

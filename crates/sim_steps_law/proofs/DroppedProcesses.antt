@@ -59,12 +59,19 @@ module _ {B Code : Type 0} (q : ProcId) (r : RecordOf B) (a : PartsOf B Code) (h
   stopped = record unwaited { control = strip_resume q a.control }
 
   as_many : length a.shared.happen.events ≤ length h.events
-  as_many = omega (arith, ap (λ (hs : List (Option ℕ)). length hs) stops.held, length-map a.shared.happen.events holders_at, length-map h.events holders_at)
+  as_many = omega (
+    arith,
+    ap (λ (hs : List (Option ℕ)). length hs) stops.held,
+    length-map a.shared.happen.events holders_at,
+    length-map h.events holders_at,
+  )
 
   unwaited_stands : (s : State B) → Stands a s → Stands unwaited (stop_waiting q s)
   unwaited_stands s k =
       let c : Calendar = unregister (target_of q (process_at q s)) (is_resume_of q) (calendar s) in
-      let shows : Shows h c = subst (λ e. Shows h (unregister e (is_resume_of q) (calendar s))) (sym (target_is a q r s found k)) (stops.each (calendar s) k.stands.facilities.calendar) in
+      let shows : Shows h c =
+      subst (λ e. Shows h (unregister e (is_resume_of q) (calendar s)))
+      (sym (target_is a q r s found k)) (stops.each (calendar s) k.stands.facilities.calendar) in
       record {
         stands = record {
           facilities = shown_with a.shared h s.facilities c as_many shows k.stands.facilities;
@@ -82,8 +89,10 @@ module _ {B Code : Type 0} (q : ProcId) (r : RecordOf B) (a : PartsOf B Code) (h
 
   becomes_unwaited : (body : BodyOf B Code) → Becomes body (stop_waiting q) a unwaited
   becomes_unwaited body =
-      owing_by [] [] 0 (stop_waiting q) a unwaited unwaited_stands (record { code = refl; setup = refl; seed = refl }) (few_same a unwaited stops.held)
-      (λ s k. stay_plainly as_before a unwaited s (stop_waiting q s) keeps_all stops.held (plainly_unregistered (target_of q (process_at q s)) (is_resume_of q) (calendar s) (λ y. refl)))
+      owing_by [] [] 0 (stop_waiting q) a unwaited unwaited_stands
+      (record { code = refl; setup = refl; seed = refl }) (few_same a unwaited stops.held)
+      (λ s k. stay_plainly as_before a unwaited s (stop_waiting q s) keeps_all stops.held
+      (plainly_unregistered (target_of q (process_at q s)) (is_resume_of q) (calendar s) (λ y. refl)))
       (λ s k. unresumed_trade a.setup.events (body.tell a.code) q s)
 
   pub becomes_stopped : (body : BodyOf B Code) → Becomes body (stopped_state q) a stopped
@@ -105,13 +114,16 @@ module _ {B Code : Type 0} (q : ProcId) (r : RecordOf B) (a : PartsOf B Code) (h
         balances = (becomes_stopped body).accounts can.owed s can.stands can.balances;
         waiting = All-weaker (λ w. IsOpenIn f.calendar w.event) (λ w. IsOpenIn t.facilities.calendar w.event)
             (λ w is_open. record { made = is_open.made; pending = is_open.pending; not_closed = is_open.not_closed }) f.waiters can.waiting;
-        each = All-weaker (CanBeLeft a.setup.resources f) (CanBeLeft a.setup.resources t.facilities) (λ x can. record { there = can.there; slots = can.slots; alone = can.alone }) s.scopes can.each;
+        each = All-weaker (CanBeLeft a.setup.resources f) (CanBeLeft a.setup.resources t.facilities)
+            (λ x can. record { there = can.there; slots = can.slots; alone = can.alone }) s.scopes can.each;
       }
 
 -- ---- its scopes were left
 
-module _ {B Code : Type 0} {body : BodyOf B Code} (q : ProcId) (r : RecordOf B) (a : PartsOf B Code) (h : HappenOf) (found : record_of q a.live ≡ Some r)
-    (stops : StopsWaiting r.target q a.shared.happen h) (can : CanBeDropped body r a) (b : PartsOf B Code) (leaves : LeavesAll body q (stopped q r a h found stops) b) where
+module _ {B Code : Type 0} {body : BodyOf B Code} (q : ProcId) (r : RecordOf B)
+    (a : PartsOf B Code) (h : HappenOf) (found : record_of q a.live ≡ Some r)
+    (stops : StopsWaiting r.target q a.shared.happen h) (can : CanBeDropped body r a)
+    (b : PartsOf B Code) (leaves : LeavesAll body q (stopped q r a h found stops) b) where
   -- its record has none
   pub scopeless_record : record_of q b.live ≡ Some (without_scopes r)
   scopeless_record = leaves.found ∙ ap (λ (o : Option (RecordOf B)). option_map without_scopes o) found
@@ -123,10 +135,13 @@ module _ {B Code : Type 0} {body : BodyOf B Code} (q : ProcId) (r : RecordOf B) 
       let t : State B = stopped_state q s in
       let before : Stands (stopped q r a h found stops) t = (becomes_stopped q r a h found stops body).each s can.can.stands in
       let after : Stands b (leave_all q t) = leaves.becomes.each t before in
-      let balances = leaves.becomes.accounts can.can.owed t before ((becomes_stopped q r a h found stops body).accounts can.can.owed s can.can.stands can.can.balances) in
-      let is_open : IsOpenIn (calendar t) (event_of r.id) = record { made = can.is_open.made; pending = can.is_open.pending; not_closed = can.is_open.not_closed } in
+      let balances = leaves.becomes.accounts can.can.owed t before
+      ((becomes_stopped q r a h found stops body).accounts can.can.owed s can.can.stands can.can.balances) in
+      let is_open : IsOpenIn (calendar t) (event_of r.id) =
+      record { made = can.is_open.made; pending = can.is_open.pending; not_closed = can.is_open.not_closed } in
       subst (λ (p : ProcId). IsOpen b.shared.happen (event_of p)) id
-      (open_in b.shared.happen (calendar (leave_all q t)) (event_of r.id) after.stands.facilities.calendar balances.gone (open_after q t (event_of r.id) can.apart is_open))
+      (open_in b.shared.happen (calendar (leave_all q t)) (event_of r.id) after.stands.facilities.calendar balances.gone
+      (open_after q t (event_of r.id) can.apart is_open))
 
 -- the accounts balance, where a holder of each of some events is still to be given back
 pub leaves_owing : {B Code : Type 0} {body : BodyOf B Code} (a : PartsOf B Code) → CanLeave body a → IsOwing body [] a
@@ -134,8 +149,10 @@ leaves_owing a can = record { state = can.state; stands = can.stands; others = c
 
 -- ---- it is dropped, and the running process goes on
 
-pub other_dropped : {B Code : Type 0} {body : BodyOf B Code} (q : ProcId) (value : ℤ) (r : RecordOf B) (a b c n : PartsOf B Code) (h : HappenOf) (found : record_of q a.live ≡ Some r)
-    (stops : StopsWaiting r.target q a.shared.happen h) → LeavesAll body q (stopped q r a h found stops) b → Becomes body (end_process q (outcome.Ok value)) b c →
+pub other_dropped : {B Code : Type 0} {body : BodyOf B Code} (q : ProcId) (value : ℤ)
+    (r : RecordOf B) (a b c n : PartsOf B Code) (h : HappenOf) (found : record_of q a.live ≡ Some r)
+    (stops : StopsWaiting r.target q a.shared.happen h) → LeavesAll body q (stopped q r a h found stops) b →
+    Becomes body (end_process q (outcome.Ok value)) b c →
     n ≡ record c { control = told_more signal.Done c.control } → Becomes body (λ s. tell signal.Done (drop_process q value s)) a n
 other_dropped {B} {Code} {body} q value r a b c n h found stops leaves ends is =
     let ending : State B → State B = end_process q (outcome.Ok value) in
@@ -146,7 +163,8 @@ other_dropped {B} {Code} {body} q value r a b c n h found stops leaves ends is =
     (becomes_told signal.Done c))
 
 -- another process that is alive
-pub another_done : {B Code : Type 0} {body : BodyOf B Code} (p q : ProcId) (does : State B → State B) (a n : PartsOf B Code) → is_some (record_of q a.live) ≡ true →
+pub another_done : {B Code : Type 0} {body : BodyOf B Code} (p q : ProcId) (does : State B → State B) (a n : PartsOf B Code) →
+    is_some (record_of q a.live) ≡ true →
     is_process q p ≡ false → Becomes body (λ s. tell signal.Done (does s)) a n → Becomes body (to_another p q does) a n
 another_done p q does a n lives other done =
     becomes_as (λ s. tell signal.Done (does s)) (to_another p q does) a n (λ s h. rw (alive_is a q s h, lives, other) refl) done
@@ -178,7 +196,8 @@ pub record EndsThen {B Code : Type 0} (body : BodyOf B Code) (q : ProcId) (c : P
 
 module _ {B Code : Type 0} (body : BodyOf B Code) (q : ProcId) (target : EventId) (a : PartsOf B Code) (h : HappenOf) (b : PartsOf B Code)
     (can : IsSomeAnd (record_of q a.live) (λ r. CanBeDropped body r a)) (stops : StopsWaiting target q a.shared.happen h)
-    (waits : Some target ≡ option_map (λ r. r.target) (record_of q a.live)) (is : b ≡ record (with_happen h a) { control = strip_resume q a.control }) where
+    (waits : Some target ≡ option_map (λ r. r.target) (record_of q a.live))
+    (is : b ≡ record (with_happen h a) { control = strip_resume q a.control }) where
   abbrev known_record : IsKnown (record_of q a.live) (λ r. CanBeDropped body r a)
   known_record = known (record_of q a.live) (λ r. CanBeDropped body r a) can
 
@@ -186,7 +205,8 @@ module _ {B Code : Type 0} (body : BodyOf B Code) (q : ProcId) (target : EventId
   r = known_record.value
 
   its_target : StopsWaiting r.target q a.shared.happen h
-  its_target = subst (λ e. StopsWaiting e q a.shared.happen h) (same_Some target r.target (waits ∙ ap (λ (o : Option (RecordOf B)). option_map (λ r. r.target) o) known_record.found)) stops
+  its_target = subst (λ e. StopsWaiting e q a.shared.happen h)
+      (same_Some target r.target (waits ∙ ap (λ (o : Option (RecordOf B)). option_map (λ r. r.target) o) known_record.found)) stops
 
   abbrev now : PartsOf B Code
   now = stopped q r a h known_record.found its_target
@@ -194,7 +214,12 @@ module _ {B Code : Type 0} (body : BodyOf B Code) (q : ProcId) (target : EventId
   pub leaves_well : HasUnitRoom a → length a.shared.happen.events + most_scopes < 2 ^ 62 → LeavesWell body q b
   leaves_well room number =
       let as_many : length h.events ≡ length a.shared.happen.events =
-      omega (arith, ap (λ (hs : List (Option ℕ)). length hs) stops.held, length-map a.shared.happen.events holders_at, length-map h.events holders_at) in
+      omega (
+        arith,
+        ap (λ (hs : List (Option ℕ)). length hs) stops.held,
+        length-map a.shared.happen.events holders_at,
+        length-map h.events holders_at,
+      ) in
       subst (LeavesWell body q) (sym is)
       (record {
         scopes = rw known_record.found known_record.has.few;
@@ -210,10 +235,12 @@ module _ {B Code : Type 0} (body : BodyOf B Code) (q : ProcId) (target : EventId
 
     pub ends_then : EndsThen body q c
     ends_then =
-        let record_now : record_of q c.live ≡ Some (without_scopes r) = scopeless_record q r a h known_record.found its_target known_record.has c leaves_now in
+        let record_now : record_of q c.live ≡ Some (without_scopes r) =
+        scopeless_record q r a h known_record.found its_target known_record.has c leaves_now in
         record {
           alive = rw record_now refl;
-          is_open = still_open_event q r a h known_record.found its_target known_record.has c leaves_now (same_id r.id q (found_id q a.live r known_record.found));
+          is_open = still_open_event q r a h known_record.found its_target known_record.has c leaves_now
+              (same_id r.id q (found_id q a.live r known_record.found));
           owing = leaves_owing c leaves.can;
         }
 
@@ -221,7 +248,8 @@ module _ {B Code : Type 0} (body : BodyOf B Code) (q : ProcId) (target : EventId
     pub places_then : (stands : B → List EventId) → IfSome (record_of q a.live) (λ r. StandInPlaces (body.tell a.code) (stands r.body) r.body) →
         IfSome (record_of q c.live) (λ r. StandInPlaces (body.tell c.code) (stands r.body) r.body)
     places_then stands places =
-        let record_now : record_of q c.live ≡ Some (without_scopes r) = scopeless_record q r a h known_record.found its_target known_record.has c leaves_now in
+        let record_now : record_of q c.live ≡ Some (without_scopes r) =
+        scopeless_record q r a h known_record.found its_target known_record.has c leaves_now in
         let at_record : StandInPlaces (body.tell a.code) (stands r.body) r.body =
         subst (λ (o : Option (RecordOf B)). IfSome o (λ r. StandInPlaces (body.tell a.code) (stands r.body) r.body)) known_record.found places in
         rw record_now (subst (λ (k : Code). StandInPlaces (body.tell k) (stands r.body) r.body) (sym leaves_now.becomes.opened.code) at_record)
@@ -238,7 +266,8 @@ StopsIn q h a b = b ≡ record (with_happen h a) { control = strip_resume q a.co
 abbrev WaitsFor : {B Code : Type 0} → ProcId → EventId → PartsOf B Code → Type 0
 WaitsFor q target a = Some target ≡ option_map (λ r. r.target) (record_of q a.live)
 
-pub scopes_few : {B Code : Type 0} (body : BodyOf B Code) (q : ProcId) (a : PartsOf B Code) → IsSomeAnd (record_of q a.live) (λ r. CanBeDropped body r a) →
+pub scopes_few : {B Code : Type 0} (body : BodyOf B Code) (q : ProcId) (a : PartsOf B Code) →
+    IsSomeAnd (record_of q a.live) (λ r. CanBeDropped body r a) →
     IsSomeAnd (record_of q a.live) (λ r. length r.scopes ≤ most_scopes)
 scopes_few body q a can = let k = known (record_of q a.live) (λ r. CanBeDropped body r a) can in rw k.found k.has.few
 
@@ -247,19 +276,26 @@ pub stops_well : {B Code : Type 0} (body : BodyOf B Code) (q : ProcId) (target :
     HasUnitRoom a → length a.shared.happen.events + most_scopes < 2 ^ 62 → CanLeave body b
 stops_well body q target a h {b} can stops waits is room number = (leaves_well body q target a h b can stops waits is room number).can
 
-pub ends_well_then : {B Code : Type 0} (body : BodyOf B Code) (q : ProcId) (target : EventId) (a : PartsOf B Code) (h : HappenOf) {b : PartsOf B Code} (c : PartsOf B Code) →
-    LeavesAll body q b c → IsSomeAnd (record_of q a.live) (λ r. CanBeDropped body r a) → StopsWaiting target q a.shared.happen h → WaitsFor q target a →
+pub ends_well_then : {B Code : Type 0} (body : BodyOf B Code) (q : ProcId) (target : EventId)
+    (a : PartsOf B Code) (h : HappenOf) {b : PartsOf B Code} (c : PartsOf B Code) →
+    LeavesAll body q b c → IsSomeAnd (record_of q a.live) (λ r. CanBeDropped body r a) → StopsWaiting target q a.shared.happen h →
+    WaitsFor q target a →
     StopsIn q h a b → EndsThen body q c
 ends_well_then body q target a h {b} c leaves can stops waits is = ends_then body q target a h b can stops waits is c leaves
 
-pub stand_then : {B Code : Type 0} (body : BodyOf B Code) (q : ProcId) (target : EventId) (a : PartsOf B Code) (h : HappenOf) {b : PartsOf B Code} (c : PartsOf B Code) →
-    LeavesAll body q b c → IsSomeAnd (record_of q a.live) (λ r. CanBeDropped body r a) → StopsWaiting target q a.shared.happen h → WaitsFor q target a →
+pub stand_then : {B Code : Type 0} (body : BodyOf B Code) (q : ProcId) (target : EventId)
+    (a : PartsOf B Code) (h : HappenOf) {b : PartsOf B Code} (c : PartsOf B Code) →
+    LeavesAll body q b c → IsSomeAnd (record_of q a.live) (λ r. CanBeDropped body r a) → StopsWaiting target q a.shared.happen h →
+    WaitsFor q target a →
     StopsIn q h a b → (stands : B → List EventId) → IfSome (record_of q a.live) (λ r. StandInPlaces (body.tell a.code) (stands r.body) r.body) →
     IfSome (record_of q c.live) (λ r. StandInPlaces (body.tell c.code) (stands r.body) r.body)
 stand_then body q target a h {b} c leaves can stops waits is stands places = places_then body q target a h b can stops waits is c leaves stands places
 
-pub drops_then : {B Code : Type 0} (body : BodyOf B Code) (q : ProcId) (target : EventId) (a : PartsOf B Code) (h : HappenOf) {b : PartsOf B Code} (c : PartsOf B Code) →
-    LeavesAll body q b c → IsSomeAnd (record_of q a.live) (λ r. CanBeDropped body r a) → StopsWaiting target q a.shared.happen h → WaitsFor q target a →
+pub drops_then : {B Code : Type 0} (body : BodyOf B Code) (q : ProcId) (target : EventId)
+    (a : PartsOf B Code) (h : HappenOf) {b : PartsOf B Code} (c : PartsOf B Code) →
+    LeavesAll body q b c → IsSomeAnd (record_of q a.live) (λ r. CanBeDropped body r a) → StopsWaiting target q a.shared.happen h →
+    WaitsFor q target a →
     StopsIn q h a b → (value : ℤ) (d n : PartsOf B Code) → Becomes body (end_process q (outcome.Ok value)) c d →
     n ≡ record d { control = told_more signal.Done d.control } → Becomes body (λ s. tell signal.Done (drop_process q value s)) a n
-drops_then body q target a h {b} c leaves can stops waits is value d n ends told = drops_other body q target a h b can stops waits is c leaves value d n ends told
+drops_then body q target a h {b} c leaves can stops waits is value d n ends told =
+    drops_other body q target a h b can stops waits is c leaves value d n ends told

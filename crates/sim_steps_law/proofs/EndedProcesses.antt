@@ -66,15 +66,18 @@ differ s h = λ i j d before below. λ same. h i j d before below (same_id _ _ s
 still_owned : {B : Type 0} (s : State B) (p : ProcId) → All (λ x. is_alive x.process s ≡ true) s.scopes → scopes_of p s ≡ [] →
     All (λ x. list_any (λ z. is_process z.id x.process) (filter (λ z. not (is_process z.id p)) s.processes) ≡ true) s.scopes
 still_owned s p owned none =
-    let others : All (λ x. is_process x.process p ≡ false) s.scopes = none_passes (λ x. is_process x.process p) (λ x. let y : Scope = record { request = x.request; res = x.res } in y) s.scopes none in
+    let others : All (λ x. is_process x.process p ≡ false) s.scopes =
+    none_passes (λ x. is_process x.process p) (λ x. let y : Scope = record { request = x.request; res = x.res } in y) s.scopes none in
     λ k d below. alive_without p (get_or s.scopes k d).process s (others k d below) (owned k d below)
 
-module _ {B Code : Type 0} (body : BodyOf B Code) (a : PartsOf B Code) (p : ProcId) (o : Outcome) (r : RecordOf B) (found : record_of p a.live ≡ Some r) where
+module _ {B Code : Type 0} (body : BodyOf B Code) (a : PartsOf B Code) (p : ProcId)
+    (o : Outcome) (r : RecordOf B) (found : record_of p a.live ≡ Some r) where
   -- what it holds is to be given back
   abbrev pub its_events : List EventId
   its_events = but_zero (named_by_process (body.tell a.code) (process_of r))
 
-  module _ (n : PartsOf B Code) (x : HappenOf) (live : List (RecordOf B)) (spare : ℕ) (none : r.scopes ≡ []) (others : IsPermutation a.live (r ∷ live))
+  module _ (n : PartsOf B Code) (x : HappenOf) (live : List (RecordOf B))
+      (spare : ℕ) (none : r.scopes ≡ []) (others : IsPermutation a.live (r ∷ live))
       (follows : Follows (trigger (event_of p) o) a.shared.happen x) (is : n ≡ record (with_happen x a) { live = live; spare = spare }) where
     abbrev without_it : PartsOf B Code
     without_it = record (with_happen x a) { live = live; spare = spare }
@@ -85,7 +88,8 @@ module _ {B Code : Type 0} (body : BodyOf B Code) (a : PartsOf B Code) (p : Proc
         let all : IsPermutation s.processes (process_of r ∷ map process_of live) =
         IsPermutation-trans _ _ _ h.stands.processes (IsPermutation-map process_of a.live (r ∷ live) others) in
         let P : ℕ → Type 0 = λ m. IsPermutation (filter (λ y. not (y.id.0 == m)) s.processes) (map process_of live) in
-        let fewer : P p.0 = subst P id (IsPermutation-without (λ y. y.id.0) (process_of r) s.processes (map process_of live) (differ s h.distinct) all) in
+        let fewer : P p.0 =
+        subst P id (IsPermutation-without (λ y. y.id.0) (process_of r) s.processes (map process_of live) (differ s h.distinct) all) in
         let more = no_fewer 0 as_before a.shared.happen x adds_none follows.held in
         let shown = follows.each s.facilities.calendar h.stands.facilities.calendar in
         record {
@@ -94,13 +98,15 @@ module _ {B Code : Type 0} (body : BodyOf B Code) (a : PartsOf B Code) (p : Proc
             processed = h.stands.processed;
             generator = h.stands.generator;
             processes = fewer;
-            scopes = All-tail (λ y. y.scopes ≡ scopes_of y.id s) r live (All-permutation (λ y. y.scopes ≡ scopes_of y.id s) a.live (r ∷ live) others h.stands.scopes);
+            scopes = All-tail (λ y. y.scopes ≡ scopes_of y.id s) r live
+                (All-permutation (λ y. y.scopes ≡ scopes_of y.id s) a.live (r ∷ live) others h.stands.scopes);
             control = h.stands.control;
           };
           distinct = AllPairs-filter (λ y z. y.id ≢ z.id) (λ y. not (is_process y.id p)) s.processes h.distinct;
           owned = still_owned s p h.owned (scopes_found p a.live r s found h.stands.scopes ∙ none);
           apart = h.apart;
-          entered = entered_still s.facilities.calendar (trigger (event_of p) o s.facilities.calendar) s.scopes (omega (arith, more, h.stands.facilities.calendar.made, shown.made)) h.entered;
+          entered = entered_still s.facilities.calendar (trigger (event_of p) o s.facilities.calendar) s.scopes
+              (omega (arith, more, h.stands.facilities.calendar.made, shown.made)) h.entered;
         }
 
     pub ended_owing : BecomesOwing body [] its_events 0 (end_process p o) a n
@@ -108,11 +114,13 @@ module _ {B Code : Type 0} (body : BodyOf B Code) (a : PartsOf B Code) (p : Proc
         subst (BecomesOwing body [] its_events 0 (end_process p o) a) (sym is)
         (owing_by [] its_events 0 (end_process p o) a without_it ended_stands (record { code = refl; setup = refl; seed = refl })
         (few_same a without_it follows.held)
-        (λ s h. stay_plainly as_before a without_it s (end_process p o s) keeps_all follows.held (plainly_scheduled (event_of p) o normal (pos 0) s.facilities.calendar))
+        (λ s h. stay_plainly as_before a without_it s (end_process p o s) keeps_all follows.held
+        (plainly_scheduled (event_of p) o normal (pos 0) s.facilities.calendar))
         (λ s h. over_trade a.setup.events (body.tell a.code) s p (process_of r) o (only_process a p r s found h)))
 
   -- it is given back: first what it waited for, then what stands in its places
-  module _ (n : PartsOf B Code) (es : List EventId) (ended : BecomesOwing body [] its_events 0 (end_process p o) a n) (stand : StandInPlaces (body.tell a.code) es r.body)
+  module _ (n : PartsOf B Code) (es : List EventId) (ended : BecomesOwing body [] its_events 0 (end_process p o) a n)
+      (stand : StandInPlaces (body.tell a.code) es r.body)
       (owing : IsOwing body [] a) where
     abbrev target : List EventId
     target = but_zero (r.target ∷ [])
@@ -187,28 +195,36 @@ module _ {B Code : Type 0} (body : BodyOf B Code) (old mid : PartsOf B Code) (p 
       let tell = body.tell old.code in
       let r = record_polled body old mid p told asked a in
       let is = running_is old.control event p told running in
-      let found : process_at p s ≡ Some (process_of r.0) = process_found old s p h.lawful.processes.distinct h.stands ∙ ap (λ o. option_map process_of o) r.1 in
+      let found : process_at p s ≡ Some (process_of r.0) =
+      process_found old s p h.lawful.processes.distinct h.stands ∙ ap (λ o. option_map process_of o) r.1 in
       let can = running_can_be_told body old event p told a.before h running a.found few in
-      let poll : IsLawfulPoll (body.facts old.code) tell a.before told asked a.later = law.polls a.before old.shared.happen.time told asked a.later can.sound can.told a.turned in
-      let none : scopes_told (tell.scopes a.before) (tell.last a.before) told ≡ [] = length_zero _ (ends (tell.own a.later) (tell.places a.later) _ poll.asks) in
+      let poll : IsLawfulPoll (body.facts old.code) tell a.before told asked a.later =
+      law.polls a.before old.shared.happen.time told asked a.later can.sound can.told a.turned in
+      let none : scopes_told (tell.scopes a.before) (tell.last a.before) told ≡ [] =
+      length_zero _ (ends (tell.own a.later) (tell.places a.later) _ poll.asks) in
       let waiting = (basis_of (plan_of body old) tell (body.sound old.code) s h.lawful).waiting in
-      let own = (own_scopes (plan_of body old) tell s event is.0 p told (process_of r.0) (sym h.stands.control ∙ is.1) found waiting p (is_process-self p)).0 in
+      let own = (own_scopes (plan_of body old) tell s event is.0 p told (process_of r.0)
+      (sym h.stands.control ∙ is.1) found waiting p (is_process-self p)).0 in
       let requests : requests_of p s ≡ [] = own ∙ rw r.2 none in
-      let told_scopes : r.0.scopes ≡ scopes_of r.0.id s = find_has (λ x. x.scopes ≡ scopes_of x.id s) (λ x. x.id.0 == p.0) old.live r.0 r.1 h.stands.scopes in
+      let told_scopes : r.0.scopes ≡ scopes_of r.0.id s =
+      find_has (λ x. x.scopes ≡ scopes_of x.id s) (λ x. x.id.0 == p.0) old.live r.0 r.1 h.stands.scopes in
       let same : r.0.id ≡ p = is_process-yes r.0.id p (find_passes (λ x. x.id.0 == p.0) old.live r.0 r.1) in
       let scopes : scopes_of p s ≡ [] = map_empty _ (λ x. x.request) (filter (λ x. is_process x.process p) s.scopes) requests in
       rw r.3 (told_scopes ∙ (ap (λ q. scopes_of q s) same ∙ scopes))
 
   -- its event is kept, pending and not cancelled
-  pub polled_open : StandsForSome body old → AreNeeded old.shared.happen.events → Asks body p told old asked mid → IsOpen mid.shared.happen (event_of p)
+  pub polled_open : StandsForSome body old → AreNeeded old.shared.happen.events → Asks body p told old asked mid →
+      IsOpen mid.shared.happen (event_of p)
   polled_open h needed a =
       let s = h.state in
       let c : Calendar = s.facilities.calendar in
       let e : EventId = event_of p in
       let tell = body.tell old.code in
       let r = record_polled body old mid p told asked a in
-      let found : process_at p s ≡ Some (process_of r.0) = process_found old s p h.lawful.processes.distinct h.stands ∙ ap (λ o. option_map process_of o) r.1 in
-      let own = found_pending (plan_of body old) tell (body.sound old.code) s p (process_of r.0) found (basis_of (plan_of body old) tell (body.sound old.code) s h.lawful) in
+      let found : process_at p s ≡ Some (process_of r.0) =
+      process_found old s p h.lawful.processes.distinct h.stands ∙ ap (λ o. option_map process_of o) r.1 in
+      let own = found_pending (plan_of body old) tell (body.sound old.code) s p (process_of r.0) found
+      (basis_of (plan_of body old) tell (body.sound old.code) s h.lawful) in
       let kept = alive_kept body old h needed p r.0 r.1 in
       let same = read_is old.shared.happen c e kept h.stands.facilities.calendar in
       let well : is_cancelled_well (event_at c e) ≡ true = h.lawful.waiting.cancelled e.0 _ own.0 in

@@ -31,21 +31,26 @@ scopes_found p live r s found all =
 
 -- ---- what the ending of a process needs
 
-record_at : {B : Type 0} (p : ProcId) (change : RecordOf B → RecordOf B) (r : RecordOf B) (o q : Option (RecordOf B)) (b : Bool) → (r.id.0 == p.0) ≡ b →
+record_at : {B : Type 0} (p : ProcId) (change : RecordOf B → RecordOf B) (r : RecordOf B) (o q : Option (RecordOf B)) (b : Bool) →
+    (r.id.0 == p.0) ≡ b →
     (change r).id ≡ r.id → o ≡ option_map change q →
     cond ((if b then change r else r).id.0 == p.0) (Some (if b then change r else r)) o ≡ option_map change (cond b (Some r) q)
 record_at p change r o q true is id h = rw (id, is) refl
 record_at p change r o q false is id h = rw is h
 
-pub record_changed : {B : Type 0} (p : ProcId) (change : RecordOf B → RecordOf B) → ((r : RecordOf B) → (change r).id ≡ r.id) → (live : List (RecordOf B)) →
+pub record_changed : {B : Type 0} (p : ProcId) (change : RecordOf B → RecordOf B) → ((r : RecordOf B) → (change r).id ≡ r.id) →
+    (live : List (RecordOf B)) →
     record_of p (change_record p change live) ≡ option_map change (record_of p live)
 record_changed p change ids [] = refl
 record_changed p change ids (r ∷ live) =
-    record_at p change r (record_of p (change_record p change live)) (record_of p live) (r.id.0 == p.0) refl (ids r) (record_changed p change ids live)
+    record_at p change r (record_of p (change_record p change live)) (record_of p live)
+    (r.id.0 == p.0) refl (ids r) (record_changed p change ids live)
 
 -- as many scopes find room in a record as before, once its body is another one
-pub room_stays : {B : Type 0} (p : ProcId) (most : ℕ) (b later : B) (live : List (RecordOf B)) → option_map (λ r. r.body) (record_of p live) ≡ Some b →
-    IfSome (record_of p live) (λ r. r.room ≡ most) → IsSomeAnd (record_of p (change_record p (λ r. record r { body = later }) live)) (λ r. r.room ≡ most)
+pub room_stays : {B : Type 0} (p : ProcId) (most : ℕ) (b later : B) (live : List (RecordOf B)) →
+    option_map (λ r. r.body) (record_of p live) ≡ Some b →
+    IfSome (record_of p live) (λ r. r.room ≡ most) →
+    IsSomeAnd (record_of p (change_record p (λ r. record r { body = later }) live)) (λ r. r.room ≡ most)
 room_stays {B} p most b later live found room =
     let change : RecordOf B → RecordOf B = λ x. record x { body = later } in
     let r = found_record (record_of p live) b found in

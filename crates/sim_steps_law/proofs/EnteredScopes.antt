@@ -89,7 +89,8 @@ module _ {B : Type 0} (p : ProcId) (e : EventId) (res : ℕ) (s : State B) where
   all_opened [] h = All-nil (λ r. r.scopes ≡ scopes_of r.id opened)
   all_opened (r ∷ live) h =
       All-cons (λ y. y.scopes ≡ scopes_of y.id opened) (if r.id.0 == p.0 then pushed r else r) (change_record p pushed live)
-      (one_opened r (r.id.0 == p.0) refl (All-head (λ y. y.scopes ≡ scopes_of y.id s) r live h)) (all_opened live (All-tail (λ y. y.scopes ≡ scopes_of y.id s) r live h))
+      (one_opened r (r.id.0 == p.0) refl (All-head (λ y. y.scopes ≡ scopes_of y.id s) r live h))
+      (all_opened live (All-tail (λ y. y.scopes ≡ scopes_of y.id s) r live h))
 
   -- a request that stands in no scope
   pub opened_stands : {Code : Type 0} (a : PartsOf B Code) → Stands a s → IsSome (record_of p a.live) → All (λ x. x.request ≢ e) s.scopes →
@@ -107,9 +108,12 @@ module _ {B : Type 0} (p : ProcId) (e : EventId) (res : ℕ) (s : State B) where
           control = h.stands.control;
         };
         distinct = h.distinct;
-        owned = All-append (λ x. is_alive x.process s ≡ true) s.scopes (z ∷ []) h.owned (All-cons (λ (x : OpenScope). is_alive x.process s ≡ true) z [] alive (All-nil (λ (x : OpenScope). is_alive x.process s ≡ true)));
+        owned = All-append (λ x. is_alive x.process s ≡ true) s.scopes (z ∷ []) h.owned
+            (All-cons (λ (x : OpenScope). is_alive x.process s ≡ true) z [] alive (All-nil (λ (x : OpenScope). is_alive x.process s ≡ true)));
         apart = all_pairs_push AreOfTwo s.scopes z h.apart other;
-        entered = All-append (λ x. was_made (calendar s) x.request ≡ true) s.scopes (z ∷ []) h.entered (All-cons (λ (x : OpenScope). was_made (calendar s) x.request ≡ true) z [] made (All-nil (λ (x : OpenScope). was_made (calendar s) x.request ≡ true)));
+        entered = All-append (λ x. was_made (calendar s) x.request ≡ true) s.scopes (z ∷ []) h.entered
+            (All-cons (λ (x : OpenScope). was_made (calendar s) x.request ≡ true) z
+            [] made (All-nil (λ (x : OpenScope). was_made (calendar s) x.request ≡ true)));
       }
 
 -- ---- the innermost scope is closed
@@ -129,7 +133,8 @@ own_left (y ∷ []) x k h =
 own_left (y ∷ v ∷ ys) x k h =
     let inner : first_of_list (reverse (v ∷ ys)) ≡ Some x = sym (innermost_later y v ys) ∙ h in
     let differ : y.request ≢ x.request = one_has (AreOfTwo y) (v ∷ ys) x (AllPairs-head AreOfTwo y (v ∷ ys) k) (innermost_one (v ∷ ys) x inner) in
-    ap (λ (b : Bool). map scope_in (if b then y ∷ filter (keeps x.request) (v ∷ ys) else filter (keeps x.request) (v ∷ ys))) (stays (is_same y.request x.request) (λ same. differ (is_same-yes y.request x.request same)))
+    ap (λ (b : Bool). map scope_in (if b then y ∷ filter (keeps x.request) (v ∷ ys) else filter (keeps x.request) (v ∷ ys)))
+    (stays (is_same y.request x.request) (λ same. differ (is_same-yes y.request x.request same)))
     ∙ ap (λ xs. scope_in y ∷ xs) (own_left (v ∷ ys) x (AllPairs-tail AreOfTwo y (v ∷ ys) k) inner)
   where
     stays : (b : Bool) → (b ≡ true → ⊥) → not b ≡ true
@@ -148,12 +153,14 @@ module _ {B : Type 0} (p : ProcId) (x : OpenScope) (s : State B) (apart : AllPai
   own = innermost_one (filter (λ y. is_process y.process p) s.scopes) x first
 
   its : is_process x.process p ≡ true
-  its = one_has (λ y. is_process y.process p ≡ true) (filter (λ y. is_process y.process p) s.scopes) x (filter_passes (λ y. is_process y.process p) s.scopes) own
+  its = one_has (λ y. is_process y.process p ≡ true) (filter (λ y. is_process y.process p) s.scopes) x
+      (filter_passes (λ y. is_process y.process p) s.scopes) own
 
   here : scopes_of p closed ≡ without_innermost (scopes_of p s)
   here =
       let test : OpenScope → Bool = λ y. is_process y.process p in
-      ap (map scope_in) (filter_swap test (keeps x.request) s.scopes) ∙ own_left (filter test s.scopes) x (AllPairs-filter AreOfTwo test s.scopes apart) first
+      ap (map scope_in) (filter_swap test (keeps x.request) s.scopes)
+      ∙ own_left (filter test s.scopes) x (AllPairs-filter AreOfTwo test s.scopes apart) first
 
   one_closed : (r : RecordOf B) (b : Bool) → (r.id.0 == p.0) ≡ b → r.scopes ≡ scopes_of r.id s →
       (if b then popped_record r else r).scopes ≡ scopes_of (if b then popped_record r else r).id closed
@@ -161,7 +168,8 @@ module _ {B : Type 0} (p : ProcId) (x : OpenScope) (s : State B) (apart : AllPai
       let same : r.id ≡ p = is_process-yes r.id p is in
       ap without_innermost (h ∙ ap (λ q. scopes_of q s) same) ∙ (sym here ∙ ap (λ q. scopes_of q closed) (sym same))
   one_closed r false is h =
-      let other : is_process x.process r.id ≡ false = fails (is_process x.process r.id) (λ k. eqb-false r.id.0 p.0 is (sym (eqb-true x.process.0 r.id.0 k) ∙ eqb-true x.process.0 p.0 its)) in
+      let other : is_process x.process r.id ≡ false =
+      fails (is_process x.process r.id) (λ k. eqb-false r.id.0 p.0 is (sym (eqb-true x.process.0 r.id.0 k) ∙ eqb-true x.process.0 p.0 its)) in
       h ∙ sym (ap (map scope_in) (scopes_elsewhere s.scopes x r.id apart (one_of_filter (λ y. is_process y.process p) s.scopes x own) other))
     where
       fails : (b : Bool) → (b ≡ true → ⊥) → b ≡ false
@@ -173,7 +181,8 @@ module _ {B : Type 0} (p : ProcId) (x : OpenScope) (s : State B) (apart : AllPai
   all_closed [] h = All-nil (λ r. r.scopes ≡ scopes_of r.id closed)
   all_closed (r ∷ live) h =
       All-cons (λ y. y.scopes ≡ scopes_of y.id closed) (if r.id.0 == p.0 then popped_record r else r) (change_record p popped_record live)
-      (one_closed r (r.id.0 == p.0) refl (All-head (λ y. y.scopes ≡ scopes_of y.id s) r live h)) (all_closed live (All-tail (λ y. y.scopes ≡ scopes_of y.id s) r live h))
+      (one_closed r (r.id.0 == p.0) refl (All-head (λ y. y.scopes ≡ scopes_of y.id s) r live h))
+      (all_closed live (All-tail (λ y. y.scopes ≡ scopes_of y.id s) r live h))
 
   pub closed_stands : {Code : Type 0} (a : PartsOf B Code) → Stands a s → Stands (record a { live = change_record p popped_record a.live }) closed
   closed_stands a h =

@@ -65,7 +65,8 @@ request_kept res p priority preempts a x e same made some =
     (subst IsSome (sym (ap (λ (gs : List (Option ℕ)). slice_index_or gs e.0 None) made.turns.held ∙ there) ∙ held_at x.happen e) refl)
 
 -- and it has few holders, as all others
-pub request_few : (change : Facilities → Facilities) (a x : SharedOf) → MakesAll 2 change a x → AreFew (2 ^ 41) (held a.happen) → AreHeldByFew x.happen.events
+pub request_few : (change : Facilities → Facilities) (a x : SharedOf) → MakesAll 2 change a x → AreFew (2 ^ 41) (held a.happen) →
+    AreHeldByFew x.happen.events
 request_few change a x made few =
     held_by_few (2 ^ 41 + 0) x.happen (omega arith)
     (subst (AreFew (2 ^ 41 + 0)) (sym made.turns.held) ((adds_unheld made.made).few (2 ^ 41) (held a.happen) few))
@@ -83,7 +84,8 @@ module _ {B Code : Type 0} (body : BodyOf B Code) (p : ProcId) (res : ℕ) (prio
   abbrev change : Facilities → Facilities
   change f = requests.make_request rs res p priority preempts f
 
-  pub victim_becomes : ((f : Facilities) → ShowsAll a.shared f → (true ≡ true ↔ requests.is_own_victim a.shared.setup res p priority preempts f ≡ true)) →
+  pub victim_becomes : ((f : Facilities) → ShowsAll a.shared f →
+      (true ≡ true ↔ requests.is_own_victim a.shared.setup res p priority preempts f ≡ true)) →
       n ≡ record a { control = told_more (signal.Raised 5) a.control } → BecomesWith body 1 (enter g p res priority preempts) a n
   victim_becomes refused is =
       subst (BecomesWith body 1 (enter g p res priority preempts) a) (sym is)
@@ -91,7 +93,8 @@ module _ {B Code : Type 0} (body : BodyOf B Code) (p : ProcId) (res : ℕ) (prio
       (becomes_as (tell (signal.Raised 5)) (enter g p res priority preempts) a _
       (λ s h.
       let victim : requests.is_own_victim rs res p priority preempts s.facilities ≡ true =
-      subst (λ r. requests.is_own_victim r res p priority preempts s.facilities ≡ true) resources ((refused s.facilities h.stands.facilities).0 refl) in
+      subst (λ r. requests.is_own_victim r res p priority preempts s.facilities ≡ true) resources
+      ((refused s.facilities h.stands.facilities).0 refl) in
       rw victim refl)
       (becomes_told (signal.Raised 5) a)))
 
@@ -105,7 +108,8 @@ module _ {B Code : Type 0} (body : BodyOf B Code) (p : ProcId) (res : ℕ) (prio
 
     requested : Becomes body (on_facilities change) a b
     requested =
-        becomes_made_all 2 change a x (plainly_requested rs res p priority preempts) (subst (λ r. MakesAll 2 (requests.make_request r res p priority preempts) a.shared x) resources made)
+        becomes_made_all 2 change a x (plainly_requested rs res p priority preempts)
+        (subst (λ r. MakesAll 2 (requests.make_request r res p priority preempts) a.shared x) resources made)
 
     module _ (h : PartsOf B Code) (holds : BecomesOwing body [] (but_zero (e ∷ [])) 1 (λ s. s) b h) (rest : KeepsButHappen b h)
         (room : IsSomeAnd (record_of p a.live) (λ r. length r.scopes < r.room)) where
@@ -116,7 +120,8 @@ module _ {B Code : Type 0} (body : BodyOf B Code) (p : ProcId) (res : ℕ) (prio
       live_is = ap (λ (v : PartsOf B Code). v.live) rest
 
       has_record : IsSome (record_of p h.live)
-      has_record = subst (λ l. IsSome (record_of p l)) (sym live_is) (some_of (λ (r : RecordOf B). length r.scopes < r.room) (record_of p a.live) room)
+      has_record = subst (λ l. IsSome (record_of p l)) (sym live_is)
+          (some_of (λ (r : RecordOf B). length r.scopes < r.room) (record_of p a.live) room)
 
       -- it is made now, and so stands in no scope yet
       made_now : (s : State B) → Stands a s → was_made (change s.facilities).calendar e ≡ true
@@ -126,13 +131,20 @@ module _ {B Code : Type 0} (body : BodyOf B Code) (p : ProcId) (res : ℕ) (prio
             arith,
             same,
             stands.stands.facilities.calendar.made,
-            put_made_more rs res kind.Request (Slot p (requests.request_key (resource_at rs res).kind priority preempts s.facilities)) (callback.TryGet res) s.facilities,
+            put_made_more rs res kind.Request (Slot p (requests.request_key (resource_at rs res).kind priority preempts s.facilities))
+                (callback.TryGet res) s.facilities,
           ))
 
       in_none : (s : State B) → Stands a s → All (λ y. y.request ≢ e) s.scopes
       in_none s stands =
           All-weaker (λ y. was_made (calendar s) y.request ≡ true) (λ y. y.request ≢ e)
-          (λ y made same_one. omega (arith, ltb-true y.request.0 (length (calendar s).events) made, same, stands.stands.facilities.calendar.made, ap (λ (f : EventId). f.0) same_one)) s.scopes stands.entered
+          (λ y made same_one. omega (
+            arith,
+            ltb-true y.request.0 (length (calendar s).events) made,
+            same,
+            stands.stands.facilities.calendar.made,
+            ap (λ (f : EventId). f.0) same_one,
+          )) s.scopes stands.entered
 
       held_stands : (s : State B) → Stands a s → Stands h (on_facilities change s)
       held_stands s stands = holds.each (on_facilities change s) (requested.each s stands)
@@ -147,7 +159,8 @@ module _ {B Code : Type 0} (body : BodyOf B Code) (p : ProcId) (res : ℕ) (prio
             accounts = λ todo s stands k.
                 let t : State B = on_facilities change s in
                 let u : State B = open_scope p e res t in
-                balances_by (but_zero (e ∷ [])) [] todo h c t u (record { code = refl; setup = refl; seed = refl }) (held_stands s stands) (open_stands s stands)
+                balances_by (but_zero (e ∷ [])) [] todo h c t u (record { code = refl; setup = refl; seed = refl })
+                (held_stands s stands) (open_stands s stands)
                 (stay_stated h c t u refl refl) (opened_trade h.setup.events (body.tell h.code) t p e res)
                 (holds.accounts todo t (requested.each s stands) (requested.accounts todo s stands k));
             opened = opened_then a b c requested.opened (opened_then b h c holds.opened (record { code = refl; setup = refl; seed = refl }));
@@ -159,12 +172,15 @@ module _ {B Code : Type 0} (body : BodyOf B Code) (p : ProcId) (res : ℕ) (prio
           k ≡ c → n ≡ record k { control = told_more (signal.Made e) k.control } → BecomesWith body 1 (enter g p res priority preempts) a n
       entered_becomes k allowed at is =
           let opening : State B → State B = λ s. open_scope p e res (on_facilities change s) in
-          subst (BecomesWith body 1 (enter g p res priority preempts) a) (sym (is ∙ ap (λ (v : PartsOf B Code). let w : PartsOf B Code = record v { control = told_more (signal.Made e) v.control } in w) at))
+          subst (BecomesWith body 1 (enter g p res priority preempts) a)
+          (sym (is ∙ ap (λ (v : PartsOf B Code). let w : PartsOf B Code = record v { control = told_more (signal.Made e) v.control } in w) at))
           (becomes_as (λ s. tell (signal.Made e) (opening s)) (enter g p res priority preempts) a _
           (λ s stands.
           let other : requests.is_own_victim rs res p priority preempts s.facilities ≡ false =
-          subst (λ r. requests.is_own_victim r res p priority preempts s.facilities ≡ false) resources (not_so _ (allowed s.facilities stands.stands.facilities)) in
-          ap (λ f. tell (signal.Made f) (open_scope p f res (on_facilities change s))) (sym (next_is a.shared.happen (calendar s) e same stands.stands.facilities.calendar)) ∙ rw other refl)
+          subst (λ r. requests.is_own_victim r res p priority preempts s.facilities ≡ false) resources
+          (not_so _ (allowed s.facilities stands.stands.facilities)) in
+          ap (λ f. tell (signal.Made f) (open_scope p f res (on_facilities change s)))
+          (sym (next_is a.shared.happen (calendar s) e same stands.stands.facilities.calendar)) ∙ rw other refl)
           (becomes_then opening (tell (signal.Made e)) a c _ opens (becomes_told (signal.Made e) c)))
         where
           not_so : (v : Bool) → (false ≡ true ↔ v ≡ true) → v ≡ false
@@ -172,12 +188,17 @@ module _ {B Code : Type 0} (body : BodyOf B Code) (p : ProcId) (res : ℕ) (prio
           not_so false h = refl
 
 -- the same, where what is shared was changed in a kernel
-pub enters : {B Code : Type 0} {body : BodyOf B Code} {a b : PartsOf B Code} (p : ProcId) (res : ℕ) (priority : ℤ) (preempts : Bool) (x : SharedOf) (e : EventId)
-    (h k n : PartsOf B Code) → IsSomeAnd (record_of p a.live) (λ r. length r.scopes < r.room) → BecomesOwing body [] (but_zero (e ∷ [])) 1 (λ s. s) b h →
+pub enters : {B Code : Type 0} {body : BodyOf B Code} {a b : PartsOf B Code}
+    (p : ProcId) (res : ℕ) (priority : ℤ) (preempts : Bool) (x : SharedOf) (e : EventId)
+    (h k n : PartsOf B Code) → IsSomeAnd (record_of p a.live) (λ r. length r.scopes < r.room) →
+    BecomesOwing body [] (but_zero (e ∷ [])) 1 (λ s. s) b h →
     KeepsButHappen b h → a.shared.setup ≡ a.setup.resources → b ≡ record a { shared = x } → e.0 ≡ length a.shared.happen.events →
     MakesAll 2 (requests.make_request a.shared.setup res p priority preempts) a.shared x →
     ((f : Facilities) → ShowsAll a.shared f → (false ≡ true ↔ requests.is_own_victim a.shared.setup res p priority preempts f ≡ true)) →
-    k ≡ record h { live = change_record p (λ r. let y : Scope = record { request = e; res = res } in record r { scopes = r.scopes ++ y ∷ [] }) h.live } →
+    k ≡ record h {
+      live = change_record p
+          (λ r. let y : Scope = record { request = e; res = res } in record r { scopes = r.scopes ++ y ∷ [] }) h.live;
+    } →
     n ≡ record k { control = told_more (signal.Made e) k.control } → BecomesWith body 1 (enter (plan_of body a) p res priority preempts) a n
 enters {B} {Code} {body} {a} {b} p res priority preempts x e h k n room holds rest resources is same made allowed at told =
     entered_becomes body p res priority preempts a n resources x e same made h

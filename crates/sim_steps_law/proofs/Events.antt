@@ -73,12 +73,14 @@ made_becomes {B} {Code} {body} g a n x e p made same is =
     subst (Becomes body (effect g p op.NewEvent) a) (sym is)
     (becomes_as (λ s. tell_made e (makes s)) (effect g p op.NewEvent) a _
     (λ s h. ap (λ f. tell_made f (makes s)) (sym (next_is a.shared.happen (calendar s) e same h.stands.facilities.calendar)))
-    (becomes_then makes (tell_made e) a (with_happen x a) _ (becomes_made (make kind.Plain) a x (plainly_made kind.Plain) made) (becomes_told (signal.Made e) (with_happen x a))))
+    (becomes_then makes (tell_made e) a (with_happen x a) _
+    (becomes_made (make kind.Plain) a x (plainly_made kind.Plain) made) (becomes_told (signal.Made e) (with_happen x a))))
 
 -- ---- an outcome
 
 -- an event that is pending gets its outcome
-pub triggered_becomes : {B Code : Type 0} {body : BodyOf B Code} (a n : PartsOf B Code) (x : HappenOf) (e : EventId) (o : Outcome) → IsKept a.shared.happen.events e →
+pub triggered_becomes : {B Code : Type 0} {body : BodyOf B Code} (a n : PartsOf B Code) (x : HappenOf) (e : EventId) (o : Outcome) →
+    IsKept a.shared.happen.events e →
     (kept_event a e).outcome ≡ None → Follows (trigger e o) a.shared.happen x →
     n ≡ record (with_happen x a) { control = told_more signal.Done a.control } → Becomes body (trigger_pending e o) a n
 triggered_becomes {B} {Code} {body} a n x e o kept pending follows is =
@@ -86,16 +88,19 @@ triggered_becomes {B} {Code} {body} a n x e o kept pending follows is =
     subst (Becomes body (trigger_pending e o) a) (sym is)
     (becomes_as (λ s. tell signal.Done (gets s)) (trigger_pending e o) a _
     (λ s h. rw (event_is a e s kept h, pending) refl)
-    (becomes_then gets (tell signal.Done) a (with_happen x a) _ (becomes_followed (trigger e o) a x (plainly_scheduled e o normal (pos 0)) follows) (becomes_told signal.Done (with_happen x a))))
+    (becomes_then gets (tell signal.Done) a (with_happen x a) _
+    (becomes_followed (trigger e o) a x (plainly_scheduled e o normal (pos 0)) follows) (becomes_told signal.Done (with_happen x a))))
 
 -- ---- chains
 
 -- a callback is registered that passes an outcome on, and holds its event
 registered_owes : {B Code : Type 0} {body : BodyOf B Code} (e y : EventId) (a : PartsOf B Code) (x : HappenOf) → IsKept a.shared.happen.events y →
-    Turns (register e (callback.Trigger y)) (one_more y) a.shared.happen x → BecomesWith body 1 (on_events (register e (callback.Trigger y))) a (with_happen x a)
+    Turns (register e (callback.Trigger y)) (one_more y) a.shared.happen x →
+    BecomesWith body 1 (on_events (register e (callback.Trigger y))) a (with_happen x a)
 registered_owes {B} {Code} {body} e y a x kept t =
     let change : Calendar → Calendar = register e (callback.Trigger y) in
-    let stands : (s : State B) → Stands a s → Stands (with_happen x a) (on_events change s) = turned_stands_for 1 change (one_more y) a x (adds_one_more y) t in
+    let stands : (s : State B) → Stands a s → Stands (with_happen x a) (on_events change s) =
+    turned_stands_for 1 change (one_more y) a x (adds_one_more y) t in
     record {
       each = stands;
       accounts = λ todo s h k.
@@ -104,9 +109,12 @@ registered_owes {B} {Code} {body} e y a x kept t =
           let old : Shows a.shared.happen c = h.stands.facilities.calendar in
           let was : EventId → ℕ = held_alone a.setup.events (body.tell a.code) s in
           let is_now : EventId → ℕ = held_alone a.setup.events (body.tell a.code) (on_events change s) in
-          let table : Balanced was (y ∷ todo) x.events = held_balanced a.shared.happen x c d old (t.each c old) (after_events c d refl) (none_events c d refl) y kept t.held was todo k.holders in
+          let table : Balanced was (y ∷ todo) x.events =
+          held_balanced a.shared.happen x c d old (t.each c old) (after_events c d refl)
+          (none_events c d refl) y kept t.held was todo k.holders in
           record {
-            holders = trades_balanced (y ∷ []) [] todo was is_now x.events (registered_trade a.setup.events (body.tell a.code) s e (callback.Trigger y)) table;
+            holders = trades_balanced (y ∷ []) [] todo was is_now x.events
+                (registered_trade a.setup.events (body.tell a.code) s e (callback.Trigger y)) table;
             gone = held_gone a.shared.happen x c d old (t.each c old) (after_events c d refl) (none_events c d refl) y kept t.held k.gone;
           };
       opened = record { code = refl; setup = refl; seed = refl };
@@ -114,7 +122,8 @@ registered_owes {B} {Code} {body} e y a x kept t =
     }
 
 -- an event that is not processed is to pass its outcome on to another, which is held for this
-pub chained_becomes : {B Code : Type 0} {body : BodyOf B Code} (a n : PartsOf B Code) (x : HappenOf) (e y : EventId) → IsKept a.shared.happen.events e →
+pub chained_becomes : {B Code : Type 0} {body : BodyOf B Code} (a n : PartsOf B Code) (x : HappenOf) (e y : EventId) →
+    IsKept a.shared.happen.events e →
     IsKept a.shared.happen.events y → (kept_event a e).processed ≡ false → Turns (register e (callback.Trigger y)) (one_more y) a.shared.happen x →
     n ≡ record (with_happen x a) { control = told_more signal.Done a.control } → BecomesWith body 1 (chain e y) a n
 chained_becomes {B} {Code} {body} a n x e y kept other unprocessed turns is =
@@ -122,10 +131,12 @@ chained_becomes {B} {Code} {body} a n x e y kept other unprocessed turns is =
     subst (BecomesWith body 1 (chain e y) a) (sym is)
     (becomes_as (λ s. tell signal.Done (registered s)) (chain e y) a _
     (λ s h. rw (processed_is a e s kept h ∙ unprocessed) refl)
-    (becomes_then registered (tell signal.Done) a (with_happen x a) _ (registered_owes e y a x other turns) (becomes_told signal.Done (with_happen x a))))
+    (becomes_then registered (tell signal.Done) a (with_happen x a) _
+    (registered_owes e y a x other turns) (becomes_told signal.Done (with_happen x a))))
 
 -- a processed one does so at once
-pub passed_becomes : {B Code : Type 0} {body : BodyOf B Code} (a n : PartsOf B Code) (x : HappenOf) (e y : EventId) → IsKept a.shared.happen.events e →
+pub passed_becomes : {B Code : Type 0} {body : BodyOf B Code} (a n : PartsOf B Code) (x : HappenOf) (e y : EventId) →
+    IsKept a.shared.happen.events e →
     IsKept a.shared.happen.events y → (kept_event a e).processed ≡ true → (kept_event a y).outcome ≡ None →
     Follows (pass_on (kept_event a e).outcome y) a.shared.happen x → n ≡ record (with_happen x a) { control = told_more signal.Done a.control } →
     Becomes body (chain e y) a n
@@ -135,7 +146,8 @@ passed_becomes {B} {Code} {body} a n x e y kept other processed pending follows 
     subst (Becomes body (chain e y) a) (sym is)
     (becomes_as (λ s. tell signal.Done (passed s)) (chain e y) a _
     (λ s h. rw (processed_is a e s kept h ∙ processed, pending_is a y s other h ∙ ap (λ z. is_none z) pending, outcome_is a e s kept h) refl)
-    (becomes_then passed (tell signal.Done) a (with_happen x a) _ (becomes_followed (pass_on o y) a x (plainly_passed o y) follows) (becomes_told signal.Done (with_happen x a))))
+    (becomes_then passed (tell signal.Done) a (with_happen x a) _
+    (becomes_followed (pass_on o y) a x (plainly_passed o y) follows) (becomes_told signal.Done (with_happen x a))))
 
 -- a chain that is not refused does one or the other
 pub chain_becomes : {B Code : Type 0} {body : BodyOf B Code} (a n : PartsOf B Code) (x : HappenOf) (e y : EventId) → IsKept a.shared.happen.events e →

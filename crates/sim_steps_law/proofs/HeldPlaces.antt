@@ -60,12 +60,14 @@ first_dropped es i = ⊎_elim within past (cases_lt i (length es))
     within : i < length es → but_zero (drop i es) ≡ but_zero (in_place es i ∷ []) ++ but_zero (drop (i + 1) es)
     within below =
         let next : suc i ≡ i + 1 = omega arith in
-        ap but_zero (drop-cons es i (record { 0 = 0 }) below ∙ ap (λ n. in_place es i ∷ drop n es) next) ∙ but_zero-append (in_place es i ∷ []) (drop (i + 1) es)
+        ap but_zero (drop-cons es i (record { 0 = 0 }) below ∙ ap (λ n. in_place es i ∷ drop n es) next)
+        ∙ but_zero-append (in_place es i ∷ []) (drop (i + 1) es)
 
     past : length es ≤ i → but_zero (drop i es) ≡ but_zero (in_place es i ∷ []) ++ but_zero (drop (i + 1) es)
     past le =
         ap but_zero (drop_past es i le)
-        ∙ sym (ap (λ x. but_zero (x ∷ []) ++ but_zero (drop (i + 1) es)) (get_or_past es i (record { 0 = 0 }) le) ∙ ap but_zero (drop_past es (i + 1) (omega (arith, le))))
+        ∙ sym (ap (λ x. but_zero (x ∷ []) ++ but_zero (drop (i + 1) es)) (get_or_past es i (record { 0 = 0 }) le)
+        ∙ ap but_zero (drop_past es (i + 1) (omega (arith, le))))
 
 -- one place more
 next_taken : (es : List EventId) (i : ℕ) → AreAlike (but_zero (in_place es i ∷ []) ++ but_zero (take i es)) (but_zero (take (i + 1) es))
@@ -80,7 +82,8 @@ module _ {B Code : Type 0} (body : BodyOf B Code) (es : List EventId) where
   abbrev pub HoldsBefore : ℕ → PartsOf B Code → PartsOf B Code → Type 0
   HoldsBefore i a b = BecomesOwing body [] (but_zero (take i es)) i (λ (s : State B). s) a b
 
-  pub held_next : (i : ℕ) (first a b : PartsOf B Code) → HoldsBefore i first a → BecomesOwing body [] (but_zero (in_place es i ∷ [])) 1 (λ (s : State B). s) a b →
+  pub held_next : (i : ℕ) (first a b : PartsOf B Code) → HoldsBefore i first a →
+      BecomesOwing body [] (but_zero (in_place es i ∷ [])) 1 (λ (s : State B). s) a b →
       HoldsBefore (i + 1) first b
   held_next i first a b h k =
       let none : List EventId = [] in
@@ -97,18 +100,22 @@ module _ {B Code : Type 0} (body : BodyOf B Code) (es : List EventId) where
   OwesBehind i a b = BecomesOwing body (but_zero es) (but_zero (drop i es)) 0 (λ (s : State B). s) a b
 
   pub given_none : (a : PartsOf B Code) → OwesBehind 0 a a
-  given_none a = subst (λ (xs : List EventId). BecomesOwing body (but_zero es) (but_zero xs) 0 (λ (s : State B). s) a a) (sym (none_dropped es)) (owing_besides (but_zero es) (λ (s : State B). s) a a (becomes_none a))
+  given_none a = subst (λ (xs : List EventId). BecomesOwing body (but_zero es) (but_zero xs) 0 (λ (s : State B). s) a a)
+      (sym (none_dropped es)) (owing_besides (but_zero es) (λ (s : State B). s) a a (becomes_none a))
 
-  pub owed_next : (i : ℕ) (first a : PartsOf B Code) → OwesBehind i first a → IsOwing body (but_zero es) first → IsOwing body (but_zero (in_place es i ∷ [])) a
+  pub owed_next : (i : ℕ) (first a : PartsOf B Code) → OwesBehind i first a → IsOwing body (but_zero es) first →
+      IsOwing body (but_zero (in_place es i ∷ [])) a
   owed_next i first a h owing =
       is_owing_first (but_zero (in_place es i ∷ [])) (but_zero (drop (i + 1) es)) a
       (subst (λ xs. IsOwing body xs a) (first_dropped es i) (owing_after (λ (s : State B). s) first a h owing))
 
-  pub given_next : (i : ℕ) (first a b : PartsOf B Code) → OwesBehind i first a → BecomesOwing body (but_zero (in_place es i ∷ [])) [] 0 (λ (s : State B). s) a b →
+  pub given_next : (i : ℕ) (first a b : PartsOf B Code) → OwesBehind i first a →
+      BecomesOwing body (but_zero (in_place es i ∷ [])) [] 0 (λ (s : State B). s) a b →
       OwesBehind (i + 1) first b
   given_next i first a b h k =
       let behind : List EventId = but_zero (drop (i + 1) es) in
-      becomes_then (λ (s : State B). s) (λ (s : State B). s) first a b (subst (λ xs. BecomesOwing body (but_zero es) xs 0 (λ (s : State B). s) first a) (first_dropped es i) h)
+      becomes_then (λ (s : State B). s) (λ (s : State B). s) first a b
+      (subst (λ xs. BecomesOwing body (but_zero es) xs 0 (λ (s : State B). s) first a) (first_dropped es i) h)
       (owing_besides behind (λ (s : State B). s) a b k)
 
   pub given_all : (n : ℕ) (a b : PartsOf B Code) → length es ≤ n → OwesBehind n a b → BecomesOwing body (but_zero es) [] 0 (λ (s : State B). s) a b

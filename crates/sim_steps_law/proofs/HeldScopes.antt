@@ -37,7 +37,8 @@ use Rattle.sim_steps_law.proofs.Ending.{scopes_found}
 use Rattle.sim_steps_law.proofs.EnteredScopes.{scope_in, innermost_mapped}
 
 -- a scope that was picked out of the record of a process
-pub found_scope : {B : Type 0} (pick : List Scope → Option Scope) (o : Option (RecordOf B)) (x : Scope) → Some x ≡ option_and_then (λ q. pick q.scopes) o →
+pub found_scope : {B : Type 0} (pick : List Scope → Option Scope) (o : Option (RecordOf B)) (x : Scope) →
+    Some x ≡ option_and_then (λ q. pick q.scopes) o →
     (r : RecordOf B) × (o ≡ Some r) × (pick r.scopes ≡ Some x)
 found_scope pick None x h = absurd (none-some x (sym h))
 found_scope pick (Some r) x h = (r, refl, sym h)
@@ -97,7 +98,8 @@ found_only request [] z apart none is = absurd none
 found_only request (y ∷ ys) z apart (inl same) is = rw (ap (λ (v : OpenScope). is_same v.request request) same ∙ is) (ap (λ v. Some v) same)
 found_only request (y ∷ ys) z apart (inr later) is =
     let other : is_same y.request request ≡ false = fails (is_same y.request request)
-    (λ k. one_has (AreOfTwo y) ys z (AllPairs-head AreOfTwo y ys apart) later (is_same-yes y.request request k ∙ sym (is_same-yes z.request request is))) in
+    (λ k. one_has (AreOfTwo y) ys z (AllPairs-head AreOfTwo y ys apart) later
+    (is_same-yes y.request request k ∙ sym (is_same-yes z.request request is))) in
     rw other (found_only request ys z (AllPairs-tail AreOfTwo y ys apart) later is)
   where
     fails : (b : Bool) → (b ≡ true → ⊥) → b ≡ false
@@ -106,7 +108,8 @@ found_only request (y ∷ ys) z apart (inr later) is =
 
 -- ---- a request is released
 
-pub released_becomes : {B Code : Type 0} {body : BodyOf B Code} (a n : PartsOf B Code) (p : ProcId) (r : RecordOf B) (request : EventId) (x : Scope) (y : SharedOf) →
+pub released_becomes : {B Code : Type 0} {body : BodyOf B Code} (a n : PartsOf B Code)
+    (p : ProcId) (r : RecordOf B) (request : EventId) (x : Scope) (y : SharedOf) →
     record_of p a.live ≡ Some r → scope_of request r.scopes ≡ Some x → TurnsAll (requests.make_release x.res request) unheld_event a.shared y →
     n ≡ record a { shared = y; control = told_more signal.Done a.control } → Becomes body (λ s. tell signal.Done (release_request request s)) a n
 released_becomes {B} {Code} {body} a n p r request x y found scope released is =
@@ -115,7 +118,9 @@ released_becomes {B} {Code} {body} a n p r request x y found scope released is =
     let release : State B → State B = on_facilities change in
     subst (Becomes body (λ s. tell signal.Done (release_request request s)) a) (sym is)
     (becomes_as (λ s. tell signal.Done (release s)) (λ s. tell signal.Done (release_request request s)) a _ (λ s h. ap (tell signal.Done) (same s h))
-    (becomes_then release (tell signal.Done) a b _ (becomes_turned_all change unheld_event a y (adds_unheld 1) (keeps_unheld 1) (plainly_released x.res request) released) (becomes_told signal.Done b)))
+    (becomes_then release (tell signal.Done) a b _
+    (becomes_turned_all change unheld_event a y (adds_unheld 1) (keeps_unheld 1) (plainly_released x.res request) released)
+    (becomes_told signal.Done b)))
   where
     same : (s : State B) → Stands a s → on_facilities (requests.make_release x.res request) s ≡ release_request request s
     same s h =
@@ -123,14 +128,18 @@ released_becomes {B} {Code} {body} a n p r request x y found scope released is =
         let own : scopes_of p s ≡ r.scopes = scopes_found p a.live r s found h.stands.scopes in
         let z = found_own request test s.scopes x (ap (scope_of request) own ∙ scope) in
         let of : is_same z.0.request request ≡ true = ap (λ (w : Scope). is_same w.request request) z.2 ∙ z.3 in
-        let only : find (λ v. is_same v.request request) s.scopes ≡ Some z.0 = found_only request s.scopes z.0 h.apart (one_of_filter test s.scopes z.0 z.1) of in
+        let only : find (λ v. is_same v.request request) s.scopes ≡ Some z.0 =
+        found_only request s.scopes z.0 h.apart (one_of_filter test s.scopes z.0 z.1) of in
         let it : z.0.request ≡ request = is_same-yes z.0.request request of in
         ap (λ (q : ℕ). on_facilities (requests.make_release q request) s) (ap (λ (w : Scope). w.res) (sym z.2))
-        ∙ (ap (λ (f : EventId). on_facilities (requests.make_release z.0.res f) s) (sym it) ∙ ap (λ (o : Option OpenScope). release_if_any o s) (sym only))
+        ∙ (ap (λ (f : EventId). on_facilities (requests.make_release z.0.res f) s) (sym it)
+        ∙ ap (λ (o : Option OpenScope). release_if_any o s) (sym only))
 
 -- a request in an open scope of the process was made at a resource that takes requests
-pub releases_at : {B Code : Type 0} {body : BodyOf B Code} (a : PartsOf B Code) (p : ProcId) (r : RecordOf B) (request : EventId) → record_of p a.live ≡ Some r →
-    IsSome (scope_of request r.scopes) → CanLeave body a → IsSomeAnd (option_and_then (λ q. scope_of request q.scopes) (record_of p a.live)) (λ x. TakesRequests x.res a)
+pub releases_at : {B Code : Type 0} {body : BodyOf B Code} (a : PartsOf B Code) (p : ProcId) (r : RecordOf B) (request : EventId) →
+    record_of p a.live ≡ Some r →
+    IsSome (scope_of request r.scopes) → CanLeave body a →
+    IsSomeAnd (option_and_then (λ q. scope_of request q.scopes) (record_of p a.live)) (λ x. TakesRequests x.res a)
 releases_at {B} {Code} a p r request found some can = rw found (at (scope_of request r.scopes) refl some)
   where
     takes : (x : Scope) → scope_of request r.scopes ≡ Some x → TakesRequests x.res a
@@ -139,7 +148,8 @@ releases_at {B} {Code} a p r request found some can = rw found (at (scope_of req
         let test : OpenScope → Bool = λ v. is_process v.process p in
         let own : scopes_of p s ≡ r.scopes = scopes_found p a.live r s found can.stands.stands.scopes in
         let z = found_own request test s.scopes x (ap (scope_of request) own ∙ is) in
-        let leaves : CanBeLeft a.setup.resources s.facilities z.0 = one_has (CanBeLeft a.setup.resources s.facilities) s.scopes z.0 can.each (one_of_filter test s.scopes z.0 z.1) in
+        let leaves : CanBeLeft a.setup.resources s.facilities z.0 =
+        one_has (CanBeLeft a.setup.resources s.facilities) s.scopes z.0 can.each (one_of_filter test s.scopes z.0 z.1) in
         subst (λ (v : Scope). TakesRequests v.res a) z.2 (record { within = leaves.there; slots = leaves.slots })
 
     at : (o : Option Scope) → scope_of request r.scopes ≡ o → IsSome o → IsSomeAnd o (λ x. TakesRequests x.res a)

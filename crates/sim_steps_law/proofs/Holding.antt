@@ -104,7 +104,8 @@ few_still most = record {
     changed e es o here h =
         subst (AreFew most) (sym (mapped es e.0 o)) (record { each = All-set (AtMost most) (map holders_at es) e.0 (holders_at o) here h.each })
 
-    fewer : (e : EventId) (es : List (Option Kept)) → AreFew most (map holders_at es) → AtMost most (holders_at (Some (without_holder (kept_at es e))))
+    fewer : (e : EventId) (es : List (Option Kept)) → AreFew most (map holders_at es) →
+        AtMost most (holders_at (Some (without_holder (kept_at es e))))
     fewer e es h = omega (arith, few_here most es e h)
 
 at_most_one : (b : Bool) → one_if b ≤ 1
@@ -140,7 +141,8 @@ module _ {B Code : Type 0} {body : BodyOf B Code} (e : EventId) (a : PartsOf B C
             let new : Shows x c = (stands s h).stands.facilities.calendar in
             subst (λ xs. Balances body (xs ++ todo) (with_happen x a) s) (sym (other_is e other))
             (record {
-              holders = held_balanced a.shared.happen x c c old new (after_same c) (none_events c c refl) e kept t.held (held_alone a.setup.events (body.tell a.code) s) todo k.holders;
+              holders = held_balanced a.shared.happen x c c old new (after_same c)
+                  (none_events c c refl) e kept t.held (held_alone a.setup.events (body.tell a.code) s) todo k.holders;
               gone = held_gone a.shared.happen x c c old new (after_same c) (none_events c c refl) e kept t.held k.gone;
             });
         opened = record { code = refl; setup = refl; seed = refl };
@@ -158,7 +160,8 @@ module _ {B Code : Type 0} {body : BodyOf B Code} (e : EventId) (a : PartsOf B C
 
     -- what stays true is true then
     still : (P : List (Option Kept) → Type 0) → StaysTrue P → P a.shared.happen.events → P x.events
-    still P stays h = subst P (sym is) (unheld_with P stays alone e owing.others a.shared.happen.events (record { balanced = balanced; besides = h })).besides
+    still P stays h = subst P (sym is)
+        (unheld_with P stays alone e owing.others a.shared.happen.events (record { balanced = balanced; besides = h })).besides
 
     shown_still : (c : Calendar) → Shows a.shared.happen c → Shows x c
     shown_still c s =
@@ -202,7 +205,10 @@ module _ {B Code : Type 0} {body : BodyOf B Code} (e : EventId) (a : PartsOf B C
             gone = unheld_gone a.shared.happen x (calendar s) e here todo h.stands.facilities.calendar k.gone k.holders is;
           };
       opened = record { code = refl; setup = refl; seed = refl };
-      few = record { few = λ most h. few_weaker most (most + 0) (held x) (omega arith) (still (λ es. AreFew most (map holders_at es)) (few_still most) h) };
+      few = record {
+        few = λ most h. few_weaker most (most + 0) (held x) (omega arith)
+            (still (λ es. AreFew most (map holders_at es)) (few_still most) h);
+      };
     }
 
     pub returns_any : KeepsRoom a.shared.happen x → ReturnsHolder a.shared.happen x
@@ -214,7 +220,8 @@ module _ {B Code : Type 0} {body : BodyOf B Code} (e : EventId) (a : PartsOf B C
         record {
           kept = λ f kept unclosed. subst (λ gs. IsKept gs f) (sym is) (opens f kept unclosed).0;
           event = λ f kept unclosed. ap (λ gs. (kept_at gs f).event) is ∙ (opens f kept unclosed).1;
-          made = still (λ gs. length gs ≡ length es) (record { fewer = λ f gs kept h. length-set gs f.0 _ ∙ h; gone = λ f gs kept off h. length-set gs f.0 _ ∙ h }) refl;
+          made = still (λ gs. length gs ≡ length es)
+              (record { fewer = λ f gs kept h. length-set gs f.0 _ ∙ h; gone = λ f gs kept off h. length-set gs f.0 _ ∙ h }) refl;
           events = omega (arith, room.events, still (λ gs. kept_count gs ≤ kept_count es) (fewer_kept (kept_count es)) (omega arith));
           callbacks = room.callbacks;
           conditions = room.conditions;
@@ -234,11 +241,15 @@ module _ {B Code : Type 0} {body : BodyOf B Code} (e : EventId) (a : PartsOf B C
     returns_holder room = returns_any owing_it is others room
 
 -- as calls have it
-module _ {B Code : Type 0} {body : BodyOf B Code} (e : EventId) (a n : PartsOf B Code) (x : HappenOf) (other : e.0 ≢ 0) (is : n ≡ with_happen x a) where
-  pub holds_owes : IsKept a.shared.happen.events e → Turns (λ c. c) (one_more e) a.shared.happen x → BecomesOwing body [] (but_zero (e ∷ [])) 1 (λ s. s) a n
-  holds_owes kept t = subst (λ (m : PartsOf B Code). BecomesOwing body [] (but_zero (e ∷ [])) 1 (λ s. s) a m) (sym is) (holding_owes e a x other kept t)
+module _ {B Code : Type 0} {body : BodyOf B Code} (e : EventId) (a n : PartsOf B Code)
+    (x : HappenOf) (other : e.0 ≢ 0) (is : n ≡ with_happen x a) where
+  pub holds_owes : IsKept a.shared.happen.events e → Turns (λ c. c) (one_more e) a.shared.happen x →
+      BecomesOwing body [] (but_zero (e ∷ [])) 1 (λ s. s) a n
+  holds_owes kept t =
+      subst (λ (m : PartsOf B Code). BecomesOwing body [] (but_zero (e ∷ [])) 1 (λ s. s) a m) (sym is) (holding_owes e a x other kept t)
 
   pub returns_owes : IsOwing body (but_zero (e ∷ [])) a → x.events ≡ unheld e a.shared.happen.events →
       x ≡ record a.shared.happen { events = x.events; spare = x.spare } → BecomesOwing body (but_zero (e ∷ [])) [] 0 (λ s. s) a n
   returns_owes owing events others =
-      subst (λ (m : PartsOf B Code). BecomesOwing body (but_zero (e ∷ [])) [] 0 (λ s. s) a m) (sym is) (returning_owes e a x other owing events others)
+      subst (λ (m : PartsOf B Code). BecomesOwing body (but_zero (e ∷ [])) [] 0 (λ s. s) a m)
+      (sym is) (returning_owes e a x other owing events others)

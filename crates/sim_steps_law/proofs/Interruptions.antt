@@ -55,26 +55,32 @@ some_mapped_is f (Some x) = refl
 -- who has a record is alive
 pub alive_is : {B Code : Type 0} (a : PartsOf B Code) (p : ProcId) (s : State B) → Stands a s → is_alive p s ≡ is_some (record_of p a.live)
 alive_is a p s h =
-    any_is (λ x. is_process x.id p) s.processes ∙ (ap is_some (process_found a s p h.distinct h.stands) ∙ some_mapped_is process_of (record_of p a.live))
+    any_is (λ x. is_process x.id p) s.processes
+    ∙ (ap is_some (process_found a s p h.distinct h.stands) ∙ some_mapped_is process_of (record_of p a.live))
 
 -- ---- to do something to another process
 
 -- one that has ended
-pub another_ended : {B Code : Type 0} {body : BodyOf B Code} (p q : ProcId) (does : State B → State B) (a n : PartsOf B Code) → is_some (record_of q a.live) ≡ false →
+pub another_ended : {B Code : Type 0} {body : BodyOf B Code} (p q : ProcId) (does : State B → State B) (a n : PartsOf B Code) →
+    is_some (record_of q a.live) ≡ false →
     n ≡ record a { control = told_more (signal.Raised ended_process) a.control } → Becomes body (to_another p q does) a n
 another_ended {B} {Code} {body} p q does a n ended is =
     subst (Becomes body (to_another p q does) a) (sym is)
-    (becomes_as (tell (signal.Raised ended_process)) (to_another p q does) a _ (λ s h. rw (alive_is a q s h, ended) refl) (becomes_told (signal.Raised ended_process) a))
+    (becomes_as (tell (signal.Raised ended_process)) (to_another p q does) a _
+    (λ s h. rw (alive_is a q s h, ended) refl) (becomes_told (signal.Raised ended_process) a))
 
 -- the process itself
-pub another_itself : {B Code : Type 0} {body : BodyOf B Code} (p q : ProcId) (does : State B → State B) (a n : PartsOf B Code) → is_some (record_of q a.live) ≡ true →
+pub another_itself : {B Code : Type 0} {body : BodyOf B Code} (p q : ProcId) (does : State B → State B) (a n : PartsOf B Code) →
+    is_some (record_of q a.live) ≡ true →
     is_process q p ≡ true → n ≡ record a { control = told_more (signal.Raised process_itself) a.control } → Becomes body (to_another p q does) a n
 another_itself {B} {Code} {body} p q does a n lives itself is =
     subst (Becomes body (to_another p q does) a) (sym is)
-    (becomes_as (tell (signal.Raised process_itself)) (to_another p q does) a _ (λ s h. rw (alive_is a q s h, lives, itself) refl) (becomes_told (signal.Raised process_itself) a))
+    (becomes_as (tell (signal.Raised process_itself)) (to_another p q does) a _
+    (λ s h. rw (alive_is a q s h, lives, itself) refl) (becomes_told (signal.Raised process_itself) a))
 
 -- one that is alive
-pub another_does : {B Code : Type 0} {body : BodyOf B Code} {more : ℕ} (p q : ProcId) (does : State B → State B) (a m n : PartsOf B Code) → is_some (record_of q a.live) ≡ true →
+pub another_does : {B Code : Type 0} {body : BodyOf B Code} {more : ℕ} (p q : ProcId) (does : State B → State B) (a m n : PartsOf B Code) →
+    is_some (record_of q a.live) ≡ true →
     is_process q p ≡ false → BecomesWith body more does a m → n ≡ record m { control = told_more signal.Done m.control } →
     BecomesWith body more (to_another p q does) a n
 another_does {B} {Code} {body} {more} p q does a m n lives other done is =
@@ -85,11 +91,13 @@ another_does {B} {Code} {body} {more} p q does a m n lives other done is =
     (becomes_within (more + 0) more (λ s. tell signal.Done (does s)) a _ (omega arith) goes_on))
 
 -- it is interrupted
-pub interrupted_becomes : {B Code : Type 0} {body : BodyOf B Code} (p q : ProcId) (t : Throw) (a n : PartsOf B Code) (x : HappenOf) → is_some (record_of q a.live) ≡ true →
+pub interrupted_becomes : {B Code : Type 0} {body : BodyOf B Code} (p q : ProcId) (t : Throw) (a n : PartsOf B Code) (x : HappenOf) →
+    is_some (record_of q a.live) ≡ true →
     is_process q p ≡ false → Turns (make_interruption q t) unheld_event a.shared.happen x →
     n ≡ record (with_happen x a) { control = told_more signal.Done a.control } → Becomes body (to_another p q (on_events (make_interruption q t))) a n
 interrupted_becomes p q t a n x lives other made is =
-    another_does p q (on_events (make_interruption q t)) a (with_happen x a) n lives other (becomes_made (make_interruption q t) a x (plainly_interruption q t) made) is
+    another_does p q (on_events (make_interruption q t)) a (with_happen x a) n lives other
+    (becomes_made (make_interruption q t) a x (plainly_interruption q t) made) is
 
 -- ---- an interruption comes
 
@@ -106,8 +114,10 @@ left_calling (mode.Active e p x) left event h = absurd h
 left_calling (mode.Over why e) left event h = absurd h
 
 -- to a process that is alive: it waits no longer, and is thrown the interruption
-pub struck_becomes : {B Code : Type 0} {body : BodyOf B Code} (g : Plan B) (a n : PartsOf B Code) (x : HappenOf) (event : EventId) (p : ProcId) (r : RecordOf B) (told : Signal) →
-    IsCalling event a.control → IsKept a.shared.happen.events event → record_of p a.live ≡ Some r → Follows (unregister r.target (is_resume_of p)) a.shared.happen x →
+pub struck_becomes : {B Code : Type 0} {body : BodyOf B Code} (g : Plan B) (a n : PartsOf B Code)
+    (x : HappenOf) (event : EventId) (p : ProcId) (r : RecordOf B) (told : Signal) →
+    IsCalling event a.control → IsKept a.shared.happen.events event → record_of p a.live ≡ Some r →
+    Follows (unregister r.target (is_resume_of p)) a.shared.happen x →
     told ≡ signal_of (kept_at a.shared.happen.events event).event.outcome → left_of a.control ≡ x.left →
     n ≡ record (with_happen x a) { control = Active event x.left p told } → Becomes body (called g event (callback.Strike p)) a n
 struck_becomes {B} {Code} {body} g a n x event p r told calling kept found follows is_told left is =
@@ -121,26 +131,32 @@ struck_becomes {B} {Code} {body} g a n x event p r told calling kept found follo
     (λ s h.
     let read : (event_at (calendar s) event).outcome ≡ (kept_at a.shared.happen.events event).event.outcome =
     ap (λ (y : EventOf). y.outcome) (sym (read_is a.shared.happen (calendar s) event kept h.stands.facilities.calendar)) in
-    let strikes : called g event (callback.Strike p) s ≡ control_to (Active event (left_of s.control) p (signal_of (event_at (calendar s) event).outcome)) (stop_waiting p s) =
+    let strikes : called g event (callback.Strike p) s
+    ≡ control_to (Active event (left_of s.control) p (signal_of (event_at (calendar s) event).outcome)) (stop_waiting p s) =
     rw (alive_is a p s h, alive) refl in
     sym (strikes ∙ rw (read, ← is_told, target_is a p r s found h) refl))
-    (becomes_then stops (λ t. record t { control = runs t.control }) a (with_happen x a) _ (becomes_followed (unregister r.target (is_resume_of p)) a x (λ c. plainly_unregistered r.target (is_resume_of p) c (λ y. refl)) follows)
+    (becomes_then stops (λ t. record t { control = runs t.control }) a (with_happen x a) _
+    (becomes_followed (unregister r.target (is_resume_of p)) a x (λ c. plainly_unregistered r.target (is_resume_of p) c (λ y. refl)) follows)
     (owing_controlled [] runs (with_happen x a) (λ s h. still_processed s (calling_now (with_happen x a) event s calling h)))))
   where
     still_processed : (s : State B) → s.control ≡ Calling event (left_of s.control) →
         StatesTrade a.setup.events (body.tell a.code) [] [] s (record s { control = Active event (left_of s.control) p told })
     still_processed s is_calling =
-        processed_trade a.setup.events (body.tell a.code) s (Active event (left_of s.control) p told) [] [] (λ f. rw is_calling (omega arith)) (λ f. omega arith)
+        processed_trade a.setup.events (body.tell a.code) s (Active event (left_of s.control) p told)
+        [] [] (λ f. rw is_calling (omega arith)) (λ f. omega arith)
 
 -- to a process that has ended nothing comes
-pub not_struck : {B Code : Type 0} {body : BodyOf B Code} (g : Plan B) (a : PartsOf B Code) (event : EventId) (p : ProcId) → IsCalling event a.control →
+pub not_struck : {B Code : Type 0} {body : BodyOf B Code} (g : Plan B) (a : PartsOf B Code) (event : EventId) (p : ProcId) →
+    IsCalling event a.control →
     is_some (record_of p a.live) ≡ false → Becomes body (called g event (callback.Strike p)) a a
 not_struck {B} {Code} {body} g a event p calling ended =
     becomes_as (λ s. s) (called g event (callback.Strike p)) a a
-    (λ s h. sym (stays p s (alive_is a p s h ∙ ended) ∙ ap (λ c. control_to c s) (sym (called_is s.control event (subst (IsCalling event) h.stands.control calling)))))
+    (λ s h. sym (stays p s (alive_is a p s h ∙ ended)
+    ∙ ap (λ c. control_to c s) (sym (called_is s.control event (subst (IsCalling event) h.stands.control calling)))))
     (becomes_none a)
   where
-    stays : (q : ProcId) (s : State B) → is_alive q s ≡ false → called g event (callback.Strike q) s ≡ control_to (Calling event (left_of s.control)) s
+    stays : (q : ProcId) (s : State B) → is_alive q s ≡ false →
+        called g event (callback.Strike q) s ≡ control_to (Calling event (left_of s.control)) s
     stays q s none = rw none refl
 
     called_is : (c : Control) (e : EventId) → IsCalling e c → c ≡ Calling e (left_of c)

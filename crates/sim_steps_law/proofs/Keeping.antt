@@ -50,7 +50,10 @@ few_held most e hs h = record { each = more_at most hs e.0 h.each }
 -- an event that goes where nobody holds it
 pub few_gone : (most : ℕ) (e : EventId) (hs : List (Option ℕ)) → AreFew most hs → AreFew most (gone_if_unheld e hs)
 few_gone most e hs h =
-    record { each = All-set (AtMost most) hs e.0 (none_if_unheld (slice_index_or hs e.0 None)) (still (slice_index_or hs e.0 None) (at_place hs e.0 h.each)) h.each }
+    record {
+      each = All-set (AtMost most) hs e.0 (none_if_unheld (slice_index_or hs e.0 None))
+          (still (slice_index_or hs e.0 None) (at_place hs e.0 h.each)) h.each;
+    }
   where
     still : (x : Option ℕ) → AtMost most x → AtMost most (none_if_unheld x)
     still None k = tt

@@ -51,11 +51,13 @@ named_all P keeps kept (y ∷ places) h =
     (named_all P keeps kept places (All-tail (λ y. (is_class y.class class.Number || keeps y.event) ≡ true) y places h))
   where
     at : (b : Bool) → (b || keeps y.event) ≡ true → All P (map (λ y. y.event) (filter (λ y. not (is_class y.class class.Number)) places)) →
-        All P (map (λ y. y.event) (if not b then y ∷ filter (λ y. not (is_class y.class class.Number)) places else filter (λ y. not (is_class y.class class.Number)) places))
+        All P (map (λ y. y.event) (if not b then y ∷ filter (λ y. not (is_class y.class class.Number)) places
+        else filter (λ y. not (is_class y.class class.Number)) places))
     at true is later = later
     at false is later = All-cons P y.event _ (kept y.event is) later
 
-module _ {B Code : Type 0} (body : BodyOf B Code) (parts : PartsOf B Code) (h : StandsForSome body parts) (needed : AreNeeded parts.shared.happen.events) where
+module _ {B Code : Type 0} (body : BodyOf B Code) (parts : PartsOf B Code)
+    (h : StandsForSome body parts) (needed : AreNeeded parts.shared.happen.events) where
   abbrev Kept : EventId → Type 0
   Kept e = IsKept parts.shared.happen.events e
 
@@ -72,13 +74,15 @@ module _ {B Code : Type 0} (body : BodyOf B Code) (parts : PartsOf B Code) (h : 
   pub calling_kept : (event : EventId) → IsCalling event parts.control → IsKept parts.shared.happen.events event
   calling_kept event calling =
       kept_here event
-      (process_kept (plan_of body parts) (body.tell parts.code) (body.sound parts.code) h.state h.lawful event (subst (λ c. is_in_process c event ≡ true) h.stands.control (called_in_process parts.control event calling)))
+      (process_kept (plan_of body parts) (body.tell parts.code) (body.sound parts.code) h.state h.lawful event
+      (subst (λ c. is_in_process c event ≡ true) h.stands.control (called_in_process parts.control event calling)))
 
   -- the event that a process made and is told of
   pub made_kept : (event : EventId) (p : ProcId) (e : EventId) → IsRunning event p (signal.Made e) parts.control → IsKept parts.shared.happen.events e
   made_kept event p e running =
       let is = running_is parts.control event p (signal.Made e) running in
-      kept_here e (told_kept (plan_of body parts) (body.tell parts.code) (body.sound parts.code) h.state h.lawful event is.0 p e (sym h.stands.control ∙ is.1))
+      kept_here e (told_kept (plan_of body parts) (body.tell parts.code)
+      (body.sound parts.code) h.state h.lawful event is.0 p e (sym h.stands.control ∙ is.1))
 
   -- what the callback names that is called next
   pub called_kept : (event : EventId) (x : Callback) (left : List Callback) → parts.control ≡ Calling event (x ∷ left) →
@@ -86,7 +90,8 @@ module _ {B Code : Type 0} (body : BodyOf B Code) (parts : PartsOf B Code) (h : 
   called_kept event x left is =
       let calling : h.state.control ≡ Calling event (x ∷ left) = sym h.stands.control ∙ is in
       let names : Callback → Bool = names_kept parts.setup.events (body.tell parts.code) h.state in
-      let all : AllPass names (left_of h.state.control) = left_kept (plan_of body parts) (body.tell parts.code) (body.sound parts.code) h.state h.lawful (ap is_over calling) in
+      let all : AllPass names (left_of h.state.control) =
+      left_kept (plan_of body parts) (body.tell parts.code) (body.sound parts.code) h.state h.lawful (ap is_over calling) in
       All-head (λ y. names y ≡ true) x left (subst (λ c. AllPass names (left_of c)) calling all)
 
   -- ---- what is named, due and used, and what waits
@@ -97,13 +102,15 @@ module _ {B Code : Type 0} (body : BodyOf B Code) (parts : PartsOf B Code) (h : 
 
   pub all_waiters_kept : All (λ w. IsKept parts.shared.happen.events w.event) h.state.facilities.waiters
   all_waiters_kept =
-      All-weaker (λ w. is_kept parts.setup.events (body.tell parts.code) h.state w.event ≡ true) (λ w. Kept w.event) (λ w. kept_here w.event) h.state.facilities.waiters
+      All-weaker (λ w. is_kept parts.setup.events (body.tell parts.code) h.state w.event ≡ true)
+      (λ w. Kept w.event) (λ w. kept_here w.event) h.state.facilities.waiters
       (waiters_kept (plan_of body parts) (body.tell parts.code) (body.sound parts.code) h.state h.lawful)
 
   -- the requests of all open scopes
   pub all_scopes_kept : All (λ x. IsKept parts.shared.happen.events x.request) h.state.scopes
   all_scopes_kept =
-      All-weaker (λ x. is_kept parts.setup.events (body.tell parts.code) h.state x.request ≡ true) (λ x. Kept x.request) (λ x. kept_here x.request) h.state.scopes
+      All-weaker (λ x. is_kept parts.setup.events (body.tell parts.code) h.state x.request ≡ true)
+      (λ x. Kept x.request) (λ x. kept_here x.request) h.state.scopes
       (scopes_kept (plan_of body parts) (body.tell parts.code) (body.sound parts.code) h.state h.lawful)
 
   -- ---- a live process, and its record
@@ -130,14 +137,16 @@ module _ {B Code : Type 0} (body : BodyOf B Code) (parts : PartsOf B Code) (h : 
         (processes_kept (plan_of body parts) (body.tell parts.code) (body.sound parts.code) h.state h.lawful))
 
     pub alive_kept : IsKept parts.shared.happen.events (event_of p)
-    alive_kept = subst (λ q. IsKept parts.shared.happen.events (event_of q)) (is_process-yes r.id p (find_passes (λ x. x.id.0 == p.0) parts.live r found)) own_kept
+    alive_kept = subst (λ q. IsKept parts.shared.happen.events (event_of q))
+        (is_process-yes r.id p (find_passes (λ x. x.id.0 == p.0) parts.live r found)) own_kept
 
     -- the requests of its open scopes
     pub own_scopes_kept : All (λ x. IsKept parts.shared.happen.events x.request) r.scopes
     own_scopes_kept =
         let test : OpenScope → Bool = λ x. is_process x.process r.id in
         let scope : OpenScope → Scope = λ x. record { request = x.request; res = x.res } in
-        let told : r.scopes ≡ scopes_of r.id h.state = find_has (λ x. x.scopes ≡ scopes_of x.id h.state) (λ x. x.id.0 == p.0) parts.live r found h.stands.scopes in
+        let told : r.scopes ≡ scopes_of r.id h.state =
+        find_has (λ x. x.scopes ≡ scopes_of x.id h.state) (λ x. x.id.0 == p.0) parts.live r found h.stands.scopes in
         subst (All (λ x. Kept x.request)) (sym told)
         (All-map (λ x. Kept x.request) scope (filter test h.state.scopes) (All-filter test (λ x. Kept x.request) h.state.scopes all_scopes_kept))
 
@@ -145,8 +154,10 @@ module _ {B Code : Type 0} (body : BodyOf B Code) (parts : PartsOf B Code) (h : 
     pub all_places_kept : All (IsKept parts.shared.happen.events) (named_in_places (body.tell parts.code) r.body)
     all_places_kept =
         named_all Kept (λ e. is_kept parts.setup.events (body.tell parts.code) h.state e) kept_here ((body.tell parts.code).places r.body)
-        (find_has (λ z. All (λ y. (is_class y.class class.Number || is_kept parts.setup.events (body.tell parts.code) h.state y.event) ≡ true) ((body.tell parts.code).places z.body))
-        tests h.state.processes (process_of r) here (places_kept (plan_of body parts) (body.tell parts.code) (body.sound parts.code) h.state h.lawful))
+        (find_has (λ z. All (λ y. (is_class y.class class.Number || is_kept parts.setup.events (body.tell parts.code) h.state y.event) ≡ true)
+        ((body.tell parts.code).places z.body))
+        tests h.state.processes (process_of r) here
+        (places_kept (plan_of body parts) (body.tell parts.code) (body.sound parts.code) h.state h.lawful))
 
     pub placed_kept : All (IsKept parts.shared.happen.events) (but_zero (named_in_places (body.tell parts.code) r.body))
     placed_kept = All-filter (λ e. not (e.0 == 0)) Kept (named_in_places (body.tell parts.code) r.body) all_places_kept

@@ -65,8 +65,10 @@ first_left {B} p s apart = at (first_of_list (scopes_inwards p s)) refl
     at (Some z) is =
         let mine : OpenScope → Bool = λ x. is_process x.process p in
         let own : List OpenScope = filter mine s.scopes in
-        let whole : scopes_inwards p s ≡ z ∷ reverse (filter (keeps z.request) own) = inwards_left own z (AllPairs-filter AreOfTwo mine s.scopes apart) is in
-        ap (λ xs. fold close_scope (close_scope s z) (reverse xs)) (filter_swap mine (keeps z.request) s.scopes) ∙ sym (ap (λ xs. fold close_scope s xs) whole)
+        let whole : scopes_inwards p s ≡ z ∷ reverse (filter (keeps z.request) own) =
+        inwards_left own z (AllPairs-filter AreOfTwo mine s.scopes apart) is in
+        ap (λ xs. fold close_scope (close_scope s z) (reverse xs)) (filter_swap mine (keeps z.request) s.scopes)
+        ∙ sym (ap (λ xs. fold close_scope s xs) whole)
 
 -- and where none is open, nothing is done
 pub none_left : {B : Type 0} (p : ProcId) (s : State B) → filter (λ x. is_process x.process p) s.scopes ≡ [] → leave_all p s ≡ s
@@ -128,11 +130,17 @@ pub record LeavesSome {B Code : Type 0} (body : BodyOf B Code) (p : ProcId) (a b
   pub events : a.shared.happen.spare.events ≤ b.shared.happen.spare.events + gone
   pub callbacks : a.shared.happen.spare.callbacks ≤ b.shared.happen.spare.callbacks + gone
 
-pub leaves_first : {B Code : Type 0} {body : BodyOf B Code} (p : ProcId) (a : PartsOf B Code) (r : RecordOf B) → record_of p a.live ≡ Some r → CanLeave body a → LeavesSome body p a a
+pub leaves_first : {B Code : Type 0} {body : BodyOf B Code} (p : ProcId) (a : PartsOf B Code) (r : RecordOf B) → record_of p a.live ≡ Some r →
+    CanLeave body a → LeavesSome body p a a
 leaves_first p a r found can =
     record {
       does = λ s. s;
-      becomes = record { each = λ s h. h; accounts = λ todo s h k. k; opened = record { code = refl; setup = refl; seed = refl }; few = few_same a a refl };
+      becomes = record {
+        each = λ s h. h;
+        accounts = λ todo s h k. k;
+        opened = record { code = refl; setup = refl; seed = refl };
+        few = few_same a a refl;
+      };
       same = λ s h. refl;
       can = can;
       was = r;
@@ -152,7 +160,8 @@ pub still_some : {B Code : Type 0} {body : BodyOf B Code} (p : ProcId) (a b : Pa
     is_some (option_and_then (λ r. innermost r.scopes) (record_of p b.live)) ≡ is_some (innermost l.still)
 still_some {B} p a b l = ap (λ (o : Option (RecordOf B)). is_some (option_and_then (λ r. innermost r.scopes) o)) l.now
 
-pub leaves_next : {B Code : Type 0} {body : BodyOf B Code} (p : ProcId) (a b c : PartsOf B Code) (l : LeavesSome body p a b) → is_some (innermost l.still) ≡ true → LeavesInnermost body p b c →
+pub leaves_next : {B Code : Type 0} {body : BodyOf B Code} (p : ProcId) (a b c : PartsOf B Code) (l : LeavesSome body p a b) →
+    is_some (innermost l.still) ≡ true → LeavesInnermost body p b c →
     LeavesSome body p a c
 leaves_next {B} {Code} p a b c l some k =
     let fewer : length l.still ≡ length (without_innermost l.still) + 1 = some_within l.still some in
@@ -176,12 +185,14 @@ leaves_next {B} {Code} p a b c l some k =
     }
 
 -- fewer scopes are open than before
-pub leaves_fewer : {B Code : Type 0} {body : BodyOf B Code} (p : ProcId) (a b : PartsOf B Code) (l : LeavesSome body p a b) → is_some (innermost l.still) ≡ true →
+pub leaves_fewer : {B Code : Type 0} {body : BodyOf B Code} (p : ProcId) (a b : PartsOf B Code) (l : LeavesSome body p a b) →
+    is_some (innermost l.still) ≡ true →
     length (without_innermost l.still) < length l.still
 leaves_fewer p a b l some = omega (arith, some_within l.still some)
 
 -- when none is open any more, all were left
-pub leaves_last : {B Code : Type 0} {body : BodyOf B Code} (p : ProcId) (a b c : PartsOf B Code) (l : LeavesSome body p a b) → is_some (innermost l.still) ≡ false → LeavesInnermost body p b c →
+pub leaves_last : {B Code : Type 0} {body : BodyOf B Code} (p : ProcId) (a b c : PartsOf B Code) (l : LeavesSome body p a b) →
+    is_some (innermost l.still) ≡ false → LeavesInnermost body p b c →
     LeavesAll body p a c
 leaves_last {B} {Code} p a b c l none k =
     let over : l.still ≡ [] = none_within l.still none in
@@ -189,13 +200,15 @@ leaves_last {B} {Code} p a b c l none k =
     let popped : RecordOf B → RecordOf B = λ r. record r { scopes = without_innermost r.scopes } in
     let now : record_of p b.live ≡ Some (with_scopes []) = l.now ∙ ap (λ xs. Some (with_scopes xs)) over in
     let later : record_of p c.live ≡ Some (with_scopes []) =
-    ap (λ (live : List (RecordOf B)). record_of p live) k.live ∙ (record_changed p popped (λ r. refl) b.live ∙ ap (λ (o : Option (RecordOf B)). option_map popped o) now) in
+    ap (λ (live : List (RecordOf B)). record_of p live) k.live
+    ∙ (record_changed p popped (λ r. refl) b.live ∙ ap (λ (o : Option (RecordOf B)). option_map popped o) now) in
     record {
       becomes = becomes_as (λ s. leave_innermost p (l.does s)) (leave_all p) a c
           (λ s h.
           let t : State B = l.does s in
           let at : Stands b t = l.becomes.each s h in
-          sym (none_left p (leave_innermost p t) (none_found c p (with_scopes []) later refl (leave_innermost p t) (k.becomes.each t at))) ∙ (first_left p t at.apart ∙ l.same s h))
+          sym (none_left p (leave_innermost p t) (none_found c p (with_scopes []) later refl (leave_innermost p t) (k.becomes.each t at)))
+          ∙ (first_left p t at.apart ∙ l.same s h))
           (becomes_then l.does (leave_innermost p) a b c l.becomes k.becomes);
       can = k.can;
       found = later ∙ sym (ap (λ (o : Option (RecordOf B)). option_map without_scopes o) l.before);
@@ -228,14 +241,16 @@ module _ {B Code : Type 0} {body : BodyOf B Code} (p : ProcId) {a b : PartsOf B 
         let over : is_some (innermost l.still) ≡ true = sym (still_some p a b l) ∙ one in
         let popped : RecordOf B → RecordOf B = λ r. record r { scopes = without_innermost r.scopes } in
         let later : record_of p c.live ≡ Some (record l.was { scopes = without_innermost l.still }) =
-        ap (λ (live : List (RecordOf B)). record_of p live) k.live ∙ (record_changed p popped (λ r. refl) b.live ∙ ap (λ (o : Option (RecordOf B)). option_map popped o) l.now) in
+        ap (λ (live : List (RecordOf B)). record_of p live) k.live
+        ∙ (record_changed p popped (λ r. refl) b.live ∙ ap (λ (o : Option (RecordOf B)). option_map popped o) l.now) in
         omega (arith, ap scope_count later, ap scope_count l.now, leaves_fewer p a b l over)
 
     -- where none was, all were left
     pub some_last : HasOne false → LeavesAll body p a c
     some_last none = leaves_last p a b c l (sym (still_some p a b l) ∙ none) k
 
-pub leaves_start : {B Code : Type 0} {body : BodyOf B Code} (p : ProcId) (a : PartsOf B Code) → IsSomeAnd (record_of p a.live) (λ r. length r.scopes ≤ most_scopes) →
+pub leaves_start : {B Code : Type 0} {body : BodyOf B Code} (p : ProcId) (a : PartsOf B Code) →
+    IsSomeAnd (record_of p a.live) (λ r. length r.scopes ≤ most_scopes) →
     CanLeave body a → LeavesSome body p a a
 leaves_start {B} {Code} {body} p a few can = at (record_of p a.live) refl few
   where

@@ -91,7 +91,11 @@ module _ {B : Type 0} (rs : List Resource) (s : State B) (z : OpenScope) where
       All-filter (λ y. not (is_same y.request z.request)) (CanBeLeft rs left_now) s.scopes
       (All-weaker (CanBeLeft rs f) (CanBeLeft rs left_now) (λ y can.
       let P : Waiter → Type 0 = λ w. is_same w.event y.request ≡ true → w.res ≡ y.res in
-      record { there = can.there; slots = can.slots; alone = All-same P left_now.waiters (filter stays f.waiters) fewer_wait (All-filter stays P f.waiters can.alone) }) s.scopes h)
+      record {
+        there = can.there;
+        slots = can.slots;
+        alone = All-same P left_now.waiters (filter stays f.waiters) fewer_wait (All-filter stays P f.waiters can.alone);
+      }) s.scopes h)
 
 -- ---- the innermost is left
 
@@ -114,7 +118,8 @@ module _ {B Code : Type 0} {body : BodyOf B Code} (a : PartsOf B Code) (p : Proc
   can_scope = one_has (CanBeLeft a.setup.resources now.facilities) now.scopes scope can.each (innermost_among p now scope first)
 
   pub leaving_within : x.res < length a.shared.setup
-  leaving_within = subst (λ (v : Scope). v.res < length a.shared.setup) same_scope (subst (λ rs. scope.res < length rs) (sym resources) can_scope.there)
+  leaving_within = subst (λ (v : Scope). v.res < length a.shared.setup) same_scope
+      (subst (λ rs. scope.res < length rs) (sym resources) can_scope.there)
 
   pub leaving_slots : takes_requests (resource_at a.shared.setup x.res).kind ≡ true
   leaving_slots =
@@ -123,14 +128,16 @@ module _ {B Code : Type 0} {body : BodyOf B Code} (a : PartsOf B Code) (p : Proc
 
   pub leaving_here : WaitsAtMostAt x.request x.res a.shared
   leaving_here =
-      subst (λ (v : Scope). WaitsAtMostAt v.request v.res a.shared) same_scope (alone_shown a.shared now.facilities scope.request scope.res can.stands.stands.facilities can_scope.alone)
+      subst (λ (v : Scope). WaitsAtMostAt v.request v.res a.shared) same_scope
+      (alone_shown a.shared now.facilities scope.request scope.res can.stands.stands.facilities can_scope.alone)
 
   -- an open scope holds its request
   request_held : gone_if_unheld x.request (held a.shared.happen) ≡ held a.shared.happen
   request_held =
       let alone : EventId → ℕ = held_alone a.setup.events (body.tell a.code) now in
       let some : 0 < alone scope.request =
-      held_in_scope a.setup.events (body.tell a.code) now scope.request (any_one (λ v. is_same v.request scope.request) now.scopes scope (is_same-self scope.request) (innermost_among p now scope first)) in
+      held_in_scope a.setup.events (body.tell a.code) now scope.request
+      (any_one (λ v. is_same v.request scope.request) now.scopes scope (is_same-self scope.request) (innermost_among p now scope first)) in
       subst (λ (v : Scope). gone_if_unheld v.request (held a.shared.happen) ≡ held a.shared.happen) same_scope
       (held_stays alone scope.request can.owed a.shared.happen can.balances.holders (omega (arith, some)))
 
@@ -165,7 +172,12 @@ module _ {B Code : Type 0} {body : BodyOf B Code} (a : PartsOf B Code) (p : Proc
           owned = k.owned;
           apart = k.apart;
           entered = entered_still (calendar t) (leaves t.facilities).calendar t.scopes
-              (omega (arith, no_fewer 0 unheld_event a.shared.happen y.happen (adds_unheld 1) holders_left, k.stands.facilities.calendar.made, (shows k.stands.facilities).calendar.made)) k.entered;
+              (omega (
+                arith,
+                no_fewer 0 unheld_event a.shared.happen y.happen (adds_unheld 1) holders_left,
+                k.stands.facilities.calendar.made,
+                (shows k.stands.facilities).calendar.made,
+              )) k.entered;
         } in
         subst (λ (o : Option OpenScope). Stands m (close_if_any o s)) (sym z.1) stood
 
@@ -180,29 +192,42 @@ module _ {B Code : Type 0} {body : BodyOf B Code} (a : PartsOf B Code) (p : Proc
         plainly : (s : State B) → Stands a s → ComesPlainly (calendar s) (calendar (leave_innermost p s))
         plainly s h =
             let z = innermost_found a p r found x last s h in
-            subst (λ (o : Option OpenScope). ComesPlainly (calendar s) (calendar (close_if_any o s))) (sym z.1) (plainly_left z.0.res z.0.request s.facilities)
+            subst (λ (o : Option OpenScope). ComesPlainly (calendar s) (calendar (close_if_any o s)))
+            (sym z.1) (plainly_left z.0.res z.0.request s.facilities)
 
         trades : (s : State B) → Stands a s → StatesTrade a.setup.events (body.tell a.code) [] (but_zero (x.request ∷ [])) s (leave_innermost p s)
         trades s h =
             let z = innermost_found a p r found x last s h in
             let only : HasOnlyScope z.0.request s =
-            record { is_open = any_one (λ v. is_same v.request z.0.request) s.scopes z.0 (is_same-self z.0.request) (innermost_among p s z.0 z.1); apart = h.apart } in
-            subst (λ (o : Option OpenScope). StatesTrade a.setup.events (body.tell a.code) [] (but_zero (x.request ∷ [])) s (close_if_any o s)) (sym z.1)
-            (subst (λ (v : Scope). StatesTrade a.setup.events (body.tell a.code) [] (but_zero (v.request ∷ [])) s (close_scope s z.0)) z.2 (left_trade a.setup.events (body.tell a.code) s z.0 only))
+            record {
+              is_open = any_one (λ v. is_same v.request z.0.request) s.scopes z.0 (is_same-self z.0.request) (innermost_among p s z.0 z.1);
+              apart = h.apart;
+            } in
+            subst (λ (o : Option OpenScope). StatesTrade a.setup.events (body.tell a.code) [] (but_zero (x.request ∷ [])) s (close_if_any o s))
+            (sym z.1)
+            (subst (λ (v : Scope). StatesTrade a.setup.events (body.tell a.code) [] (but_zero (v.request ∷ [])) s (close_scope s z.0)) z.2
+            (left_trade a.setup.events (body.tell a.code) s z.0 only))
 
     pub left_owing : IsOwing body (but_zero (x.request ∷ [])) m
-    left_owing = owing_after (leave_innermost p) a m leaves_owing (record { state = now; stands = can.stands; others = can.owed; balances = can.balances })
+    left_owing = owing_after (leave_innermost p) a m leaves_owing
+        (record { state = now; stands = can.stands; others = can.owed; balances = can.balances })
 
-    module _ (n : PartsOf B Code) (room : LeavesRoom a.shared.happen y.happen) (back : BecomesOwing body (but_zero (x.request ∷ [])) [] 0 (λ s. s) m n)
+    module _ (n : PartsOf B Code) (room : LeavesRoom a.shared.happen y.happen)
+        (back : BecomesOwing body (but_zero (x.request ∷ [])) [] 0 (λ s. s) m n)
         (returns : ReturnsHolder y.happen n.shared.happen) (rest : KeepsButHappen m n) where
       becomes_left : Becomes body (leave_innermost p) a n
       becomes_left = becomes_then (leave_innermost p) (λ s. s) a m n leaves_owing back
 
       left_can : CanLeave body n
       left_can =
-          let at : Facilities → List OpenScope → Type 0 = λ f scopes. All (λ w. IsOpenIn f.calendar w.event) f.waiters × All (CanBeLeft n.setup.resources f) scopes in
-          let after = subst (λ (o : Option OpenScope). at (close_if_any o now).facilities (close_if_any o now).scopes) (sym first)
-          (waiting_still n.setup.resources now scope can.waiting, others_can n.setup.resources now scope (subst (λ rs. All (CanBeLeft rs now.facilities) now.scopes) (sym (ap (λ (v : Setup). v.resources) becomes_left.opened.setup)) can.each)) in
+          let at : Facilities → List OpenScope → Type 0 =
+          λ f scopes. All (λ w. IsOpenIn f.calendar w.event) f.waiters × All (CanBeLeft n.setup.resources f) scopes in
+          let after = subst (λ (o : Option OpenScope). at (close_if_any o now).facilities (close_if_any o now).scopes) (sym first) (
+            waiting_still n.setup.resources now scope can.waiting,
+            others_can n.setup.resources now scope
+                (subst (λ rs. All (CanBeLeft rs now.facilities) now.scopes)
+                (sym (ap (λ (v : Setup). v.resources) becomes_left.opened.setup)) can.each),
+          ) in
           record {
             state = leave_innermost p now;
             stands = becomes_left.each now can.stands;
@@ -232,7 +257,8 @@ module _ {B Code : Type 0} {body : BodyOf B Code} (a : PartsOf B Code) (p : Proc
           }
 
 -- where none is open, nothing is done
-pub leaves_none : {B Code : Type 0} {body : BodyOf B Code} (p : ProcId) (a n : PartsOf B Code) (r : RecordOf B) → record_of p a.live ≡ Some r → r.scopes ≡ [] → CanLeave body a →
+pub leaves_none : {B Code : Type 0} {body : BodyOf B Code} (p : ProcId) (a n : PartsOf B Code) (r : RecordOf B) → record_of p a.live ≡ Some r →
+    r.scopes ≡ [] → CanLeave body a →
     n ≡ record a { live = change_record p (λ q. record q { scopes = without_innermost q.scopes }) a.live } → LeavesInnermost body p a n
 leaves_none {B} {Code} {body} p a n r found none can is =
     let popped : RecordOf B → RecordOf B = λ q. record q { scopes = without_innermost q.scopes } in
@@ -243,7 +269,12 @@ leaves_none {B} {Code} {body} p a n r found none can is =
     (record {
       becomes = becomes_as (λ s. s) (leave_innermost p) a a
           (λ s h. sym (ap (λ (xs : List OpenScope). close_if_any (first_of_list (reverse xs)) s) (none_found a p r found none s h)))
-          (record { each = λ s h. h; accounts = λ todo s h k. k; opened = record { code = refl; setup = refl; seed = refl }; few = few_same a a refl });
+          (record {
+            each = λ s h. h;
+            accounts = λ todo s h k. k;
+            opened = record { code = refl; setup = refl; seed = refl };
+            few = few_same a a refl;
+          });
       can = can;
       live = sym live;
       control = refl;
@@ -264,7 +295,8 @@ leaves_none {B} {Code} {body} p a n r found none can is =
     unchanged s own (q ∷ live) h =
         let change : RecordOf B → RecordOf B = λ q. record q { scopes = without_innermost q.scopes } in
         ap (λ (v : RecordOf B). v ∷ change_record p change live)
-        (one_same q (q.id.0 == p.0) (λ is. All-head (λ v. v.scopes ≡ scopes_of v.id s) q live h ∙ (ap (λ i. scopes_of i s) (is_process-yes q.id p is) ∙ own)))
+        (one_same q (q.id.0 == p.0)
+        (λ is. All-head (λ v. v.scopes ≡ scopes_of v.id s) q live h ∙ (ap (λ i. scopes_of i s) (is_process-yes q.id p is) ∙ own)))
         ∙ ap (λ xs. q ∷ xs) (unchanged s own live (All-tail (λ v. v.scopes ≡ scopes_of v.id s) q live h))
 
 -- ---- the same, by what the record of the process has for its innermost scope
@@ -288,7 +320,8 @@ pub record MayLeave (x : Scope) (h : SharedOf) : Type 0 where
 abbrev HasInnermost : {B : Type 0} → Option Scope → ProcId → List (RecordOf B) → Type 0
 HasInnermost o p live = o ≡ option_and_then (λ r. innermost r.scopes) (record_of p live)
 
-pub may_leave : {B Code : Type 0} {body : BodyOf B Code} {a : PartsOf B Code} (p : ProcId) (x : Scope) → CanLeave body a → a.shared.setup ≡ a.setup.resources →
+pub may_leave : {B Code : Type 0} {body : BodyOf B Code} {a : PartsOf B Code} (p : ProcId) (x : Scope) → CanLeave body a →
+    a.shared.setup ≡ a.setup.resources →
     HasInnermost (Some x) p a.live → MayLeave x a.shared
 may_leave {B} {Code} {body} {a} p x can resources last =
     let own = found_scope innermost (record_of p a.live) x last in
@@ -300,7 +333,8 @@ may_leave {B} {Code} {body} {a} p x can resources last =
     }
 
 -- its holder is to be given back then
-pub left_owed : {B Code : Type 0} {body : BodyOf B Code} {a : PartsOf B Code} (waited : Bool) (p : ProcId) (x : Scope) (y : SharedOf) (m : PartsOf B Code) →
+pub left_owed : {B Code : Type 0} {body : BodyOf B Code} {a : PartsOf B Code}
+    (waited : Bool) (p : ProcId) (x : Scope) (y : SharedOf) (m : PartsOf B Code) →
     CanLeave body a → a.shared.setup ≡ a.setup.resources → HasInnermost (Some x) p a.live →
     TurnsAll (requests.leave x.res x.request) (λ hs. unheld_event (gone_if_waits waited x.request hs)) a.shared y →
     m ≡ record a { shared = y; live = change_record p (λ r. record r { scopes = without_innermost r.scopes }) a.live } →
@@ -310,23 +344,30 @@ left_owed {B} {Code} {body} {a} waited p x y m can resources last left is =
     subst (IsOwing body (but_zero (x.request ∷ []))) (sym is) (left_owing a p own.0 x own.1 own.2 can resources y waited left)
 
 -- and once it is given back, the scope is left
-pub left_scope : {B Code : Type 0} {body : BodyOf B Code} {a m : PartsOf B Code} (waited : Bool) (p : ProcId) (x : Scope) (y : SharedOf) (n : PartsOf B Code) →
-    CanLeave body a → BecomesOwing body (but_zero (x.request ∷ [])) [] 0 (λ s. s) m n → ReturnsHolder m.shared.happen n.shared.happen → KeepsButHappen m n →
+pub left_scope : {B Code : Type 0} {body : BodyOf B Code} {a m : PartsOf B Code}
+    (waited : Bool) (p : ProcId) (x : Scope) (y : SharedOf) (n : PartsOf B Code) →
+    CanLeave body a → BecomesOwing body (but_zero (x.request ∷ [])) [] 0 (λ s. s) m n → ReturnsHolder m.shared.happen n.shared.happen →
+    KeepsButHappen m n →
     a.shared.setup ≡ a.setup.resources → HasInnermost (Some x) p a.live →
-    TurnsAll (requests.leave x.res x.request) (λ hs. unheld_event (gone_if_waits waited x.request hs)) a.shared y → LeavesRoom a.shared.happen y.happen →
+    TurnsAll (requests.leave x.res x.request) (λ hs. unheld_event (gone_if_waits waited x.request hs)) a.shared y →
+    LeavesRoom a.shared.happen y.happen →
     m ≡ record a { shared = y; live = change_record p (λ r. record r { scopes = without_innermost r.scopes }) a.live } → LeavesInnermost body p a n
 left_scope {B} {Code} {body} {a} {m} waited p x y n can back returns rest resources last left room is =
     let own = found_scope innermost (record_of p a.live) x last in
     leaves_innermost a p own.0 x own.1 own.2 can resources y waited left n room
     (subst (λ (v : PartsOf B Code). BecomesOwing body (but_zero (x.request ∷ [])) [] 0 (λ s. s) v n) is back)
-    (subst (λ (v : PartsOf B Code). ReturnsHolder v.shared.happen n.shared.happen) is returns) (subst (λ (v : PartsOf B Code). KeepsButHappen v n) is rest)
+    (subst (λ (v : PartsOf B Code). ReturnsHolder v.shared.happen n.shared.happen) is returns)
+    (subst (λ (v : PartsOf B Code). KeepsButHappen v n) is rest)
 
 -- where there is none, nothing is done
-pub left_none : {B Code : Type 0} {body : BodyOf B Code} {a : PartsOf B Code} (p : ProcId) (n : PartsOf B Code) → CanLeave body a → IsSome (record_of p a.live) →
-    HasInnermost None p a.live → n ≡ record a { live = change_record p (λ r. record r { scopes = without_innermost r.scopes }) a.live } → LeavesInnermost body p a n
+pub left_none : {B Code : Type 0} {body : BodyOf B Code} {a : PartsOf B Code} (p : ProcId) (n : PartsOf B Code) → CanLeave body a →
+    IsSome (record_of p a.live) →
+    HasInnermost None p a.live → n ≡ record a { live = change_record p (λ r. record r { scopes = without_innermost r.scopes }) a.live } →
+    LeavesInnermost body p a n
 left_none {B} {Code} {body} {a} p n can alive last is = at (record_of p a.live) refl alive last
   where
-    at : (o : Option (RecordOf B)) → record_of p a.live ≡ o → IsSome o → None ≡ option_and_then (λ r. innermost r.scopes) o → LeavesInnermost body p a n
+    at : (o : Option (RecordOf B)) → record_of p a.live ≡ o → IsSome o → None ≡ option_and_then (λ r. innermost r.scopes) o →
+        LeavesInnermost body p a n
     at None found some none = absurd (false≢true some)
     at (Some r) found some none = leaves_none p a n r found (none_innermost r.scopes (sym none)) can is
 

@@ -68,7 +68,8 @@ turns_process a m i r b event init made is begun is_init registered scheduled =
     let resume : Callback = callback.Resume (record { 0 = event.0 }) in
     let two : Calendar → Calendar = λ c. make kind.Init (make kind.Process c) in
     let both : Turns two two_unheld a i = turns_then (make kind.Process) (make kind.Init) unheld_event unheld_event a m i made begun in
-    let three : Turns (λ c. register init resume (two c)) two_unheld a r = turns_then two (register init resume) two_unheld as_before a i r both registered in
+    let three : Turns (λ c. register init resume (two c)) two_unheld a r =
+    turns_then two (register init resume) two_unheld as_before a i r both registered in
     turns_as (steps_of_process event init) make_events_of_process two_unheld a b
     (λ c s. same_steps a m event init c is is_init s (made.each c s))
     (turns_then (λ c. register init resume (two c)) (schedule init (outcome.Ok (pos 0)) urgent (pos 0)) two_unheld as_before a r b three scheduled)
@@ -85,10 +86,15 @@ sets_stop time a m r b e made is registered scheduled =
     let two : Turns (λ c. register e callback.Stop (make kind.Stop c)) unheld_event a r =
     turns_then (make kind.Stop) (register e callback.Stop) unheld_event as_before a m r made registered in
     let all : Turns (steps_of_stop e time) unheld_event a b =
-    turns_then (λ c. register e callback.Stop (make kind.Stop c)) (schedule e (outcome.Ok (pos 0)) urgent time) unheld_event as_before a r b two scheduled in
+    turns_then (λ c. register e callback.Stop (make kind.Stop c))
+    (schedule e (outcome.Ok (pos 0)) urgent time) unheld_event as_before a r b two scheduled in
     record {
       made = 1;
-      turns = record { each = λ c s. subst (λ f. Shows b (steps_of_stop f time c)) (sym (next_is a c e is s)) (all.each c s); held = all.held; left = all.left };
+      turns = record {
+        each = λ c s. subst (λ f. Shows b (steps_of_stop f time c)) (sym (next_is a c e is s)) (all.each c s);
+        held = all.held;
+        left = all.left;
+      };
     }
 
 -- ---- named events
@@ -106,7 +112,8 @@ pub named_shown : (n : ℕ) (a b : HappenOf) → Turns (make kind.Plain) unheld_
 named_shown n a b t s = subst (Shows b) (named_more n) (t.each (first_calendar n) s)
 
 -- the resources as they open stay so while named events are made
-pub named_all : (n : ℕ) (a b : SharedOf) → b ≡ record a { happen = b.happen } → ShowsAll a (record { calendar = first_calendar 0; waiters = []; ledger = [] }) →
+pub named_all : (n : ℕ) (a b : SharedOf) → b ≡ record a { happen = b.happen } →
+    ShowsAll a (record { calendar = first_calendar 0; waiters = []; ledger = [] }) →
     Shows b.happen (first_calendar n) → ShowsAll b (record { calendar = first_calendar n; waiters = []; ledger = [] })
 named_all n a b is h s =
     let f : Facilities = record { calendar = first_calendar 0; waiters = []; ledger = [] } in

@@ -83,7 +83,8 @@ module _ (most : ℕ) (change : Facilities → Facilities) (a b : SharedOf) (som
       let long : length (held a.happen) ≡ e.0 = length-map a.happen.events holders_at ∙ sym same in
       let there : IsSome (slice_index_or (unheld_events m.made (held a.happen)) e.0 None) =
       subst (λ n. IsSome (slice_index_or (unheld_events m.made (held a.happen)) n None)) long (made_first m.made (held a.happen) some_made) in
-      kept_of (slice_index_or b.happen.events e.0 None) (subst IsSome (ap (λ (hs : List (Option ℕ)). slice_index_or hs e.0 None) (sym m.turns.held) ∙ held_at b.happen e) there)
+      kept_of (slice_index_or b.happen.events e.0 None)
+      (subst IsSome (ap (λ (hs : List (Option ℕ)). slice_index_or hs e.0 None) (sym m.turns.held) ∙ held_at b.happen e) there)
 
 -- room is left for callbacks
 room_left : (most : ℕ) (change : Facilities → Facilities) (a b : SharedOf) → MakesAll most change a b → most < a.happen.spare.callbacks →
@@ -97,7 +98,8 @@ allowed_amount : (b : Bool) → (false ≡ true ↔ b ≡ true) → b ≡ false
 allowed_amount true h = absurd (false≢true (h.1 refl))
 allowed_amount false h = refl
 
-pub move_made : {B Code : Type 0} {body : BodyOf B Code} (g : Plan B) (res : ℕ) (amount : ℤ) (change : Facilities → Facilities) (most : ℕ) (a n : PartsOf B Code) (e : EventId) →
+pub move_made : {B Code : Type 0} {body : BodyOf B Code} (g : Plan B) (res : ℕ) (amount : ℤ)
+    (change : Facilities → Facilities) (most : ℕ) (a n : PartsOf B Code) (e : EventId) →
     requests.is_refused_amount g.setup.resources res amount ≡ false → ((f : Facilities) → ComesPlainly f.calendar (change f).calendar) →
     MakesAll most change a.shared n.shared → e.0 ≡ length a.shared.happen.events →
     n ≡ record a { shared = n.shared } → ShowsSome a.shared → ((f : Facilities) → length f.calendar.events < length (change f).calendar.events) →
@@ -109,13 +111,15 @@ move_made {B} {Code} {body} g res amount change most a n e positive plainly made
       each = λ more_held after last does.
           becomes_as (λ s. after e (makes s)) (with_move g res amount change after) a last
           (λ s h. ap (λ f. after f (makes s)) (sym (next_is a.shared.happen (calendar s) e same h.stands.facilities.calendar)) ∙ rw positive refl)
-          (becomes_within (0 + more_held) more_held (λ s. after e (makes s)) a last (omega arith) (becomes_then makes (after e) a n last makes_it does));
+          (becomes_within (0 + more_held) more_held (λ s. after e (makes s)) a last
+          (omega arith) (becomes_then makes (after e) a n last makes_it does));
       itself = makes_it;
       kept = made_kept most change a.shared n.shared some (more some.facilities) made e same;
       room = room_left most change a.shared n.shared made room;
     }
 
-module _ {B Code : Type 0} {body : BodyOf B Code} (g : Plan B) (res : ℕ) (a n : PartsOf B Code) (e : EventId) (resources : a.shared.setup ≡ g.setup.resources)
+module _ {B Code : Type 0} {body : BodyOf B Code} (g : Plan B) (res : ℕ)
+    (a n : PartsOf B Code) (e : EventId) (resources : a.shared.setup ≡ g.setup.resources)
     (same : e.0 ≡ length a.shared.happen.events) (is : n ≡ record a { shared = n.shared }) (some : ShowsSome a.shared)
     (room : 64 ≤ a.shared.happen.spare.callbacks) where
   pub put_makes : (amount priority : ℤ) → (false ≡ true ↔ requests.is_refused_amount a.shared.setup res amount ≡ true) →
@@ -123,8 +127,10 @@ module _ {B Code : Type 0} {body : BodyOf B Code} (g : Plan B) (res : ℕ) (a n 
       MakesMove body g res amount (requests.make_put g.setup.resources res amount priority) e a n
   put_makes amount priority refused made =
       move_made g res amount (requests.make_put g.setup.resources res amount priority) 2 a n e
-      (subst (λ r. requests.is_refused_amount r res amount ≡ false) resources (allowed_amount (requests.is_refused_amount a.shared.setup res amount) refused))
-      (plainly_put g.setup.resources res amount priority) (subst (λ r. MakesAll 2 (requests.make_put r res amount priority) a.shared n.shared) resources made) same is some
+      (subst (λ r. requests.is_refused_amount r res amount ≡ false) resources
+      (allowed_amount (requests.is_refused_amount a.shared.setup res amount) refused))
+      (plainly_put g.setup.resources res amount priority)
+      (subst (λ r. MakesAll 2 (requests.make_put r res amount priority) a.shared n.shared) resources made) same is some
       (put_made_more g.setup.resources res kind.Put (Give amount priority) (callback.TryGet res)) (omega (arith, room))
 
   pub get_makes : (least greatest : ℤ) → (false ≡ true ↔ requests.is_refused_amount a.shared.setup res least ≡ true) →
@@ -132,11 +138,14 @@ module _ {B Code : Type 0} {body : BodyOf B Code} (g : Plan B) (res : ℕ) (a n 
       MakesMove body g res least (requests.make_get g.setup.resources res least greatest) e a n
   get_makes least greatest refused made =
       move_made g res least (requests.make_get g.setup.resources res least greatest) 1 a n e
-      (subst (λ r. requests.is_refused_amount r res least ≡ false) resources (allowed_amount (requests.is_refused_amount a.shared.setup res least) refused))
-      (plainly_get g.setup.resources res least greatest) (subst (λ r. MakesAll 1 (requests.make_get r res least greatest) a.shared n.shared) resources made) same is some
+      (subst (λ r. requests.is_refused_amount r res least ≡ false) resources
+      (allowed_amount (requests.is_refused_amount a.shared.setup res least) refused))
+      (plainly_get g.setup.resources res least greatest)
+      (subst (λ r. MakesAll 1 (requests.make_get r res least greatest) a.shared n.shared) resources made) same is some
       (get_made_more g.setup.resources res least greatest) (omega (arith, room))
 
-pub move_refused : {B Code : Type 0} {body : BodyOf B Code} (g : Plan B) (res : ℕ) (amount : ℤ) (change : Facilities → Facilities) (a n : PartsOf B Code) →
+pub move_refused : {B Code : Type 0} {body : BodyOf B Code} (g : Plan B) (res : ℕ)
+    (amount : ℤ) (change : Facilities → Facilities) (a n : PartsOf B Code) →
     a.shared.setup ≡ g.setup.resources → (true ≡ true ↔ requests.is_refused_amount a.shared.setup res amount ≡ true) →
     n ≡ record a { control = told_more (signal.Raised 2) a.control } → RefusesMove body g res amount change a n
 move_refused {B} {Code} {body} g res amount change a n resources refuses is =
@@ -155,9 +164,11 @@ module _ {B Code : Type 0} (body : BodyOf B Code) (a n : PartsOf B Code) (event 
   abbrev g : Plan B
   g = plan_of body a
 
-  pub try_put_called : (most : ℕ) → MakesAll most (try_put a.shared.setup res) a.shared n.shared → Becomes body (called g event (callback.TryPut res)) a n
+  pub try_put_called : (most : ℕ) → MakesAll most (try_put a.shared.setup res) a.shared n.shared →
+      Becomes body (called g event (callback.TryPut res)) a n
   try_put_called most tries =
-      let made : MakesAll most (try_put g.setup.resources res) a.shared n.shared = subst (λ r. MakesAll most (try_put r res) a.shared n.shared) resources tries in
+      let made : MakesAll most (try_put g.setup.resources res) a.shared n.shared =
+      subst (λ r. MakesAll most (try_put r res) a.shared n.shared) resources tries in
       let change : State B → State B = on_facilities (try_put g.setup.resources res) in
       subst (Becomes body (called g event (callback.TryPut res)) a) (sym is)
       (becomes_as change (called g event (callback.TryPut res)) a _ (λ s h. ap change (sym (stays_calling g a event s calling h)))
@@ -165,7 +176,8 @@ module _ {B Code : Type 0} (body : BodyOf B Code) (a n : PartsOf B Code) (event 
 
   pub try_get_called : FollowsAll (try_get a.shared.setup res) a.shared n.shared → Becomes body (called g event (callback.TryGet res)) a n
   try_get_called tries =
-      let follows : FollowsAll (try_get g.setup.resources res) a.shared n.shared = subst (λ r. FollowsAll (try_get r res) a.shared n.shared) resources tries in
+      let follows : FollowsAll (try_get g.setup.resources res) a.shared n.shared =
+      subst (λ r. FollowsAll (try_get r res) a.shared n.shared) resources tries in
       let change : State B → State B = on_facilities (try_get g.setup.resources res) in
       subst (Becomes body (called g event (callback.TryGet res)) a) (sym is)
       (becomes_as change (called g event (callback.TryGet res)) a _ (λ s h. ap change (sym (stays_calling g a event s calling h)))
@@ -201,7 +213,8 @@ module _ {B Code : Type 0} (a n : PartsOf B Code) (y : SharedOf) (e : EventId) (
       let below : e.0 < length hs = omega (arith, made, length-map a.shared.happen.events holders_at) in
       let members : members_of d e ≡ [] =
       (plainly_cancelled_waiter e s.facilities).none.members e
-      ∙ (ap (λ (x : EventOf). (condition_of x.condition).members) (sym (read_is a.shared.happen c e kept h.stands.facilities.calendar)) ∙ ap (λ o. (condition_of o).members) plain) in
+      ∙ (ap (λ (x : EventOf). (condition_of x.condition).members) (sym (read_is a.shared.happen c e kept h.stands.facilities.calendar))
+      ∙ ap (λ o. (condition_of o).members) plain) in
       subst (KeepsHolders d hs) (sym turns.held)
       (keeps_if waited (shown s.facilities h.stands.facilities) d hs below members
       (λ waits. shut (requests.waits e s.facilities) waits (omega (arith, made, h.stands.facilities.calendar.made))))
@@ -213,7 +226,8 @@ module _ {B Code : Type 0} (a n : PartsOf B Code) (y : SharedOf) (e : EventId) (
 
       shut : (w : Bool) → w ≡ true → e.0 < length (calendar s).events →
           is_closed (if w then on_calendar (cancel_event e) (unqueue e s.facilities) else s.facilities).calendar e ≡ true
-      shut true is below = or_right _ _ (ap (λ (x : EventOf). x.cancelled) (change_event-same e (λ x. record x { cancelled = true }) (calendar s) below))
+      shut true is below =
+          or_right _ _ (ap (λ (x : EventOf). x.cancelled) (change_event-same e (λ x. record x { cancelled = true }) (calendar s) below))
       shut false is below = absurd (false≢true is)
 
   pub cancelled_becomes : {body : BodyOf B Code} → n ≡ record a { shared = y; control = told_more signal.Done a.control } →
@@ -226,5 +240,6 @@ module _ {B Code : Type 0} (a n : PartsOf B Code) (y : SharedOf) (e : EventId) (
       (λ s h.
       let plainly = plainly_cancelled_waiter e s.facilities in
       record { after = plainly.quietly.after; none = plainly.none; keeps = keeps_cancelled s h })
-      (λ s h. quiet_trade a.setup.events (body.tell a.code) s (requests.cancel e s.facilities) (plainly_cancelled_waiter e s.facilities).quietly.triggers))
+      (λ s h. quiet_trade a.setup.events (body.tell a.code) s (requests.cancel e s.facilities)
+      (plainly_cancelled_waiter e s.facilities).quietly.triggers))
       (becomes_told signal.Done b))

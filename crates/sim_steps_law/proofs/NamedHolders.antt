@@ -126,7 +126,8 @@ once_at n i = ⊎_elim within past (cases_lt i (n + 1))
         let is : nat_le i n ≡ false = grind (arith, nat_tests) in
         rw (get_or_past (held_once (n + 1)) i None (omega (arith, le, length_once (n + 1))), is) refl
 
-pub blank_balances : {B Code : Type 0} {body : BodyOf B Code} (parts : PartsOf B Code) → Shows parts.shared.happen (first_calendar parts.setup.events) →
+pub blank_balances : {B Code : Type 0} {body : BodyOf B Code} (parts : PartsOf B Code) →
+    Shows parts.shared.happen (first_calendar parts.setup.events) →
     held parts.shared.happen ≡ held_once (parts.setup.events + 1) → Balances body [] parts (blank_state (plan_of body parts))
 blank_balances {B} {Code} {body} parts shown is =
     let n : ℕ = parts.setup.events in
@@ -141,7 +142,9 @@ blank_balances {B} {Code} {body} parts shown is =
       };
       gone = record {
         each = λ e below none.
-            let there : Some 1 ≡ None = sym (once_within (n + 1) e.0 (omega (arith, below, made))) ∙ (ap (λ hs. slice_index_or hs e.0 None) (sym is) ∙ (held_at h e ∙ ap holders_at none)) in
+            let there : Some 1 ≡ None =
+            sym (once_within (n + 1) e.0 (omega (arith, below, made)))
+            ∙ (ap (λ hs. slice_index_or hs e.0 None) (sym is) ∙ (held_at h e ∙ ap holders_at none)) in
             cc;
       };
     }

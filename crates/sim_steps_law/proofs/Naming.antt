@@ -55,7 +55,8 @@ waits_not kind.Timeout h = refl
 waits_not _ h = absurd (false≢true h)
 
 -- from a lawful state of a kernel whose accounts are right
-module _ {B Code : Type 0} (body : BodyOf B Code) (parts : PartsOf B Code) (h : StandsForSome body parts) (needed : AreNeeded parts.shared.happen.events) where
+module _ {B Code : Type 0} (body : BodyOf B Code) (parts : PartsOf B Code)
+    (h : StandsForSome body parts) (needed : AreNeeded parts.shared.happen.events) where
   abbrev c : Calendar
   c = h.state.facilities.calendar
 
@@ -79,14 +80,17 @@ module _ {B Code : Type 0} (body : BodyOf B Code) (parts : PartsOf B Code) (h : 
     g = plan_of body parts
 
     pub asked_by : (mid : PartsOf B Code) (asked : Op) → Asks body p told parts asked mid →
-        (y : ProcessOf B) × (process_at p h.state ≡ Some y) × (b : B) × IsLawfulPoll (body.facts parts.code) (body.tell parts.code) y.body told asked b
+        (y : ProcessOf B) × (process_at p h.state ≡ Some y) × (b : B)
+        × IsLawfulPoll (body.facts parts.code) (body.tell parts.code) y.body told asked b
         × body.sound parts.code b
     asked_by mid asked a =
         let r = record_polled body parts mid p told asked a in
         let y : ProcessOf B = process_of r.0 in
-        let found : process_at p h.state ≡ Some y = process_found parts h.state p h.lawful.processes.distinct h.stands ∙ ap (λ o. option_map process_of o) r.1 in
+        let found : process_at p h.state ≡ Some y =
+        process_found parts h.state p h.lawful.processes.distinct h.stands ∙ ap (λ o. option_map process_of o) r.1 in
         let can = running_can_be_told body parts event p told a.before h running a.found few in
-        let poll : IsLawfulPoll (body.facts parts.code) (body.tell parts.code) a.before told asked a.later = law.polls a.before parts.shared.happen.time told asked a.later can.sound can.told a.turned in (
+        let poll : IsLawfulPoll (body.facts parts.code) (body.tell parts.code) a.before told asked a.later =
+        law.polls a.before parts.shared.happen.time told asked a.later can.sound can.told a.turned in (
           y,
           found,
           a.later,
@@ -102,7 +106,8 @@ module _ {B Code : Type 0} (body : BodyOf B Code) (parts : PartsOf B Code) (h : 
     named_kept mid asked a =
         let y = asked_by mid asked a in
         let tell = body.tell parts.code in
-        All-weaker (λ e. is_kept parts.setup.events tell h.state e ≡ true) (IsKept parts.shared.happen.events) (kept_here body parts h needed) (events_named (body.facts parts.code) asked)
+        All-weaker (λ e. is_kept parts.setup.events tell h.state e ≡ true) (IsKept parts.shared.happen.events)
+        (kept_here body parts h needed) (events_named (body.facts parts.code) asked)
         (asked_kept g tell (body.sound parts.code) (body.facts parts.code) h.state h.lawful event active.0 p told y.0 active.1 y.1 asked y.2 fits y.3)
 
     module _ (asked : Op) (y : ProcessOf B) (b : B) (found : process_at p h.state ≡ Some y)
@@ -111,16 +116,25 @@ module _ {B Code : Type 0} (body : BodyOf B Code) (parts : PartsOf B Code) (h : 
       entered = scopes_told ((body.tell parts.code).scopes y.body) ((body.tell parts.code).last y.body) told
 
       -- by an operation that leaves no scope
-      has_asked : scopes_asked entered asked ≡ entered → HasAsked g (body.tell parts.code) (body.sound parts.code) h.state (body.facts parts.code) event active.0 p told y b asked
+      has_asked : scopes_asked entered asked ≡ entered →
+          HasAsked g (body.tell parts.code) (body.sound parts.code) h.state (body.facts parts.code) event active.0 p told y b asked
       has_asked stays =
-          record { active = active.1; found = found; is_sound = well; lawful = basis_of g (body.tell parts.code) (body.sound parts.code) h.state h.lawful; poll = poll; scopes = poll.scopes ∙ stays }
+          record {
+            active = active.1;
+            found = found;
+            is_sound = well;
+            lawful = basis_of g (body.tell parts.code) (body.sound parts.code) h.state h.lawful;
+            poll = poll;
+            scopes = poll.scopes ∙ stays;
+          }
 
       -- what may be triggered
       known_well : scopes_asked entered asked ≡ entered → (n : EventId) → IsKept parts.shared.happen.events n →
           is_known_event (body.facts parts.code) ((body.tell parts.code).places b) n ≡ true → Uncancelled n
       known_well stays n kept known =
           let tell = body.tell parts.code in
-          let made = known_event_made g tell (body.sound parts.code) h.state (body.facts parts.code) event active.0 p told y b asked n fits (has_asked stays) known in
+          let made = known_event_made g tell (body.sound parts.code) h.state
+          (body.facts parts.code) event active.0 p told y b asked n fits (has_asked stays) known in
           not_cancelled n kept made.kind
 
       -- what may be cancelled
@@ -130,7 +144,8 @@ module _ {B Code : Type 0} (body : BodyOf B Code) (parts : PartsOf B Code) (h : 
           let tell = body.tell parts.code in
           let fit = places_fit g tell (body.sound parts.code) h.state (body.facts parts.code) event active.0 p told y b asked (has_asked stays) in
           ap (λ (x : EventOf). x.condition) (read_is parts.shared.happen c n kept h.stands.facilities.calendar)
-          ∙ cancelled_plain c (λ m below. h.lawful.conditions.kinds m _ below) (omega (arith, h.lawful.processes.named_made)) (h.lawful.processes.named_plain 0 (omega arith)) n (tell.places b) fit may
+          ∙ cancelled_plain c (λ m below. h.lawful.conditions.kinds m _ below) (omega (arith, h.lawful.processes.named_made))
+          (h.lawful.processes.named_plain 0 (omega arith)) n (tell.places b) fit may
 
     -- what is kept and was not cancelled
     abbrev KeptUncancelled : EventId → Type 0
@@ -173,10 +188,13 @@ module _ {B Code : Type 0} (body : BodyOf B Code) (parts : PartsOf B Code) (h : 
         let y = asked_by mid asked a in
         let kept = named_kept mid asked a in
         record {
-          kept = All-weaker (IsKept parts.shared.happen.events) (IsKept mid.shared.happen.events) a.takes.kept (events_named (body.facts parts.code) asked) kept;
-          not_cancelled = All-weaker KeptUncancelled (λ e. (kept_at mid.shared.happen.events e).event.cancelled ≡ false) (λ e was. ap (λ (x : EventOf). x.cancelled) (a.takes.event e was.0) ∙ was.1)
+          kept = All-weaker (IsKept parts.shared.happen.events) (IsKept mid.shared.happen.events) a.takes.kept
+              (events_named (body.facts parts.code) asked) kept;
+          not_cancelled = All-weaker KeptUncancelled (λ e. (kept_at mid.shared.happen.events e).event.cancelled ≡ false)
+              (λ e was. ap (λ (x : EventOf). x.cancelled) (a.takes.event e was.0) ∙ was.1)
               (events_triggered asked) (triggered_well asked y.0 y.2 y.1 y.3 y.4 kept);
-          plain = All-weaker KeptPlain (λ e. (kept_at mid.shared.happen.events e).event.condition ≡ None) (λ e was. ap (λ (x : EventOf). x.condition) (a.takes.event e was.0) ∙ was.1)
+          plain = All-weaker KeptPlain (λ e. (kept_at mid.shared.happen.events e).event.condition ≡ None)
+              (λ e was. ap (λ (x : EventOf). x.condition) (a.takes.event e was.0) ∙ was.1)
               (events_cancelled asked) (plain_well asked y.0 y.2 y.1 y.3 y.4 kept);
         }
 
@@ -192,9 +210,12 @@ module _ {B Code : Type 0} (body : BodyOf B Code) (parts : PartsOf B Code) (h : 
   called_names event (callback.Trigger y) left is =
       let control : h.state.control ≡ Calling event (callback.Trigger y ∷ left) = sym h.stands.control ∙ is in
       let chains = h.lawful.chains.calling event (rw control (is_same-self event)) in
-      let first : chains_well c event (callback.Trigger y) ≡ true = All-head (λ z. chains_well c event z ≡ true) (callback.Trigger y) left (subst (λ (k : Control). AllPass (chains_well c event) (left_of k)) control chains) in
+      let first : chains_well c event (callback.Trigger y) ≡ true =
+      All-head (λ z. chains_well c event z ≡ true) (callback.Trigger y) left
+      (subst (λ (k : Control). AllPass (chains_well c event) (left_of k)) control chains) in
       let outer = and_parts (is_trigger_kind (kind_at c event) && was_made c y) (is_triggered_kind (kind_at c y)) first in
-      let kept : IsKept parts.shared.happen.events y = kept_here body parts h needed y (called_kept body parts h needed event (callback.Trigger y) left is) in
+      let kept : IsKept parts.shared.happen.events y =
+      kept_here body parts h needed y (called_kept body parts h needed event (callback.Trigger y) left is) in
       record {
         kept = All-cons (IsKept parts.shared.happen.events) y [] kept (All-nil (IsKept parts.shared.happen.events));
         left = All-nil (IsKept parts.shared.happen.events);
@@ -207,7 +228,11 @@ module _ {B Code : Type 0} (body : BodyOf B Code) (parts : PartsOf B Code) (h : 
         not_cancelled = All-nil Uncancelled;
       }
   called_names event _ left is =
-      record { kept = All-nil (IsKept parts.shared.happen.events); left = All-nil (IsKept parts.shared.happen.events); not_cancelled = All-nil Uncancelled }
+      record {
+        kept = All-nil (IsKept parts.shared.happen.events);
+        left = All-nil (IsKept parts.shared.happen.events);
+        not_cancelled = All-nil Uncancelled;
+      }
 
 -- ---- what is known of the events that are named
 
@@ -222,7 +247,8 @@ module _ {B Code : Type 0} (f : CodeFacts) (parts : PartsOf B Code) (asked : Op)
       let P : EventId → Type 0 = IsKept parts.shared.happen.events in
       All-head P e es (subst (λ xs. All P xs) is h.kept)
 
-  pub second_named : (n : EventId) (es : List EventId) → events_named f asked ≡ e ∷ n ∷ es → NamesKept f asked parts → IsKept parts.shared.happen.events n
+  pub second_named : (n : EventId) (es : List EventId) → events_named f asked ≡ e ∷ n ∷ es → NamesKept f asked parts →
+      IsKept parts.shared.happen.events n
   second_named n es is h =
       let P : EventId → Type 0 = IsKept parts.shared.happen.events in
       All-head P n es (All-tail P e (n ∷ es) (subst (λ xs. All P xs) is h.kept))

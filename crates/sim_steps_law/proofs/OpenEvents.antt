@@ -54,7 +54,8 @@ all_open_in h f shown gone waiting =
     record {
       each = λ res x there. all_from_each (IsOpen h.happen) (waiting_at x) (λ e among.
           any_gives (λ (w : Waiter). IsOpenIn f.calendar w.event) (IsOpen h.happen e) (is_of e) f.waiters
-          (λ w is_open same. subst (IsOpen h.happen) (is_same-yes w.event e same) (open_in h.happen f.calendar w.event shown.calendar gone is_open)) waiting
+          (λ w is_open same. subst (IsOpen h.happen) (is_same-yes w.event e same)
+          (open_in h.happen f.calendar w.event shown.calendar gone is_open)) waiting
           (waits_there h f res x e shown there among));
     }
 
@@ -69,7 +70,8 @@ none_elsewhere e res n (w ∷ ws) differ h =
     (λ away. later)
 
 -- who waits at one resource in the state waits at no other in the kernel
-pub alone_shown : (h : SharedOf) (f : Facilities) (e : EventId) (res : ℕ) → ShowsAll h f → All (λ w. is_same w.event e ≡ true → w.res ≡ res) f.waiters →
+pub alone_shown : (h : SharedOf) (f : Facilities) (e : EventId) (res : ℕ) → ShowsAll h f →
+    All (λ w. is_same w.event e ≡ true → w.res ≡ res) f.waiters →
     WaitsAtMostAt e res h
 alone_shown h f e res shown alone =
     record { elsewhere = λ n x differ there. waits_shown h.setup n x f e (shown.resources n x there) ∙ none_elsewhere e res n f.waiters differ alone }

@@ -53,7 +53,8 @@ use Rattle.sim_steps_law.proofs.Running.{KeepsLaw, process_found, running_can_be
 
 -- ---- the process that runs is polled
 
-pub found_record : {B : Type 0} (o : Option (RecordOf B)) (b : B) → option_map (λ r. r.body) o ≡ Some b → (r : RecordOf B) × (o ≡ Some r) × (r.body ≡ b)
+pub found_record : {B : Type 0} (o : Option (RecordOf B)) (b : B) → option_map (λ r. r.body) o ≡ Some b →
+    (r : RecordOf B) × (o ≡ Some r) × (r.body ≡ b)
 found_record None b h = absurd (none-some b h)
 found_record (Some r) b h = (r, refl, same_Some _ b h)
 
@@ -64,7 +65,8 @@ polled_step : {B Code : Type 0} (body : BodyOf B Code) (old mid : PartsOf B Code
 polled_step body old mid event p told asked s running a h st =
     let r = found_record (record_of p old.live) a.before a.found in
     let is = running_is old.control event p told running in
-    at_control (plan_of body old) (body.turn old.code) s (polled (plan_of body old) p asked a.later s) (Active event is.0 p told) (sym is.1 ∙ st.control)
+    at_control (plan_of body old) (body.turn old.code) s (polled (plan_of body old) p asked a.later s)
+    (Active event is.0 p told) (sym is.1 ∙ st.control)
     (record {
       process = process_of r.0;
       found = process_found old s p h.processes.distinct st ∙ ap (λ o. option_map process_of o) r.1;
@@ -79,7 +81,8 @@ polled_step body old mid event p told asked s running a h st =
 -- who has a record is the live process of its number
 pub only_process : {B Code : Type 0} (a : PartsOf B Code) (p : ProcId) (r : RecordOf B) (s : State B) → record_of p a.live ≡ Some r → Stands a s →
     IsOnlyProcess p (process_of r) s
-only_process a p r s found h = record { found = process_found a s p h.distinct h.stands ∙ ap (λ o. option_map process_of o) found; distinct = h.distinct }
+only_process a p r s found h =
+    record { found = process_found a s p h.distinct h.stands ∙ ap (λ o. option_map process_of o) found; distinct = h.distinct }
 
 none_before : (o q : Option Kept) → (IsSome o → IsSome q) → q ≡ None → o ≡ None
 none_before None q h is = refl
@@ -89,7 +92,8 @@ none_before (Some k) q h is = absurd (false≢true (subst (λ x. is_some x ≡ t
 pub gone_still : (a b : HappenOf) (c : Calendar) → TakesHolder a b → AreGoneClosed a.events c → AreGoneClosed b.events c
 gone_still a b c takes h = record {
   each = λ e made gone.
-      h.each e (omega (arith, made, takes.made)) (none_before (slice_index_or a.events e.0 None) (slice_index_or b.events e.0 None) (takes.kept e) gone);
+      h.each e (omega (arith, made, takes.made))
+      (none_before (slice_index_or a.events e.0 None) (slice_index_or b.events e.0 None) (takes.kept e) gone);
 }
 
 -- what a kind of bodies tells of its places by reading them: they are those that a sound body tells, 64 at most, and a poll
@@ -97,7 +101,8 @@ gone_still a b c takes h = record {
 pub record ReadsPlaces {B Code : Type 0} (body : BodyOf B Code) (code : Code) (events : B → List EventId) (place : B → Option ℕ) : Type 0 where
   pub places : (b : B) → body.sound code b → events_in_places body code b ≡ events b
   pub few : (b : B) → body.sound code b → length (events b) ≤ 64
-  pub others : (b : B) (time : ℤ) (e : EventId) (asked : Op) (d : B) → CanBeTold body code b (signal.Made e) → body.turn code b time (signal.Made e) asked d →
+  pub others : (b : B) (time : ℤ) (e : EventId) (asked : Op) (d : B) → CanBeTold body code b (signal.Made e) →
+      body.turn code b time (signal.Made e) asked d →
       ChangesOnly (place b) (events b) (events d)
 
 module _ {B Code : Type 0} (body : BodyOf B Code) (events : B → List EventId) (place : B → Option ℕ) where
@@ -107,8 +112,11 @@ module _ {B Code : Type 0} (body : BodyOf B Code) (events : B → List EventId) 
   lawful_places a p r reads h found =
       let s = h.state in
       let tell = body.tell a.code in
-      let here : process_at p s ≡ Some (process_of r) = process_found a s p h.lawful.processes.distinct h.stands ∙ ap (λ o. option_map process_of o) found in (
-        all_fit_numbers (calendar s) (tell.places r.body) (find_has (λ z. list_all (place_fits (calendar s)) (tell.places z.body) ≡ true) (λ z. is_process z.id p) s.processes (process_of r) here h.lawful.bodies.places),
+      let here : process_at p s ≡ Some (process_of r) =
+      process_found a s p h.lawful.processes.distinct h.stands ∙ ap (λ o. option_map process_of o) found in (
+        all_fit_numbers (calendar s) (tell.places r.body)
+            (find_has (λ z. list_all (place_fits (calendar s)) (tell.places z.body) ≡ true)
+            (λ z. is_process z.id p) s.processes (process_of r) here h.lawful.bodies.places),
         find_has (λ z. body.sound a.code z.body) (λ z. is_process z.id p) s.processes (process_of r) here h.lawful.bodies.bodies,
       )
 
@@ -118,7 +126,8 @@ module _ {B Code : Type 0} (body : BodyOf B Code) (events : B → List EventId) 
       let is = lawful_places a p r reads h found in
       stand_where (body.tell a.code) r.body (events r.body) is.0 (reads.places r.body is.1) (reads.few r.body is.1)
 
-  module _ (old : PartsOf B Code) (p : ProcId) (event : EventId) (told : Signal) (reads : ReadsPlaces body old.code events place) (law : KeepsLaw body old.code)
+  module _ (old : PartsOf B Code) (p : ProcId) (event : EventId) (told : Signal)
+      (reads : ReadsPlaces body old.code events place) (law : KeepsLaw body old.code)
       (h : StandsForSome body old) (few : length old.shared.happen.events < 2 ^ 62) (running : IsRunning event p told old.control)
       (mid : PartsOf B Code) (asked : Op) (a : Asks body p told old asked mid) where
     abbrev r : RecordOf B
@@ -147,7 +156,8 @@ module _ {B Code : Type 0} (body : BodyOf B Code) (events : B → List EventId) 
     stand_later =
         let numbers = subst (λ b. list_all number_is_zero ((body.tell old.code).places b) ≡ true) is_before (lawful_places old p r reads h found).0 in
         stand_where (body.tell old.code) a.later (events a.later)
-        (polled_numbers ((body.tell old.code).last a.before) told ((body.tell old.code).places a.before) ((body.tell old.code).places a.later) poll.places numbers)
+        (polled_numbers ((body.tell old.code).last a.before) told ((body.tell old.code).places a.before)
+        ((body.tell old.code).places a.later) poll.places numbers)
         (reads.places a.later sound_later) (reads.few a.later sound_later)
 
     -- what stood in the place that changed, and what stands there then
@@ -174,13 +184,15 @@ module _ {B Code : Type 0} (body : BodyOf B Code) (events : B → List EventId) 
         alike : (x : Signal) → told ≡ x → ((e : EventId) → x ≡ signal.Made e → ⊥) → events a.later ≡ events a.before
         alike x is none =
             sym (reads.places a.later sound_later)
-            ∙ (polled_alike ((body.tell old.code).last a.before) told ((body.tell old.code).places a.before) ((body.tell old.code).places a.later) poll.places (λ e made. none e (sym is ∙ made))
+            ∙ (polled_alike ((body.tell old.code).last a.before) told ((body.tell old.code).places a.before)
+            ((body.tell old.code).places a.later) poll.places (λ e made. none e (sym is ∙ made))
             ∙ reads.places a.before can.sound)
 
         by : (x : Signal) → told ≡ x → Exchanged (place_changed (place a.before) x) (events a.before) (events a.later)
         by (signal.Made e) is =
             exchanged_told (place a.before) (events a.before) (events a.later)
-            (reads.others a.before old.shared.happen.time e asked a.later (subst (CanBeTold body old.code a.before) is can) (subst (λ x. body.turn old.code a.before old.shared.happen.time x asked a.later) is a.turned))
+            (reads.others a.before old.shared.happen.time e asked a.later (subst (CanBeTold body old.code a.before) is can)
+            (subst (λ x. body.turn old.code a.before old.shared.happen.time x asked a.later) is a.turned))
         by signal.Begin is = exchanged_same (events a.before) (events a.later) (alike signal.Begin is (λ e no. cc))
         by (signal.Value v) is = exchanged_same (events a.before) (events a.later) (alike (signal.Value v) is (λ e no. cc))
         by (signal.Thrown t) is = exchanged_same (events a.before) (events a.later) (alike (signal.Thrown t) is (λ e no. cc))
@@ -196,15 +208,23 @@ module _ {B Code : Type 0} (body : BodyOf B Code) (events : B → List EventId) 
         let lost : List EventId = but_zero (events a.before) in
         let both : StatesTrade old.setup.events (body.tell old.code) gained lost s (with_body p a.later s) =
         subst (λ xs. StatesTrade old.setup.events (body.tell old.code) xs lost s (with_body p a.later s)) stand_later.named
-        (subst (λ xs. StatesTrade old.setup.events (body.tell old.code) (but_zero (named_in_places (body.tell old.code) a.later)) xs s (with_body p a.later s)) (ap (λ b. but_zero (named_in_places (body.tell old.code) b)) is_before ∙ stand_before.named)
+        (subst (λ xs. StatesTrade old.setup.events (body.tell old.code) (but_zero (named_in_places (body.tell old.code) a.later)) xs s
+        (with_body p a.later s)) (ap (λ b. but_zero (named_in_places (body.tell old.code) b)) is_before ∙ stand_before.named)
         (body_trade old.setup.events (body.tell old.code) s p (process_of r) a.later (only_process old p r s found k))) in
         let alike : AreAlike (gained ++ but_zero (left ∷ [])) (but_zero (taken ∷ []) ++ lost) = record {
-          each = λ e. omega (arith, exchanged e, count_by-append (is_same e) gained (but_zero (left ∷ [])), count_by-append (is_same e) (but_zero (taken ∷ [])) lost);
+          each = λ e. omega (
+            arith,
+            exchanged e,
+            count_by-append (is_same e) gained (but_zero (left ∷ [])),
+            count_by-append (is_same e) (but_zero (taken ∷ [])) lost,
+          );
         } in
-        trades_alike gained lost (but_zero (taken ∷ [])) (but_zero (left ∷ [])) (held_alone old.setup.events (body.tell old.code) s) (held_alone old.setup.events (body.tell old.code) (with_body p a.later s)) alike both
+        trades_alike gained lost (but_zero (taken ∷ [])) (but_zero (left ∷ [])) (held_alone old.setup.events (body.tell old.code) s)
+        (held_alone old.setup.events (body.tell old.code) (with_body p a.later s)) alike both
 
     -- what stands there then is held
-    pub asked_owing : (new : PartsOf B Code) → mid.shared.happen ≡ old.shared.happen → BecomesOwing body [] (but_zero (taken ∷ [])) 1 (λ s. s) mid new →
+    pub asked_owing : (new : PartsOf B Code) → mid.shared.happen ≡ old.shared.happen →
+        BecomesOwing body [] (but_zero (taken ∷ [])) 1 (λ s. s) mid new →
         HoldsMore taken mid.shared.happen.events new.shared.happen.events → TakesHolder mid.shared.happen new.shared.happen → KeepsButHappen mid new →
         AsksOwing body p told left old asked new
     asked_owing new same hold more takes rest =
@@ -215,11 +235,16 @@ module _ {B Code : Type 0} (body : BodyOf B Code) (events : B → List EventId) 
         let lost : List EventId = but_zero (left ∷ []) in
         let polls : BecomesOwing body gained lost 0 (with_body p a.later) old (record old { live = change_record p change old.live }) =
         owing_changed gained lost p change changes old (λ x. refl) (λ x. refl) (λ x. refl) (λ x. refl) polled_trade in
-        let is : mid ≡ record old { live = change_record p change old.live } = a.others ∙ ap (λ x. let k : PartsOf B Code = record (with_happen x old) { live = change_record p change old.live } in k) same in
+        let is : mid ≡ record old { live = change_record p change old.live } =
+        a.others ∙ ap (λ x. let k : PartsOf B Code = record (with_happen x old) { live = change_record p change old.live } in k) same in
         let stands : (s : State B) → Stands old s → Stands new (with_body p a.later s) =
         λ s k. hold.each (with_body p a.later s) (subst (λ m. Stands m (with_body p a.later s)) (sym is) (polls.each s k)) in
         let opened : IsOpenedAs old new =
-        record { code = hold.opened.code ∙ ap (λ (k : PartsOf B Code). k.code) is; setup = hold.opened.setup ∙ ap (λ (k : PartsOf B Code). k.setup) is; seed = hold.opened.seed ∙ ap (λ (k : PartsOf B Code). k.seed) is } in
+        record {
+          code = hold.opened.code ∙ ap (λ (k : PartsOf B Code). k.code) is;
+          setup = hold.opened.setup ∙ ap (λ (k : PartsOf B Code). k.setup) is;
+          seed = hold.opened.seed ∙ ap (λ (k : PartsOf B Code). k.seed) is;
+        } in
         let kept : TakesHolder old.shared.happen new.shared.happen = subst (λ x. TakesHolder x new.shared.happen) same takes in
         record {
           asks = record {
@@ -238,7 +263,8 @@ module _ {B Code : Type 0} (body : BodyOf B Code) (events : B → List EventId) 
                 let held_more : Balanced was (gained ++ todo) new.shared.happen.events =
                 more.balanced was todo (subst (λ (x : HappenOf). Balanced was todo x.events) (sym same) balances.holders) in
                 record {
-                  holders = rw (opened.setup, opened.code) (trades_balanced gained lost todo was is_now new.shared.happen.events (polled_trade s k) held_more);
+                  holders = rw (opened.setup, opened.code)
+                      (trades_balanced gained lost todo was is_now new.shared.happen.events (polled_trade s k) held_more);
                   gone = gone_still old.shared.happen new.shared.happen (calendar s) kept balances.gone;
                 };
             opened = opened;
@@ -248,11 +274,13 @@ module _ {B Code : Type 0} (body : BodyOf B Code) (events : B → List EventId) 
 
 -- ---- what is asked for is done
 
-module _ {B Code : Type 0} (body : BodyOf B Code) (more : ℕ) (old mid new : PartsOf B Code) (event : EventId) (p : ProcId) (told : Signal) (left : EventId) (asked : Op)
+module _ {B Code : Type 0} (body : BodyOf B Code) (more : ℕ) (old mid new : PartsOf B Code)
+    (event : EventId) (p : ProcId) (told : Signal) (left : EventId) (asked : Op)
     (answer : Unit) where
   -- and what stood in the place that changed is still to be given back
   pub does_asked : IsRunning event p told old.control → AsksOwing body p told left old asked mid →
-      lines_by p asked old.shared.happen.time ≡ lines_of answer → more < most_held → BecomesWith body more (effect (plan_of body mid) p asked) mid new →
+      lines_by p asked old.shared.happen.time ≡ lines_of answer → more < most_held →
+      BecomesWith body more (effect (plan_of body mid) p asked) mid new →
       DoesAsked body p left old answer new
   does_asked running a lines few done =
       let g : Plan B = plan_of body old in
@@ -266,25 +294,31 @@ module _ {B Code : Type 0} (body : BodyOf B Code) (more : ℕ) (old mid new : Pa
         asked = asked;
         later = a.asks.later;
         steps = λ s h st. polled_step body old mid event p told asked s running a.asks h st;
-        lines = λ s st. effect_writes g p asked (turns s) ∙ ap (λ xs. s.lines ++ xs) (ap (lines_by p asked) (sym st.facilities.calendar.time) ∙ lines);
+        lines = λ s st. effect_writes g p asked (turns s)
+            ∙ ap (λ xs. s.lines ++ xs) (ap (lines_by p asked) (sym st.facilities.calendar.time) ∙ lines);
         owes = becomes_within (1 + more) most_held (polled g p asked a.asks.later) old new (omega (arith, few)) all;
       }
 
 -- a line is written, and the process goes on
-pub logs_asked : {B Code : Type 0} (body : BodyOf B Code) (old mid new : PartsOf B Code) (event : EventId) (p : ProcId) (told : Signal) (left : EventId)
-    (value time written : ℤ) → IsRunning event p told old.control → AsksOwing body p told left old (op.Log value) mid → time ≡ new.shared.happen.time → written ≡ value →
+pub logs_asked : {B Code : Type 0} (body : BodyOf B Code) (old mid new : PartsOf B Code)
+    (event : EventId) (p : ProcId) (told : Signal) (left : EventId)
+    (value time written : ℤ) → IsRunning event p told old.control → AsksOwing body p told left old (op.Log value) mid →
+    time ≡ new.shared.happen.time → written ≡ value →
     new ≡ record mid { control = told_more signal.Done mid.control } → DoesAsked body p left old (unit.Line (line.Log time p written)) new
 logs_asked {B} {Code} body old mid new event p told left value time written running a is_time is_written is =
     let time_of : PartsOf B Code → ℤ = λ k. k.shared.happen.time in
     let now : time ≡ old.shared.happen.time = is_time ∙ (ap time_of is ∙ a.asks.takes.time) in
     let writing : State B → State B = λ s. write_line (line.Log (calendar s).time p value) s in
     let goes_on : Becomes body (λ s. tell signal.Done (writing s)) mid (record mid { control = told_more signal.Done mid.control }) =
-    becomes_then writing (tell signal.Done) mid mid _ (becomes_written (λ s. line.Log (calendar s).time p value) mid) (becomes_told signal.Done mid) in
-    does_asked body 0 old mid new event p told left (op.Log value) (unit.Line (line.Log time p written)) running a (rw (now, is_written) refl) (omega arith)
+    becomes_then writing (tell signal.Done) mid mid _
+    (becomes_written (λ s. line.Log (calendar s).time p value) mid) (becomes_told signal.Done mid) in
+    does_asked body 0 old mid new event p told left (op.Log value)
+    (unit.Line (line.Log time p written)) running a (rw (now, is_written) refl) (omega arith)
     (subst (Becomes body (λ s. tell signal.Done (writing s)) mid) (sym is) goes_on)
 
 -- then it is given back
-module _ {B Code : Type 0} (body : BodyOf B Code) (old mid new : PartsOf B Code) (p : ProcId) (left : EventId) (answer : Unit) (d : DoesAsked body p left old answer mid) where
+module _ {B Code : Type 0} (body : BodyOf B Code) (old mid new : PartsOf B Code) (p : ProcId)
+    (left : EventId) (answer : Unit) (d : DoesAsked body p left old answer mid) where
   pub asked_owes : StandsForSome body old → IsOwing body (but_zero (left ∷ [])) mid
   asked_owes h =
       owing_after (polled (plan_of body old) p d.asked d.later) old mid d.owes
@@ -308,9 +342,11 @@ module _ {B Code : Type 0} (body : BodyOf B Code) (old mid new : PartsOf B Code)
 pub empty_becomes : {B Code : Type 0} {body : BodyOf B Code} (g : Plan B) (a n : PartsOf B Code) (lo hi : ℤ) → int_lt hi lo ≡ true →
     n ≡ record a { control = told_more (signal.Raised empty_range) a.control } → Becomes body (draw g lo hi) a n
 empty_becomes {B} {Code} {body} g a n lo hi none is =
-    subst (Becomes body (draw g lo hi) a) (sym is) (becomes_as (tell (signal.Raised empty_range)) (draw g lo hi) a _ (λ s h. rw none refl) (becomes_told (signal.Raised empty_range) a))
+    subst (Becomes body (draw g lo hi) a) (sym is)
+    (becomes_as (tell (signal.Raised empty_range)) (draw g lo hi) a _ (λ s h. rw none refl) (becomes_told (signal.Raised empty_range) a))
 
-pub drawn_becomes : {B Code : Type 0} (body : BodyOf B Code) (a n : PartsOf B Code) (lo hi number : ℤ) (word : ℕ) (next : Lcg) → int_lt hi lo ≡ false →
+pub drawn_becomes : {B Code : Type 0} (body : BodyOf B Code) (a n : PartsOf B Code) (lo hi number : ℤ) (word : ℕ) (next : Lcg) →
+    int_lt hi lo ≡ false →
     (word, next) ≡ pcg64 a.generator → number ≡ drawn_number word lo hi →
     n ≡ record a { generator = next; control = told_more (signal.Number number) a.control } → Becomes body (draw (plan_of body a) lo hi) a n
 drawn_becomes {B} {Code} body a n lo hi number word next some draws told is =

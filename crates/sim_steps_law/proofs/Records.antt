@@ -39,17 +39,20 @@ one_scoped : {B : Type 0} (change : RecordOf B → RecordOf B) (scopes : ProcId 
 one_scoped change scopes r true id same h = same ∙ (h ∙ ap scopes (sym id))
 one_scoped change scopes r false id same h = h
 
-pub changed_scopes : {B : Type 0} (p : ProcId) (change : RecordOf B → RecordOf B) (scopes : ProcId → List Scope) → ((r : RecordOf B) → (change r).id ≡ r.id) →
+pub changed_scopes : {B : Type 0} (p : ProcId) (change : RecordOf B → RecordOf B) (scopes : ProcId → List Scope) →
+    ((r : RecordOf B) → (change r).id ≡ r.id) →
     ((r : RecordOf B) → (change r).scopes ≡ r.scopes) → (live : List (RecordOf B)) → All (λ r. r.scopes ≡ scopes r.id) live →
     All (λ r. r.scopes ≡ scopes r.id) (change_record p change live)
 changed_scopes p change scopes ids same [] h = All-nil (λ r. r.scopes ≡ scopes r.id)
 changed_scopes p change scopes ids same (r ∷ live) h =
     All-cons (λ r. r.scopes ≡ scopes r.id) (if r.id.0 == p.0 then change r else r) (change_record p change live)
-    (one_scoped change scopes r (r.id.0 == p.0) (ids r) (same r) (All-head (λ r. r.scopes ≡ scopes r.id) r live h)) (changed_scopes p change scopes ids same live (All-tail (λ r. r.scopes ≡ scopes r.id) r live h))
+    (one_scoped change scopes r (r.id.0 == p.0) (ids r) (same r) (All-head (λ r. r.scopes ≡ scopes r.id) r live h))
+    (changed_scopes p change scopes ids same live (All-tail (λ r. r.scopes ≡ scopes r.id) r live h))
 
 -- ---- numbers stay different
 
-kept_id : {B : Type 0} (changes : ProcessOf B → ProcessOf B) (x : ProcessOf B) (v : Bool) → (changes x).id ≡ x.id → (if v then changes x else x).id ≡ x.id
+kept_id : {B : Type 0} (changes : ProcessOf B → ProcessOf B) (x : ProcessOf B) (v : Bool) → (changes x).id ≡ x.id →
+    (if v then changes x else x).id ≡ x.id
 kept_id changes x true keeps = keeps
 kept_id changes x false keeps = refl
 

@@ -48,7 +48,8 @@ found_before : (xs ys : List SharedResource) (n : ℕ) (y : SharedResource) → 
     (x : SharedResource) × (slice_get xs n ≡ Some x) × (without_room x ≡ without_room y)
 found_before xs ys n y h there =
     mapped_is without_room (slice_get xs n) (without_room y)
-    (sym (slice_get-map without_room xs n) ∙ (ap (λ zs. slice_get zs n) (sym h) ∙ (slice_get-map without_room ys n ∙ ap (option_map without_room) there)))
+    (sym (slice_get-map without_room xs n)
+    ∙ (ap (λ zs. slice_get zs n) (sym h) ∙ (slice_get-map without_room ys n ∙ ap (option_map without_room) there)))
 
 pub roomier_all : (a b : SharedOf) (f : Facilities) → IsSameButRoom a b → ShowsAll a f → ShowsAll b f
 roomier_all a b f k h =
@@ -84,7 +85,8 @@ pub roomier_lawful : {B Code : Type 0} (body : BodyOf B Code) (old new : PartsOf
 roomier_lawful body old new s k h = rw k.others h
 
 -- what holds which event, and what is gone, is not told by room
-pub roomier_balances : {B Code : Type 0} {body : BodyOf B Code} (todo : List EventId) (old new : PartsOf B Code) (s : State B) → KeepsButRoom old new → Balances body todo old s →
+pub roomier_balances : {B Code : Type 0} {body : BodyOf B Code} (todo : List EventId) (old new : PartsOf B Code) (s : State B) →
+    KeepsButRoom old new → Balances body todo old s →
     Balances body todo new s
 roomier_balances {B} {Code} {body} todo old new s k h =
     subst (λ p. Balances body todo p s) (sym k.others)
@@ -102,7 +104,8 @@ roomier_stands_for_some body old new k h =
     }
 
 -- so it is in the midst of a unit
-pub roomier_owing : {B Code : Type 0} {body : BodyOf B Code} (owed : List EventId) (old new : PartsOf B Code) → KeepsButRoom old new → IsOwing body owed old → IsOwing body owed new
+pub roomier_owing : {B Code : Type 0} {body : BodyOf B Code} (owed : List EventId) (old new : PartsOf B Code) → KeepsButRoom old new →
+    IsOwing body owed old → IsOwing body owed new
 roomier_owing owed old new k h =
     record {
       state = h.state;
@@ -126,7 +129,8 @@ roomier_becomes {B} {Code} {body} old new k = record {
 }
 
 -- and so it is where only processes that run from the start were made
-pub roomier_opening : {B Code : Type 0} {body : BodyOf B Code} (old new : PartsOf B Code) → KeepsButRoom old new → IsOpening body old → IsOpening body new
+pub roomier_opening : {B Code : Type 0} {body : BodyOf B Code} (old new : PartsOf B Code) → KeepsButRoom old new → IsOpening body old →
+    IsOpening body new
 roomier_opening {B} {Code} {body} old new k h =
     let older : List (RecordOf B) → ℕ → Type 0 = λ live n. All (λ x. x.id.0 < n) (map process_of live) in
     let same_live : new.live ≡ old.live = ap (λ (p : PartsOf B Code). p.live) k.others in

@@ -38,13 +38,16 @@ mapped_at r o q false h = h
 find_mapped : {B : Type 0} (p : ProcId) (live : List (RecordOf B)) →
     find (λ x. is_process x.id p) (map process_of live) ≡ option_map process_of (record_of p live)
 find_mapped p [] = refl
-find_mapped p (r ∷ live) = mapped_at r (find (λ x. is_process x.id p) (map process_of live)) (record_of p live) (is_process r.id p) (find_mapped p live)
+find_mapped p (r ∷ live) = mapped_at r (find (λ x. is_process x.id p) (map process_of live))
+    (record_of p live) (is_process r.id p) (find_mapped p live)
 
 -- the live process of the machine is that of the record
-pub process_found : {B Code : Type 0} (parts : PartsOf B Code) (s : State B) (p : ProcId) → AllPairs (λ x y. x.id ≢ y.id) s.processes → StandsFor parts s →
+pub process_found : {B Code : Type 0} (parts : PartsOf B Code) (s : State B) (p : ProcId) → AllPairs (λ x y. x.id ≢ y.id) s.processes →
+    StandsFor parts s →
     process_at p s ≡ option_map process_of (record_of p parts.live)
 process_found parts s p distinct st =
-    find-IsPermutation (λ x. x.id.0) p.0 s.processes (map process_of parts.live) st.processes (λ i j d before below. λ e. distinct i j d before below (same_process _ _ e)) ∙ find_mapped p parts.live
+    find-IsPermutation (λ x. x.id.0) p.0 s.processes (map process_of parts.live) st.processes
+    (λ i j d before below. λ e. distinct i j d before below (same_process _ _ e)) ∙ find_mapped p parts.live
 
 -- ---- what is found
 
@@ -89,17 +92,21 @@ pub running_fits : {B : Type 0} (tell : Telling B) (d : Calendar) (event : Event
     IsRunning event p told c → is_told_well tell d p b c ≡ true → told_fits tell d b told ≡ true
 running_fits tell d event p told b Idle h fits = absurd h
 running_fits tell d event p told b (Calling e left) h fits = absurd h
-running_fits tell d event p told b (Active e left q x) h fits = told_here tell d b x told (is_process q p) _ (running_active event p told (Active e left q x) h) h.2 fits
+running_fits tell d event p told b (Active e left q x) h fits = told_here tell d b x told
+    (is_process q p) _ (running_active event p told (Active e left q x) h) h.2 fits
 running_fits tell d event p told b (Over why e left) h fits = absurd h
 
 pub fits_told : {B : Type 0} (tell : Telling B) (c : Calendar) (b : B) (x : Signal) → told_fits tell c b x ≡ true → may_be_told (tell.last b) x ≡ true
-fits_told tell c b (signal.Made e) h = (four_parts (may_be_told (tell.last b) (signal.Made e)) (was_made c e) (not (is_processed c e)) (makes_kind (tell.last b) (kind_at c e)) h).0
+fits_told tell c b (signal.Made e)
+    h = (four_parts (may_be_told (tell.last b) (signal.Made e)) (was_made c e) (not (is_processed c e)) (makes_kind (tell.last b) (kind_at c e)) h).0
 fits_told tell c b _ h = h
 
 fits_bound : {B : Type 0} (tell : Telling B) (c : Calendar) (b : B) (x : Signal) → length c.events < 2 ^ 62 → told_fits tell c b x ≡ true →
     tells_within_bound x ≡ true
 fits_bound tell c b (signal.Made e) few h =
-    let made : was_made c e ≡ true = (four_parts (may_be_told (tell.last b) (signal.Made e)) (was_made c e) (not (is_processed c e)) (makes_kind (tell.last b) (kind_at c e)) h).1 in
+    let made : was_made c e ≡ true =
+    (four_parts (may_be_told (tell.last b) (signal.Made e)) (was_made c e)
+    (not (is_processed c e)) (makes_kind (tell.last b) (kind_at c e)) h).1 in
     let below : e.0 < length c.events = ltb-true e.0 (length c.events) made in
     lt-ltb e.0 most_events (omega (arith, below, few))
 fits_bound tell c b _ few h = refl
@@ -128,7 +135,8 @@ module _ {B Code : Type 0} (body : BodyOf B Code) (parts : PartsOf B Code) where
   told_running event p told b h running found =
       let s = h.state in
       let tell = body.tell parts.code in
-      let fits = body_has parts s p b (λ q d. is_told_well tell s.facilities.calendar q d s.control ≡ true) h.lawful.processes.distinct h.stands found h.lawful.bodies.told in
+      let fits = body_has parts s p b
+      (λ q d. is_told_well tell s.facilities.calendar q d s.control ≡ true) h.lawful.processes.distinct h.stands found h.lawful.bodies.told in
       running_fits tell s.facilities.calendar event p told b s.control (subst (λ c. IsRunning event p told c) h.stands.control running) fits
 
   -- it has a record
@@ -136,8 +144,10 @@ module _ {B Code : Type 0} (body : BodyOf B Code) (parts : PartsOf B Code) where
       IsSome (record_of p parts.live)
   running_alive event p told h running =
       let s = h.state in
-      let alive : is_alive p s ≡ true = h.lawful.processes.active p (running_active event p told s.control (subst (λ c. IsRunning event p told c) h.stands.control running)) in
-      some_mapped process_of (record_of p parts.live) (subst IsSome (process_found parts s p h.lawful.processes.distinct h.stands) (any_found (λ x. is_process x.id p) s.processes alive))
+      let alive : is_alive p s ≡ true =
+      h.lawful.processes.active p (running_active event p told s.control (subst (λ c. IsRunning event p told c) h.stands.control running)) in
+      some_mapped process_of (record_of p parts.live)
+      (subst IsSome (process_found parts s p h.lawful.processes.distinct h.stands) (any_found (λ x. is_process x.id p) s.processes alive))
 
   -- its body is sound, may be told what it is told, and an event that it is told was made
   pub running_can_be_told : (event : EventId) (p : ProcId) (told : Signal) (b : B) → StandsForSome body parts → IsRunning event p told parts.control →

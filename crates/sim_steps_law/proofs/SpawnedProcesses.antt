@@ -46,7 +46,8 @@ use Rattle.sim_steps_law.proofs.Naming.{asked_by}
 
 -- and the one that made it is told its event
 pub spawned_becomes : {B Code : Type 0} (body : BodyOf B Code) (a m n : PartsOf B Code) (p : ProcId) (k : ℕ) (args : List ℤ) (e : EventId) →
-    BecomesWith body most_begun (make_process (plan_of body a) k args) a m → e.0 ≡ length a.shared.happen.events → n ≡ record m { control = told_more (signal.Made e) m.control } →
+    BecomesWith body most_begun (make_process (plan_of body a) k args) a m → e.0 ≡ length a.shared.happen.events →
+    n ≡ record m { control = told_more (signal.Made e) m.control } →
     BecomesWith body most_begun (effect (plan_of body a) p (op.Spawn k args)) a n
 spawned_becomes {B} {Code} body a m n p k args e begins same is =
     let g : Plan B = plan_of body a in
@@ -66,7 +67,9 @@ next_is_none {B} body parts h =
     let n = length parts.shared.happen.events in
     let P : ProcessOf B → Type 0 = λ x. x.id.0 < n in
     let older : All P s.processes =
-    All-weaker (λ x. is_living_well s x ≡ true) P (λ x well. subst (λ m. x.id.0 < m) (sym h.stands.facilities.calendar.made) (lives_well s x well).made) s.processes h.lawful.processes.living in
+    All-weaker (λ x. is_living_well s x ≡ true) P
+    (λ x well. subst (λ m. x.id.0 < m) (sym h.stands.facilities.calendar.made) (lives_well s x well).made)
+    s.processes h.lawful.processes.living in
     none_of (next_process parts.shared.happen) parts.live (All-permutation P s.processes (map process_of parts.live) h.stands.processes older)
 
 -- nor has one of those whose records are changed
@@ -88,7 +91,8 @@ none_changed {B} p q change ids (r ∷ live) h = at (r.id.0 == q.0) (r.id.0 == p
 -- ---- what is known of a process that a polled one asks for
 
 -- events that were made are within the bound of events
-within_bound : (n : ℕ) → n ≤ 2 ^ 62 → (cs : List Class) (vs : List ℤ) → All (λ e. e.0 < n) (arguments_name cs vs) → arguments_within_bound cs vs ≡ true
+within_bound : (n : ℕ) → n ≤ 2 ^ 62 → (cs : List Class) (vs : List ℤ) → All (λ e. e.0 < n) (arguments_name cs vs) →
+    arguments_within_bound cs vs ≡ true
 within_bound n few [] vs h = refl
 within_bound n few (class.Number ∷ cs) [] h = refl
 within_bound n few (class.Number ∷ cs) (v ∷ vs) h = within_bound n few cs vs h
@@ -97,7 +101,8 @@ within_bound n few (c ∷ cs) (pos m ∷ vs) h =
     let e : EventId = record { 0 = m } in
     let P : EventId → Type 0 = λ f. f.0 < n in
     let here : m < n = All-head P e (arguments_name cs vs) h in
-    and_from (int_lt (pos m) (pos most_events)) (arguments_within_bound cs vs) (below m (omega (arith, here, few))) (within_bound n few cs vs (All-tail P e (arguments_name cs vs) h))
+    and_from (int_lt (pos m) (pos most_events)) (arguments_within_bound cs vs)
+    (below m (omega (arith, here, few))) (within_bound n few cs vs (All-tail P e (arguments_name cs vs) h))
   where
     below : (k : ℕ) → k < 2 ^ 62 → int_lt (pos k) (pos most_events) ≡ true
     below k h = grind (arith, ints, nat_tests)
@@ -107,7 +112,8 @@ module _ {B Code : Type 0} (body : BodyOf B Code) (old mid : PartsOf B Code) (p 
   -- the number of the process that is made next is that of none
   pub spawned_none : StandsForSome body old → Asks body p told old asked mid → record_of (next_process mid.shared.happen) mid.live ≡ None
   spawned_none h a =
-      let next : next_process mid.shared.happen ≡ next_process old.shared.happen = ap (λ (n : ℕ). let q : ProcId = record { 0 = n } in q) a.takes.made in
+      let next : next_process mid.shared.happen ≡ next_process old.shared.happen =
+      ap (λ (n : ℕ). let q : ProcId = record { 0 = n } in q) a.takes.made in
       ap (λ q. record_of q mid.live) next
       ∙ (ap (λ (k : PartsOf B Code). record_of (next_process old.shared.happen) k.live) a.others
       ∙ none_changed p (next_process old.shared.happen) (λ r. record r { body = a.later }) (λ r. refl) old.live (next_is_none body old h))
@@ -119,7 +125,8 @@ module _ {B Code : Type 0} (body : BodyOf B Code) (old mid : PartsOf B Code) (p 
 -- a process of this kind may begin with these arguments
 pub spawned_can_begin : {B Code : Type 0} (body : BodyOf B Code) (old mid : PartsOf B Code) (event : EventId) (p : ProcId) (told : Signal)
     (k : ℕ) (args : List ℤ) → StandsForSome body old → AreNeeded old.shared.happen.events → FitsCode (body.facts old.code) old.setup →
-    KeepsLaw body old.code → length old.shared.happen.events < 2 ^ 62 → IsRunning event p told old.control → Asks body p told old (op.Spawn k args) mid →
+    KeepsLaw body old.code → length old.shared.happen.events < 2 ^ 62 → IsRunning event p told old.control →
+    Asks body p told old (op.Spawn k args) mid →
     NamesKept (body.facts old.code) (op.Spawn k args) mid → CanBegin (body.facts old.code) k args
 spawned_can_begin body old mid event p told k args h needed fits law few running a names =
     let f = body.facts old.code in
@@ -131,11 +138,14 @@ spawned_can_begin body old mid event p told k args h needed fits law few running
     let n : ℕ = length mid.shared.happen.events in
     record {
       fits = and_from (nat_lt k (length f.params)) (may_start cs args) asks.0 (spawned_starts f own places cs args asks.1);
-      bound = within_bound n (omega (arith, few, a.takes.made)) cs args (All-weaker (IsKept mid.shared.happen.events) (λ e. e.0 < n) (λ e kept. kept_made mid.shared.happen.events e kept) (arguments_name cs args) names.kept);
+      bound = within_bound n (omega (arith, few, a.takes.made)) cs args
+          (All-weaker (IsKept mid.shared.happen.events) (λ e. e.0 < n)
+          (λ e kept. kept_made mid.shared.happen.events e kept) (arguments_name cs args) names.kept);
     }
 
 -- what they name is kept
-pub spawned_kept : {B Code : Type 0} (body : BodyOf B Code) (old mid : PartsOf B Code) (p : ProcId) (told : Signal) (k : ℕ) (args : List ℤ) → StandsForSome body old →
+pub spawned_kept : {B Code : Type 0} (body : BodyOf B Code) (old mid : PartsOf B Code) (p : ProcId) (told : Signal) (k : ℕ) (args : List ℤ) →
+    StandsForSome body old →
     AreNeeded old.shared.happen.events → Asks body p told old (op.Spawn k args) mid → NamesKept (body.facts old.code) (op.Spawn k args) mid →
     AreArgumentsKept (body.facts old.code) k args mid.shared.happen.events
 spawned_kept body old mid p told k args h needed a names =

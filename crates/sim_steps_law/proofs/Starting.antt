@@ -50,7 +50,8 @@ argument_within named class.Event (pos n) few h = below_most n (omega (arith, fe
 argument_within named class.Event (negsuc n) few h = absurd (false≢true h)
 argument_within named _ v few h = absurd (false≢true h)
 
-arguments_within : (named : ℕ) (cs : List Class) (vs : List ℤ) → named ≤ 1024 → start_arguments_fit named cs vs ≡ true → arguments_within_bound cs vs ≡ true
+arguments_within : (named : ℕ) (cs : List Class) (vs : List ℤ) → named ≤ 1024 → start_arguments_fit named cs vs ≡ true →
+    arguments_within_bound cs vs ≡ true
 arguments_within named [] vs few h = refl
 arguments_within named (c ∷ cs) [] few h = refl
 arguments_within named (c ∷ cs) (v ∷ vs) few h =
@@ -62,18 +63,22 @@ start_can_begin f setup x fits h =
     record { fits = start_fits_starts f x h; bound = arguments_within f.named (slice_index_or f.params x.kind []) x.args few (and_parts _ _ h).1 }
 
 -- what is given at the start names events that the setup names
-start_names : (P : EventId → Type 0) (named : ℕ) (cs : List Class) (vs : List ℤ) → ((e : EventId) → e.0 ≤ named → P e) → start_arguments_fit named cs vs ≡ true →
+start_names : (P : EventId → Type 0) (named : ℕ) (cs : List Class) (vs : List ℤ) → ((e : EventId) → e.0 ≤ named → P e) →
+    start_arguments_fit named cs vs ≡ true →
     All P (arguments_name cs vs)
 start_names P named [] vs each h = All-nil P
 start_names P named (class.Number ∷ cs) [] each h = All-nil P
 start_names P named (c ∷ cs) [] each h = All-nil P
-start_names P named (class.Number ∷ cs) (v ∷ vs) each h = start_names P named cs vs each (and_parts (start_argument_fits named class.Number v) (start_arguments_fit named cs vs) h).1
+start_names P named (class.Number ∷ cs) (v ∷ vs) each h = start_names P named cs vs each
+    (and_parts (start_argument_fits named class.Number v) (start_arguments_fit named cs vs) h).1
 start_names P named (class.Event ∷ cs) (pos n ∷ vs) each h =
     let parts = and_parts (start_argument_fits named class.Event (pos n)) (start_arguments_fit named cs vs) h in
-    All-cons P (record { 0 = n }) (arguments_name cs vs) (each (record { 0 = n }) (named_within n named parts.0)) (start_names P named cs vs each parts.1)
+    All-cons P (record { 0 = n }) (arguments_name cs vs)
+    (each (record { 0 = n }) (named_within n named parts.0)) (start_names P named cs vs each parts.1)
 start_names P named (c ∷ cs) (v ∷ vs) each h = absurd (false≢true h)
 
-pub start_kept : {B Code : Type 0} {body : BodyOf B Code} (f : CodeFacts) (parts : PartsOf B Code) (x : Start) → FitsCode f parts.setup → IsTrue (start_fits f x) → IsOwing body [] parts →
+pub start_kept : {B Code : Type 0} {body : BodyOf B Code} (f : CodeFacts) (parts : PartsOf B Code) (x : Start) → FitsCode f parts.setup →
+    IsTrue (start_fits f x) → IsOwing body [] parts →
     AreArgumentsKept f x.kind x.args parts.shared.happen.events
 start_kept f parts x fits h owing =
     record {
@@ -95,13 +100,15 @@ none_of {B} p (r ∷ live) h =
     let other : (r.id.0 == p.0) ≡ false = grind (arith, nat_tests) in
     rw other (none_of p live (All-tail P (process_of r) (map process_of live) h))
 
-pub next_not_alive : {B Code : Type 0} {body : BodyOf B Code} (parts : PartsOf B Code) → IsOpening body parts → record_of (next_process parts.shared.happen) parts.live ≡ None
+pub next_not_alive : {B Code : Type 0} {body : BodyOf B Code} (parts : PartsOf B Code) → IsOpening body parts →
+    record_of (next_process parts.shared.happen) parts.live ≡ None
 next_not_alive parts h = none_of (next_process parts.shared.happen) parts.live h.older
 
 -- ---- before any process is made
 
 -- what a kernel has before any process is made stands for the blank state
-pub blank_stands : {B Code : Type 0} (body : BodyOf B Code) (parts : PartsOf B Code) → ShowsAll parts.shared (blank_state (plan_of body parts)).facilities →
+pub blank_stands : {B Code : Type 0} (body : BodyOf B Code) (parts : PartsOf B Code) →
+    ShowsAll parts.shared (blank_state (plan_of body parts)).facilities →
     parts.processed ≡ 0 → parts.generator ≡ generator_of parts.seed → parts.live ≡ [] → parts.control ≡ Idle →
     StandsFor parts (blank_state (plan_of body parts))
 blank_stands body parts shown processed generator none idle =
@@ -119,4 +126,9 @@ blank_stands body parts shown processed generator none idle =
 pub of_process_events : (c : Calendar) → length (make_events_of_process c).events ≡ length c.events + 2
 of_process_events c =
     let d : Calendar = make kind.Process c in
-    omega (arith, change_event-length (next_event d) (λ y. record y { outcome = Some (outcome.Ok (pos 0)) }) (make kind.Init d), make-length kind.Init d, make-length kind.Process c)
+    omega (
+      arith,
+      change_event-length (next_event d) (λ y. record y { outcome = Some (outcome.Ok (pos 0)) }) (make kind.Init d),
+      make-length kind.Init d,
+      make-length kind.Process c,
+    )

@@ -41,7 +41,8 @@ use Rattle.sim_machine.specs.Bodies.{BodyOf}
 -- a process waits for an event that is not processed: it holds that, which was held for this, and gives back what it waited for
 pub waited_owes : {B Code : Type 0} {body : BodyOf B Code} (a n : PartsOf B Code) (x : HappenOf) (e : EventId) (p : ProcId) (r : RecordOf B)
     (left : EventId) → record_of p a.live ≡ Some r → r.target ≡ left →
-    IsKept a.shared.happen.events e → (kept_at a.shared.happen.events e).event.processed ≡ false → Follows (register e (callback.Resume p)) a.shared.happen x →
+    IsKept a.shared.happen.events e → (kept_at a.shared.happen.events e).event.processed ≡ false →
+    Follows (register e (callback.Resume p)) a.shared.happen x →
     n ≡ record (with_happen x a) { live = change_record p (λ y. record y { target = e }) a.live; control = not_active a.control } →
     BecomesOwing body (but_zero (e ∷ [])) (but_zero (left ∷ [])) 0 (wait e p) a n
 waited_owes {B} {Code} {body} a n x e p r left alive target kept unprocessed follows is =
@@ -53,39 +54,47 @@ waited_owes {B} {Code} {body} a n x e p r left alive target kept unprocessed fol
     let c : PartsOf B Code = record b { live = change_record p (λ y. record y { target = e }) b.live } in
     let d : PartsOf B Code = record c { control = not_active c.control } in
     let first : BecomesOwing body gained gained 0 registered a b =
-    owing_besides gained registered a b (becomes_followed (register e (callback.Resume p)) a x (λ k. plainly_registered e (callback.Resume p) k refl) follows) in
+    owing_besides gained registered a b
+    (becomes_followed (register e (callback.Resume p)) a x (λ k. plainly_registered e (callback.Resume p) k refl) follows) in
     let found : (s : State B) → Stands b s → IsOnlyProcess p (process_of r) s = λ s h.
     record { found = process_found b s p h.distinct h.stands ∙ ap (λ o. option_map process_of o) alive; distinct = h.distinct } in
     let then_waits : BecomesOwing body gained lost 0 targeted b c =
     owing_changed gained lost p (λ y. record y { target = e }) (λ y. record y { target = e }) b (λ y. refl) (λ y. refl) (λ y. refl) (λ y. refl)
     (λ s h. waits_trade b.setup.events (body.tell b.code) s p (process_of r) e (found s h)) in
     let all : BecomesOwing body gained lost 0 (λ s. rest (targeted (registered s))) a d =
-    becomes_then (λ s. targeted (registered s)) rest a c d (becomes_then registered targeted a b c first then_waits) (owing_besides lost rest c d (becomes_rested c)) in
+    becomes_then (λ s. targeted (registered s)) rest a c d (becomes_then registered targeted a b c first then_waits)
+    (owing_besides lost rest c d (becomes_rested c)) in
     let processed : (s : State B) → Stands a s → is_processed (calendar s) e ≡ false = λ s h.
     ap (λ (y : EventOf). y.processed) (sym (read_is a.shared.happen (calendar s) e kept h.stands.facilities.calendar)) ∙ unprocessed in
     subst (λ (t : EventId). BecomesOwing body gained (but_zero (t ∷ [])) 0 (wait e p) a n) target
-    (subst (BecomesOwing body gained lost 0 (wait e p) a) (sym is) (becomes_as (λ s. rest (targeted (registered s))) (wait e p) a d (λ s h. rw (processed s h) refl) all))
+    (subst (BecomesOwing body gained lost 0 (wait e p) a) (sym is)
+    (becomes_as (λ s. rest (targeted (registered s))) (wait e p) a d (λ s h. rw (processed s h) refl) all))
 
 -- what it waited for is given back
-pub waited_becomes : {B Code : Type 0} {body : BodyOf B Code} (e left : EventId) (p : ProcId) (a b c d : PartsOf B Code) → BecomesOwing body [] (but_zero (e ∷ [])) 1 (λ s. s) a b →
+pub waited_becomes : {B Code : Type 0} {body : BodyOf B Code} (e left : EventId) (p : ProcId) (a b c d : PartsOf B Code) →
+    BecomesOwing body [] (but_zero (e ∷ [])) 1 (λ s. s) a b →
     BecomesOwing body (but_zero (e ∷ [])) (but_zero (left ∷ [])) 0 (wait e p) b c → BecomesOwing body (but_zero (left ∷ [])) [] 0 (λ s. s) c d →
     BecomesWith body 1 (wait e p) a d
 waited_becomes e left p a b c d holds waits returns =
     becomes_then (wait e p) (λ s. s) a c d (becomes_then (λ s. s) (wait e p) a b c holds waits) returns
 
 -- a process is told at once of an event that is processed
-pub told_at_once : {B Code : Type 0} {body : BodyOf B Code} (a n : PartsOf B Code) (x : HappenOf) (e : EventId) (p : ProcId) → IsKept a.shared.happen.events e →
+pub told_at_once : {B Code : Type 0} {body : BodyOf B Code} (a n : PartsOf B Code) (x : HappenOf) (e : EventId) (p : ProcId) →
+    IsKept a.shared.happen.events e →
     (kept_at a.shared.happen.events e).event.processed ≡ true → Follows (defuse_failed e) a.shared.happen x →
-    n ≡ record (with_happen x a) { control = told_more (signal_of (kept_at a.shared.happen.events e).event.outcome) a.control } → Becomes body (wait e p) a n
+    n ≡ record (with_happen x a) { control = told_more (signal_of (kept_at a.shared.happen.events e).event.outcome) a.control } →
+    Becomes body (wait e p) a n
 told_at_once {B} {Code} {body} a n x e p kept processed follows is =
     let y : EventOf = (kept_at a.shared.happen.events e).event in
     let defused : State B → State B = on_events (defuse_failed e) in
     let b : PartsOf B Code = with_happen x a in
-    let read : (s : State B) → Stands a s → event_at (calendar s) e ≡ y = λ s h. sym (read_is a.shared.happen (calendar s) e kept h.stands.facilities.calendar) in
+    let read : (s : State B) → Stands a s → event_at (calendar s) e ≡ y =
+    λ s h. sym (read_is a.shared.happen (calendar s) e kept h.stands.facilities.calendar) in
     subst (Becomes body (wait e p) a) (sym is)
     (becomes_as (λ s. tell (signal_of y.outcome) (defused s)) (wait e p) a _
     (λ s h. rw (ap (λ (z : EventOf). z.processed) (read s h) ∙ processed, ap (λ (z : EventOf). z.outcome) (read s h)) refl)
-    (becomes_then defused (tell (signal_of y.outcome)) a b _ (becomes_followed (defuse_failed e) a x (plainly_defused_failed e) follows) (becomes_told (signal_of y.outcome) b)))
+    (becomes_then defused (tell (signal_of y.outcome)) a b _
+    (becomes_followed (defuse_failed e) a x (plainly_defused_failed e) follows) (becomes_told (signal_of y.outcome) b)))
 
 -- ---- to make a timeout
 
@@ -105,7 +114,8 @@ pub timeout_made : (a x : HappenOf) (e : EventId) (delay value : ℤ) → Turns 
 timeout_made a x e delay value t same =
     let kept : IsKept x.events e = kept_last a x e t.held same in
     let new : is_processed (make_timeout delay value (seen a)) e ≡ false =
-    subst (λ f. is_processed (make_timeout delay value (seen a)) f ≡ false) (next_is a (seen a) e same (shows_seen a)) (timeout_unprocessed delay value (seen a)) in
+    subst (λ f. is_processed (make_timeout delay value (seen a)) f ≡ false)
+    (next_is a (seen a) e same (shows_seen a)) (timeout_unprocessed delay value (seen a)) in
     ap (λ (y : EventOf). y.processed) (event_then (make_timeout delay value) unheld_event a x e t kept) ∙ new
 
 -- whether the delay is negative, or leads beyond the last time
@@ -115,18 +125,22 @@ in_time : {B : Type 0} (delay value : ℤ) (after : EventId → State B → Stat
 in_time delay value after s h k = rw (h, k) refl
 
 module _ {B Code : Type 0} {body : BodyOf B Code} (a : PartsOf B Code) (delay value : ℤ) where
-  pub timeout_makes : (m : PartsOf B Code) (e : EventId) → int_lt delay (pos 0) ≡ false → int_lt (pos (2 ^ 62)) (a.shared.happen.time +ℤ delay) ≡ false →
+  pub timeout_makes : (m : PartsOf B Code) (e : EventId) → int_lt delay (pos 0) ≡ false →
+      int_lt (pos (2 ^ 62)) (a.shared.happen.time +ℤ delay) ≡ false →
       Turns (make_timeout delay value) unheld_event a.shared.happen m.shared.happen → e.0 ≡ length a.shared.happen.events →
       KeepsButHappen a m → MakesTimeout body delay value e a m
   timeout_makes m e positive soon made same is =
       let makes : State B → State B = on_events (make_timeout delay value) in
-      let makes_it : Becomes body makes a m = subst (Becomes body makes a) (sym is) (becomes_made (make_timeout delay value) a m.shared.happen (plainly_timeout delay value) made) in
+      let makes_it : Becomes body makes a m =
+      subst (Becomes body makes a) (sym is) (becomes_made (make_timeout delay value) a m.shared.happen (plainly_timeout delay value) made) in
       record {
         each = λ more after last does.
             becomes_as (λ s. after e (makes s)) (with_timeout delay value after) a last
             (λ s h.
-            let soon_too : int_lt (pos (2 ^ 62)) ((calendar s).time +ℤ delay) ≡ false = subst (λ t. int_lt (pos (2 ^ 62)) (t +ℤ delay) ≡ false) h.stands.facilities.calendar.time soon in
-            ap (λ f. after f (makes s)) (sym (next_is a.shared.happen (calendar s) e same h.stands.facilities.calendar)) ∙ sym (in_time delay value after s positive soon_too))
+            let soon_too : int_lt (pos (2 ^ 62)) ((calendar s).time +ℤ delay) ≡ false =
+            subst (λ t. int_lt (pos (2 ^ 62)) (t +ℤ delay) ≡ false) h.stands.facilities.calendar.time soon in
+            ap (λ f. after f (makes s)) (sym (next_is a.shared.happen (calendar s) e same h.stands.facilities.calendar))
+            ∙ sym (in_time delay value after s positive soon_too))
             (becomes_within (0 + more) more (λ s. after e (makes s)) a last (omega arith) (becomes_then makes (after e) a m last makes_it does));
         itself = makes_it;
         kept = kept_last a.shared.happen m.shared.happen e made.held same;
@@ -151,7 +165,8 @@ module _ {B Code : Type 0} {body : BodyOf B Code} (a : PartsOf B Code) (delay va
             subst (Becomes body (with_timeout delay value after) a) (sym is)
             (becomes_as (tell (signal.Raised 9)) (with_timeout delay value after) a _
             (λ s h.
-            let late_too : int_lt (pos (2 ^ 62)) ((calendar s).time +ℤ delay) ≡ true = subst (λ t. int_lt (pos (2 ^ 62)) (t +ℤ delay) ≡ true) h.stands.facilities.calendar.time late in
+            let late_too : int_lt (pos (2 ^ 62)) ((calendar s).time +ℤ delay) ≡ true =
+            subst (λ t. int_lt (pos (2 ^ 62)) (t +ℤ delay) ≡ true) h.stands.facilities.calendar.time late in
             rw (positive, late_too) refl)
             (becomes_told (signal.Raised 9) a));
       }

@@ -34,7 +34,8 @@ none_of (Some x) h = absurd (false≢true h)
 -- what waits in the calendar that is shown is open, where it is kept
 waiter_open : (h : HappenOf) (c : Calendar) (w : Waiter) → IsKept h.events w.event → Shows h c → waits_well c w ≡ true → IsOpen h w.event
 waiter_open h c w kept shows well =
-    let parts = four_parts (was_made c w.event) (is_pending c w.event) (not (event_at c w.event).cancelled) (may_wait_kind (kind_at c w.event)) well in
+    let parts = four_parts (was_made c w.event) (is_pending c w.event)
+    (not (event_at c w.event).cancelled) (may_wait_kind (kind_at c w.event)) well in
     let same : (kept_at h.events w.event).event ≡ event_at c w.event = read_is h c w.event kept shows in
     record {
       kept = kept;
@@ -42,7 +43,8 @@ waiter_open h c w kept shows well =
       not_cancelled = ap (λ (x : EventOf). x.cancelled) same ∙ not-true (event_at c w.event).cancelled parts.2;
     }
 
-module _ {B Code : Type 0} (body : BodyOf B Code) (parts : PartsOf B Code) (h : StandsForSome body parts) (needed : AreNeeded parts.shared.happen.events) where
+module _ {B Code : Type 0} (body : BodyOf B Code) (parts : PartsOf B Code)
+    (h : StandsForSome body parts) (needed : AreNeeded parts.shared.happen.events) where
   abbrev f : Facilities
   f = h.state.facilities
 
@@ -50,7 +52,8 @@ module _ {B Code : Type 0} (body : BodyOf B Code) (parts : PartsOf B Code) (h : 
   pub waiters_open : All (λ w. IsOpen parts.shared.happen w.event) h.state.facilities.waiters
   waiters_open k w below =
       let v : Waiter = get_or f.waiters k w in
-      waiter_open parts.shared.happen f.calendar v (all_waiters_kept body parts h needed k w below) h.stands.facilities.calendar (h.lawful.waiting.waiters k w below)
+      waiter_open parts.shared.happen f.calendar v
+      (all_waiters_kept body parts h needed k w below) h.stands.facilities.calendar (h.lawful.waiting.waiters k w below)
 
   pub all_open : AreAllOpen parts.shared
   all_open =
