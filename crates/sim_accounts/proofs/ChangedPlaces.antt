@@ -1,19 +1,11 @@
 -- How often an event stands in the places of a body, event 0 not counted: place by place, and where one place changes.
-use Rattle.std.proofs.Common.{◌≡◌, ◌≢◌, ℕ, zero, suc, ◌+◌, ◌<◌, ◌≤◌, true, false, ◌||◌, List, [], ◌∷◌, ◌++◌, length, map, take, refl, sym, ap, ◌∙◌, arith, ⊎_elim, Option, Some, None}
+use Rattle.std.proofs.Common.{◌≡◌, ◌≢◌, ℕ, zero, suc, ◌+◌, ◌<◌, ◌≤◌, List, [], ◌∷◌, ◌++◌, length, take, refl, ap, ◌∙◌, arith, ⊎_elim, Option, Some, None}
 use Rattle.std.specs.Prelude.{count_by, slice_index_or}
-use Rattle.std.proofs.lemmas.Bool.{cases_lt, false≢true, or_cases}
+use Rattle.std.proofs.lemmas.Bool.{cases_lt}
 use Rattle.std.proofs.lemmas.List.{ext_get_or, get_or_past, take_all, take_more}
 use Rattle.std.proofs.lemmas.List.Elements.{filter-append}
 use Rattle.sim_types.specs.declared.event.EventId.{EventId}
-use Rattle.sim_types.specs.declared.event.Signal.{Signal}
-use Rattle.sim_types.specs.declared.event.Signal.TheVariants as signal
-use Rattle.sim_types.specs.declared.op.Op.{Op}
 use Rattle.sim_machine.specs.Events.{is_same}
-use Rattle.sim_machine.specs.Tellings.{Place, is_class}
-use Rattle.sim_machine.specs.MayFollow.{is_made}
-use Rattle.sim_machine.specs.BodyLaw.{gets_made, places_kept}
-use Rattle.sim_machine_law.proofs.EventLaws.{is_same-yes}
-use Rattle.sim_machine_law.proofs.KeptBodies.{three_parts}
 use Rattle.sim_machine_law.proofs.CallbackLaws.{count_by-append}
 use Rattle.sim_accounts.specs.Naming.{but_zero}
 
@@ -48,14 +40,6 @@ times_in-next e es i = ⊎_elim within past (cases_lt i (length es))
     past : length es ≤ i → times_in e (take (i + 1) es) ≡ times_in e (take i es) + times_in e (in_place es i ∷ [])
     past le = omega (arith, ap (times_in e) (take_all (i + 1) es (omega (arith, le))), ap (times_in e) (take_all i es le), ap (λ f. times_in e (f ∷ [])) (get_or_past es i (record { 0 = 0 }) le))
 
--- all places
-pub times_in-all : (e : EventId) (es : List EventId) (n : ℕ) → length es ≤ n → times_in e (take n es) ≡ times_in e es
-times_in-all e es n le = ap (times_in e) (take_all n es le)
-
--- behind the last place there is event 0, which is not counted
-pub times_in-past : (e : EventId) (es : List EventId) (i : ℕ) → length es ≤ i → times_in e (in_place es i ∷ []) ≡ 0
-times_in-past e es i le = ap (λ f. times_in e (f ∷ [])) (get_or_past es i (record { 0 = 0 }) le)
-
 -- ---- one place changes
 
 -- lists that are alike in each place are one
@@ -85,21 +69,3 @@ place_exchanged e at k es fs is long alike = one_exchanged e es fs k long (λ i 
 pub none_exchanged : (at : Option ℕ) (es fs : List EventId) → at ≡ None → length fs ≡ length es
     → ((i : ℕ) → at ≢ Some i → in_place fs i ≡ in_place es i) → fs ≡ es
 none_exchanged at es fs is long alike = alike_same es fs long (λ i. alike i (λ told. absurd (cc)))
-
--- ---- no event was made
-
-gets_none : (last : Option Op) (told : Signal) (y : Place) → is_made told ≡ false → gets_made last told y ≡ false
-gets_none last (signal.Made e) y none = absurd (false≢true (sym none))
-gets_none last _ y none = refl
-
--- a poll that tells of no event that was made keeps what stands in each place
-pub none_made : (last : Option Op) (told : Signal) (us vs : List Place) → is_made told ≡ false → places_kept last told us vs ≡ true
-    → map (λ (y : Place). y.event) vs ≡ map (λ (y : Place). y.event) us
-none_made last told [] [] none h = refl
-none_made last told [] (v ∷ vs) none h = absurd (false≢true h)
-none_made last told (u ∷ us) [] none h = absurd (false≢true h)
-none_made last told (u ∷ us) (v ∷ vs) none h =
-    let parts = three_parts (is_class v.class u.class) (is_same v.event u.event || gets_made last told v) (places_kept last told us vs) h in
-    let same : is_same v.event u.event ≡ true =
-    ⊎_elim (λ here. here) (λ made. absurd (false≢true (sym (gets_none last told v none) ∙ made))) (or_cases (is_same v.event u.event) (gets_made last told v) parts.1) in
-    rw (is_same-yes v.event u.event same, none_made last told us vs none parts.2) refl

@@ -14,7 +14,7 @@ use Rattle.sim_happen_model.specs.Shows.{Turns}
 use Rattle.sim_shared_model.specs.declared.resource.SharedResource.{SharedResource}
 use Rattle.sim_shared_model.specs.declared.resource.SharedResource.TheVariants.{Desk, Tank, Shelf}
 use Rattle.sim_shared_model.specs.SharedOf.{SharedOf}
-use Rattle.sim_shared_model.specs.ShowsAll.{ShowsAt, ShowsAll, AreTidy, TurnsAll, FollowsAll}
+use Rattle.sim_shared_model.specs.ShowsAll.{ShowsAt, ShowsAll, AreTidy, TurnsAll}
 
 -- ---- one after another
 
@@ -36,9 +36,6 @@ turns_all_as f g p a b same t = record {
   left = t.left;
   setup = t.setup;
 }
-
-pub follows_all_none : (a : SharedOf) → FollowsAll (λ f. f) a a
-follows_all_none a = record { each = λ f h. h; held = refl; left = refl; setup = refl }
 
 -- ---- a turn of the calendar
 

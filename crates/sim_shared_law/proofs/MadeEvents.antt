@@ -1,5 +1,5 @@
 -- Events that are made for resources, served and released.
-use Rattle.std.proofs.Common.{◌≡◌, ℕ, zero, suc, inl, inr, ◌+◌, ◌≤◌, ℤ, pos, List, [], ◌∷◌, length, refl, sym, subst, ap, ◌∙◌, Option, Some, None, map, arith}
+use Rattle.std.proofs.Common.{◌≡◌, ℕ, zero, suc, inl, inr, ◌+◌, ◌≤◌, pos, List, [], ◌∷◌, length, refl, sym, subst, ap, ◌∙◌, Option, Some, None, map, arith}
 use Rattle.std.specs.Prelude.{is_some, slice_set, slice_index_or, count_by, ◌==◌}
 use Rattle.std.specs.Option.{option_map}
 use Rattle.std.proofs.lemmas.Bool.{cases_Bool}
@@ -7,7 +7,6 @@ use Rattle.sim_machine_law.proofs.CallbackLaws.{count_by-cons, count_by-append}
 use Rattle.sim_types.specs.declared.event.EventId.{EventId}
 use Rattle.sim_types.specs.declared.event.EventKind.{EventKind}
 use Rattle.sim_types.specs.declared.event.EventKind.TheVariants as kind
-use Rattle.sim_types.specs.declared.event.Outcome.TheVariants as outcome
 use Rattle.sim_types.specs.declared.event.Callback.{Callback}
 use Rattle.sim_types.specs.declared.event.Callback.TheVariants as callback
 use Rattle.sim_machine.specs.State.{Calendar, Facilities}
@@ -16,7 +15,7 @@ use Rattle.sim_machine.specs.Events.{next_event, register, cancel_event}
 use Rattle.sim_machine.specs.Triggering.{make, succeed}
 use Rattle.sim_machine.specs.Trying.{on_calendar}
 use Rattle.sim_machine.specs.Requests as requests
-use Rattle.sim_machine_law.proofs.EventLaws.{make-length, change_event-length}
+use Rattle.sim_machine_law.proofs.EventLaws.{make-length}
 use Rattle.sim_happen_model.specs.HappenOf.{HappenOf, IsOpen, KeepsRoom, unheld_event, as_before, gone_if_unheld, none_if_unheld, held}
 use Rattle.sim_events.specs.TableOf.{Kept, Spare, kept_count}
 use Rattle.sim_events.specs.Changes.{more_events, more_callbacks}
@@ -48,12 +47,6 @@ pub made_open : (k : EventKind) (x : Callback) (a m b : HappenOf) (e : EventId) 
 made_open k x a m b e same t f =
     let new : IsNew b e = new_registered x m b e f (is_new k a m e t same) in
     record { kept = new.kept; pending = new.pending; not_cancelled = new.uncancelled }
-
--- an event succeeds
-pub follows_succeeded : (e : EventId) (value : ℤ) (a : SharedOf) (b : HappenOf) → Follows (succeed e value) a.happen b
-    → FollowsAll (on_calendar (succeed e value)) a (record a { happen = b })
-follows_succeeded e value a b f =
-    turns_on_calendar (succeed e value) as_before a b (λ c. omega (arith, change_event-length e (λ y. record y { outcome = Some (outcome.Ok value) }) c)) f
 
 -- a release, step by step
 pub release_made : (a b d g : SharedOf) (e r : EventId) (res : ℕ) → e.0 ≡ length a.happen.events

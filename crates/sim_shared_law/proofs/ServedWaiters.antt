@@ -197,12 +197,6 @@ put_queue_served rs n res w ws f h is =
     put_queue_without rs res w.event f.waiters ∙ (ap (filter (λ v. not (is_same v.event w.event))) is
     ∙ first_leaves w ws (subst (AllPairs AreApart) is (is_put_queue rs res f.waiters h.waiting).apart))
 
-pub get_queue_served : (n res : ℕ) (w : Waiter) (ws : List Waiter) (f : Facilities) → AreTidy n f
-    → get_queue res f.waiters ≡ w ∷ ws → get_queue res (unqueue w.event f).waiters ≡ ws
-get_queue_served n res w ws f h is =
-    get_queue_without res w.event f.waiters ∙ (ap (filter (λ v. not (is_same v.event w.event))) is
-    ∙ first_leaves w ws (subst (AllPairs AreApart) is (is_get_queue res f.waiters h.waiting).apart))
-
 -- ---- its resource's other queue
 
 -- two that wait for one event are one
@@ -245,14 +239,3 @@ gets_stay rs n res at w f h here =
     get_queue_without at w.event f.waiters
     ∙ others_stay w (get_queue at f.waiters) (apart_from (λ v. not (wants_to_put v.want) ≡ true) f.waiters (get_queue at f.waiters) w h.waiting one
     (both_wants (wants_to_put w.want) passes) (is_get_queue at f.waiters h.waiting).waiting (gets_pass at f.waiters))
-
--- where a get is served, the requests and puts stay
-pub puts_stay : (rs : List Resource) (n res at : ℕ) (w : Waiter) (f : Facilities) → AreTidy n f → IsOneOf (get_queue res f.waiters) w
-    → put_queue rs at (unqueue w.event f).waiters ≡ put_queue rs at f.waiters
-puts_stay rs n res at w f h here =
-    let gets : List Waiter = get_queue res f.waiters in
-    let one : IsOneOf f.waiters w = one_has (IsOneOf f.waiters) gets w (is_get_queue res f.waiters h.waiting).waiting here in
-    let passes : not (wants_to_put w.want) ≡ true = one_has (λ (v : Waiter). not (wants_to_put v.want) ≡ true) gets w (gets_pass res f.waiters) here in
-    put_queue_without rs at w.event f.waiters
-    ∙ others_stay w (put_queue rs at f.waiters) (apart_from (λ v. wants_to_put v.want ≡ true) f.waiters (put_queue rs at f.waiters) w h.waiting one
-    (λ puts. both_wants (wants_to_put w.want) puts passes) (is_put_queue rs at f.waiters h.waiting).waiting (puts_pass rs at f.waiters))

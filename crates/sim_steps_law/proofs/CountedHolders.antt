@@ -1,5 +1,5 @@
 -- Of holders that are to be given back it counts how often each event stands among them, and not in which order.
-use Rattle.std.proofs.Common.{◌≡◌, ℕ, ◌<◌, List, ◌++◌, refl, sym, ap, subst, arith}
+use Rattle.std.proofs.Common.{◌≡◌, ℕ, ◌<◌, List, ◌++◌, refl, subst, arith}
 use Rattle.std.specs.Prelude.{count_by, nat_le, true}
 use Rattle.std.proofs.lemmas.Bool.Decides.{nat_tests}
 use Rattle.std.proofs.lemmas.List.{append_assoc}
@@ -23,9 +23,6 @@ pub record AreAlike (es fs : List EventId) : Type 0 where
 
 pub alike_itself : (es : List EventId) → AreAlike es es
 alike_itself es = record { each = λ e. refl }
-
-pub alike_same : (es fs : List EventId) → es ≡ fs → AreAlike es fs
-alike_same es fs same = record { each = λ e. ap (count_by (is_same e)) (sym same) }
 
 pub alike_swapped : (es fs : List EventId) → AreAlike (es ++ fs) (fs ++ es)
 alike_swapped es fs = record { each = λ e. omega (arith, count_by-append (is_same e) es fs, count_by-append (is_same e) fs es) }

@@ -54,10 +54,6 @@ outcome_is : {B Code : Type 0} (a : PartsOf B Code) (e : EventId) (s : State B) 
     (event_at (calendar s) e).outcome ≡ (kept_event a e).outcome
 outcome_is a e s kept h = ap (λ (x : EventOf). x.outcome) (event_is a e s kept h)
 
-some_is : (o : Option Outcome) → IsSome o → is_none o ≡ false
-some_is None h = absurd (cc)
-some_is (Some x) h = refl
-
 -- an event whose outcome was not refused had none
 pub unrefused : (o : Option Outcome) → (false ≡ true ↔ IsSome o) → o ≡ None
 unrefused None h = refl

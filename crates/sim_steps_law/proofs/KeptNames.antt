@@ -3,14 +3,13 @@ use Rattle.std.proofs.Common.{◌≡◌, ◌≤◌, Bool, true, false, ◌||◌,
 use Rattle.std.specs.Prelude.{All, ◌==◌}
 use Rattle.std.specs.Option.{option_map}
 use Rattle.std.specs.List.{AllPass}
-use Rattle.std.proofs.lemmas.List.Elements.{All-cons, All-filter, All-head, All-map, All-nil, All-tail, All-weaker}
+use Rattle.std.proofs.lemmas.List.Elements.{All-cons, All-filter, All-head, All-nil, All-tail, All-weaker}
 use Rattle.sim_types.specs.declared.event.EventId.{EventId}
 use Rattle.sim_types.specs.declared.event.ProcId.{ProcId}
 use Rattle.sim_types.specs.declared.event.Callback.{Callback}
-use Rattle.sim_types.specs.declared.event.Scope.{Scope}
 use Rattle.sim_types.specs.declared.event.Signal.TheVariants as signal
 use Rattle.sim_types.specs.declared.setup.Class.TheVariants as class
-use Rattle.sim_machine.specs.State.{OpenScope, ProcessOf, Control, Idle, Calling, Active, Over}
+use Rattle.sim_machine.specs.State.{ProcessOf, Control, Idle, Calling, Active, Over}
 use Rattle.sim_machine.specs.Events.{is_process}
 use Rattle.sim_machine.specs.Processes.{event_of, process_at}
 use Rattle.sim_machine.specs.Bodies.{BodyOf}
@@ -21,14 +20,14 @@ use Rattle.sim_machine_law.specs.ReachedEvents.{is_over, names_kept}
 use Rattle.sim_machine_law.proofs.EventLaws.{is_same-self}
 use Rattle.sim_machine_law.proofs.KeptBodies.{find_has, find_passes}
 use Rattle.sim_machine_law.proofs.KeptProcessesParts.{is_process-yes}
-use Rattle.sim_machine_law.proofs.KeptReached.{all_named_kept, left_kept, places_kept, process_kept, processes_kept, scopes_kept, targets_kept, told_kept, waiters_kept}
+use Rattle.sim_machine_law.proofs.KeptReached.{all_named_kept, left_kept, places_kept, process_kept, processes_kept, targets_kept, told_kept, waiters_kept}
 use Rattle.sim_procs.specs.RecordOf.{RecordOf, record_of}
 use Rattle.sim_events.specs.TableOf.{IsKept, AreNeeded}
 use Rattle.sim_accounts.specs.Accounts.{Accounts}
 use Rattle.sim_accounts.specs.Naming.{but_zero, named_in_places}
 use Rattle.sim_accounts.proofs.KeptExactly.{kept_exactly}
 use Rattle.sim_steps_model.specs.PartsOf.{PartsOf, IsCalling, IsRunning, plan_of}
-use Rattle.sim_steps_model.specs.StandsFor.{StandsForSome, process_of, scopes_of}
+use Rattle.sim_steps_model.specs.StandsFor.{StandsForSome, process_of}
 use Rattle.sim_steps_law.proofs.Running.{process_found, running_is}
 
 -- ---- what the control says
@@ -94,7 +93,7 @@ module _ {B Code : Type 0} (body : BodyOf B Code) (parts : PartsOf B Code)
       left_kept (plan_of body parts) (body.tell parts.code) (body.sound parts.code) h.state h.lawful (ap is_over calling) in
       All-head (λ y. names y ≡ true) x left (subst (λ c. AllPass names (left_of c)) calling all)
 
-  -- ---- what is named, due and used, and what waits
+  -- ---- what is named, and what waits
 
   -- the named events, and event 0
   pub named_kept : (e : EventId) → e.0 ≤ parts.setup.events → IsKept parts.shared.happen.events e
@@ -105,13 +104,6 @@ module _ {B Code : Type 0} (body : BodyOf B Code) (parts : PartsOf B Code)
       All-weaker (λ w. is_kept parts.setup.events (body.tell parts.code) h.state w.event ≡ true)
       (λ w. Kept w.event) (λ w. kept_here w.event) h.state.facilities.waiters
       (waiters_kept (plan_of body parts) (body.tell parts.code) (body.sound parts.code) h.state h.lawful)
-
-  -- the requests of all open scopes
-  pub all_scopes_kept : All (λ x. IsKept parts.shared.happen.events x.request) h.state.scopes
-  all_scopes_kept =
-      All-weaker (λ x. is_kept parts.setup.events (body.tell parts.code) h.state x.request ≡ true)
-      (λ x. Kept x.request) (λ x. kept_here x.request) h.state.scopes
-      (scopes_kept (plan_of body parts) (body.tell parts.code) (body.sound parts.code) h.state h.lawful)
 
   -- ---- a live process, and its record
 
@@ -139,16 +131,6 @@ module _ {B Code : Type 0} (body : BodyOf B Code) (parts : PartsOf B Code)
     pub alive_kept : IsKept parts.shared.happen.events (event_of p)
     alive_kept = subst (λ q. IsKept parts.shared.happen.events (event_of q))
         (is_process-yes r.id p (find_passes (λ x. x.id.0 == p.0) parts.live r found)) own_kept
-
-    -- the requests of its open scopes
-    pub own_scopes_kept : All (λ x. IsKept parts.shared.happen.events x.request) r.scopes
-    own_scopes_kept =
-        let test : OpenScope → Bool = λ x. is_process x.process r.id in
-        let scope : OpenScope → Scope = λ x. record { request = x.request; res = x.res } in
-        let told : r.scopes ≡ scopes_of r.id h.state =
-        find_has (λ x. x.scopes ≡ scopes_of x.id h.state) (λ x. x.id.0 == p.0) parts.live r found h.stands.scopes in
-        subst (All (λ x. Kept x.request)) (sym told)
-        (All-map (λ x. Kept x.request) scope (filter test h.state.scopes) (All-filter test (λ x. Kept x.request) h.state.scopes all_scopes_kept))
 
     -- what its body names in its places
     pub all_places_kept : All (IsKept parts.shared.happen.events) (named_in_places (body.tell parts.code) r.body)
