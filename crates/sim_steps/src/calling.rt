@@ -168,9 +168,7 @@ impl<B: Body> Parts<B> {
         ensures spare { IfSome result (λ x. self.new.shared.happen.spare
             ≡ more_callbacks 1 self.old.shared.happen.spare) }
     {
-        let taken = self.shared.happen_mut().next();
-        self.mode = Mode::Calling(event);
-        taken
+        self.shared.happen_mut().next()
     }
 
     // Calls a callback of the event, which was taken out of those that are left to call: what it passes an outcome on to was

@@ -56,18 +56,18 @@ impl<B: Body> Parts<B> {
         event: EventId,
         process: ProcId,
         for_all: bool,
-        members: Members,
+        members: &Members,
     )
         requires running { IsRunningIn event process self.old.control }
-        requires members { All (IsKept self.old.shared.happen.events) members }
+        requires members { All (IsKept self.old.shared.happen.events) members.now }
         requires few { AreFew (2 ^ 41) (held self.old.shared.happen) }
         requires room { HasUnitRoom self.old }
         requires number { length self.old.shared.happen.events < 2 ^ 62 }
         ensures becomes { BecomesWith B.body 16
-            (effect.with_condition (if for_all then Every else Either) members)
+            (effect.with_condition (if for_all then Every else Either) members.now)
             self.old self.new }
     {
-        match self.add_condition(for_all, members) {
+        match self.add_condition(for_all, members.copied()) {
             Ok(condition) => self.tell(event, process, Signal::Made(condition)),
             Err(_) => self.tell(event, process, Signal::Raised(CONDITION_TOO_WIDE)),
         }

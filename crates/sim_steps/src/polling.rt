@@ -18,19 +18,26 @@ use sim_types::{EventId, FAILURE, Line, Op, Outcome, ProcId, Signal, Throw};
 
 impl<B: Body> Parts<B> {
     // Polls the body of the running process: it is told this, and asks for an operation.
-    fn poll_body(&mut self, code: &B::Code, event: EventId, process: ProcId, told: Signal) -> Op
+    fn poll_body(
+        &mut self,
+        code: &B::Code,
+        event: EventId,
+        process: ProcId,
+        told: Signal,
+        asked: &mut Op,
+    )
         requires code { code.now ≡ self.old.code }
         requires stands { StandsForSome B.body self.old }
         requires running { IsRunning event process told self.old.control }
         requires events { length self.old.shared.happen.events < 2 ^ 62 }
-        ensures asked { Asks B.body process told self.old result self.new }
+        ensures asked { Asks B.body process told self.old asked.new self.new }
         ensures happen { self.new.shared.happen ≡ self.old.shared.happen }
         ensures resources { self.new.shared.setup ≡ self.new.setup.resources }
         ensures scopes { IsSomeAnd (record_of process self.new.live)
             (λ r. r.room ≡ B.most_open code.now) }
     {
         let time = self.shared.happen().now();
-        self.processes.body_mut(process).poll(code, time, told)
+        *asked = self.processes.body_mut(process).poll(code, time, told);
     }
 
     // Polls the running process, and takes a holder of what then stands in the place that changes. What it asks for names
@@ -42,7 +49,8 @@ impl<B: Body> Parts<B> {
         process: ProcId,
         told: Signal,
         place: Option<u8>,
-    ) -> Op
+        asked: &mut Op,
+    )
         requires code { code.now ≡ self.old.code }
         requires stands { StandsForSome B.body self.old }
         requires running { IsRunning event process told self.old.control }
@@ -55,9 +63,9 @@ impl<B: Body> Parts<B> {
         requires events { length self.old.shared.happen.events + 40 ≤ 2 ^ 62 }
         ensures asked { AsksOwing B.body process told
             (event_placed B.events_held place (record_of process self.old.live))
-            self.old result self.new }
+            self.old asked.new self.new }
         ensures resources { self.new.shared.setup ≡ self.new.setup.resources }
-        ensures names { NamesKept (B.body.facts code.now) result self.new }
+        ensures names { NamesKept (B.body.facts code.now) asked.new self.new }
         ensures running { IsRunningIn event process self.new.control }
         ensures alive { IsSome (record_of process self.new.live) }
         ensures scopes { IsSomeAnd (record_of process self.new.live)
@@ -70,10 +78,9 @@ impl<B: Body> Parts<B> {
         ensures owing { IsOwing B.body [] self.new }
         ensures can { CanLeave B.body self.new }
     {
-        let asked = self.poll_body(code, event, process, told);
+        self.poll_body(code, event, process, told, asked);
         let now = self.event_in(process, place);
         self.hold(now);
-        asked
     }
 
     // Polls the running process, and does what it asks for. What stood in the place that changed is still to be given back.
@@ -99,7 +106,9 @@ impl<B: Body> Parts<B> {
             (event_placed B.events_held place (record_of process self.old.live))
             self.old result self.new }
     {
-        match self.ask(code, event, process, told, place) {
+        let mut asked = Op::Nop;
+        self.ask(code, event, process, told, place, &mut asked);
+        match asked {
             Op::Nop => self.tell(event, process, Signal::Done),
             Op::Timeout(delay, value) => self.timeout(event, process, delay, value),
             Op::Pause(delay, value) => self.pause(event, process, delay, value),
@@ -121,8 +130,8 @@ impl<B: Body> Parts<B> {
             Op::Interrupt(other, cause) => self.interrupt(event, process, other, cause),
             Op::Drop(other, value) => self.drop_process(event, process, other, value),
             Op::Chain(source, other) => self.chain(event, process, source, other),
-            Op::AllOf(members) => self.make_condition(event, process, true, members),
-            Op::AnyOf(members) => self.make_condition(event, process, false, members),
+            Op::AllOf(ref members) => self.make_condition(event, process, true, members),
+            Op::AnyOf(ref members) => self.make_condition(event, process, false, members),
             Op::Has(condition, other) => self.has(event, process, condition, other),
             Op::Enter(res, priority, preempts) => {
                 self.enter(event, process, res, priority, preempts)
