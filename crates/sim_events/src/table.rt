@@ -356,6 +356,13 @@ impl Table {
         (slot.kind, slot.outcome())
     }
 
+    /// The first of the callbacks that are left to call, if one is. No other is looked at.
+    pub fn first_left(&self) -> Option<Callback>
+        ensures { result ≡ first_of_list self.now.left }
+    {
+        self.store.nodes.first(&self.left)
+    }
+
     /// Takes the first of the callbacks that are left to call.
     pub fn next(&mut self) -> Option<Callback>
         ensures left { MatchOption result

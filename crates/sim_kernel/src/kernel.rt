@@ -94,7 +94,7 @@ impl<B: Body> Kernel<B> {
             self.units += 1;
             return Ok(Unit::Quiet);
         }
-        self.parts.reserve(code)?;
+        self.parts.reserve_for_next(code)?;
         let unit = self.parts.unit(code);
         let _kept = self.parts.slots();
         self.units += 1;

@@ -1,5 +1,5 @@
 //! Events are popped, their callbacks are called, and then they are settled (SimPy's Environment.step).
-ghost use Rattle.std.specs.Prelude.{◌≡◌, ◌&&◌, not, ◌≢◌, ◌<◌, ◌^◌, [], ◌∷◌, IsTrue, IfNone, IfSome, ◌+◌, ◌≤◌, length};
+ghost use Rattle.std.specs.Prelude.{◌≡◌, ◌&&◌, not, ◌≢◌, ◌<◌, ◌^◌, [], ◌∷◌, IsTrue, Some, IfNone, IfSome, ◌+◌, ◌≤◌, length};
 ghost use Rattle.sim_types.specs.declared.event.Callback.TheVariants as callback;
 ghost use Rattle.sim_machine.specs.State.{Active, Calling, Idle, Over};
 ghost use Rattle.sim_machine.specs.Events.{is_fail};
@@ -9,11 +9,12 @@ ghost use Rattle.sim_machine.specs.LawfulTries.{tries_well};
 ghost use Rattle.sim_events.specs.Changes.{more_callbacks};
 ghost use Rattle.sim_events.specs.TableOf.{AreNeeded, IsKept, kept_at};
 ghost use Rattle.sim_happen_model.specs.HappenOf.{held};
+ghost use Rattle.sim_shared_model.specs.Waiting.{AreAllOpen};
 ghost use Rattle.sim_accounts.specs.Naming.{but_zero, triggered_by};
 ghost use Rattle.sim_steps_model.specs.Becoming.{AreFew, Becomes, BecomesOwing, IsOwing, Moves};
 ghost use Rattle.sim_steps_model.specs.Calling.{called, CallsKept, TakesCallback};
 ghost use Rattle.sim_steps_model.specs.Conditions.{CallsCondition};
-ghost use Rattle.sim_steps_model.specs.PartsOf.{HasUnitRoom, IsCalling, plan_of};
+ghost use Rattle.sim_steps_model.specs.PartsOf.{HasRoomForNext, IsCalling, call_takes_room, plan_of};
 ghost use Rattle.sim_steps_model.specs.Resources.{AreResourcesReady};
 ghost use Rattle.sim_steps_model.specs.StandsFor.{StandsForSome};
 
@@ -179,7 +180,8 @@ impl<B: Body> Parts<B> {
         requires names { CallsKept callback self.old }
         requires conditions { CallsCondition event callback self.old.shared.happen.events }
         requires tries { IsTrue (tries_well (length self.old.setup.resources) callback) }
-        requires ready { AreResourcesReady self.old }
+        requires waiting { AreAllOpen self.old.shared }
+        requires ready { IsTrue (call_takes_room (Some callback)) → AreResourcesReady self.old }
         requires owing { IsOwing B.body (triggered_by callback) self.old }
         ensures owes { BecomesOwing B.body (triggered_by callback) [] 0
             (called (plan_of B.body self.old) event callback) self.old self.new }
@@ -201,7 +203,7 @@ impl<B: Body> Parts<B> {
         requires calling { IsCalling event self.old.control }
         requires stands { StandsForSome B.body self.old }
         requires needed { AreNeeded self.old.shared.happen.events }
-        requires room { HasUnitRoom self.old }
+        requires room { HasRoomForNext self.old }
         requires events { length self.old.shared.happen.events + 40 ≤ 2 ^ 62 }
         ensures moves { Moves B.body self.old Unit.Quiet self.new }
     {

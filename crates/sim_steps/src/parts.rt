@@ -4,7 +4,7 @@ ghost use Rattle.sim_machine.specs.Setups.{FitsCode};
 ghost use Rattle.sim_happen_model.specs.HappenOf.{held};
 ghost use Rattle.sim_steps_model.specs.Becoming.{AreFew, Moves};
 ghost use Rattle.sim_steps_model.specs.Resting.{CanStep, rest_in};
-ghost use Rattle.sim_steps_model.specs.PartsOf.{HasUnitRoom, IsRunningIn, IsRunningAt, KeepsButRoom};
+ghost use Rattle.sim_steps_model.specs.PartsOf.{HasRoomForNext, HasUnitRoom, IsRunningIn, IsRunningAt, KeepsButRoom, next_takes_room};
 ghost use Rattle.sim_steps_model.specs.StandsFor.{StandsForSome};
 
 use crate::ready::Ready;
@@ -13,7 +13,7 @@ use sim_memo::Memo;
 use sim_procs::{Body, Procs};
 use sim_shared::Shared;
 use sim_steps_model::{Mode, Rest, Unit};
-use sim_types::{EventId, ProcId, Setup, Signal};
+use sim_types::{Callback, EventId, ProcId, Setup, Signal};
 use std::alloc::{AllocError, Global};
 use std::marker::Model;
 
@@ -76,7 +76,34 @@ impl<B: Body> Parts<B> {
         self.reserve_process(code)
     }
 
-    /// Makes room for all that one unit takes. Mostly it is there, which one test tells.
+    // Whether the next unit may take room.
+    fn next_takes_room(&self) -> bool
+        ensures { result ≡ next_takes_room self.now.control }
+    {
+        match self.mode {
+            Mode::Idle | Mode::Over(_, _) => false,
+            Mode::Calling(_) => {
+                let callback = self.shared.happen().table().first_left();
+                matches!(callback, Some(Callback::TryPut(_)))
+            }
+            Mode::Active(_, _, _) => true,
+        }
+    }
+
+    /// Makes room for all that the next unit takes. Most units in which no process runs take none, and then no room is
+    /// tested.
+    pub fn reserve_for_next(&mut self, code: &B::Code) -> Result<(), AllocError>
+        requires code { code.now ≡ self.old.code }
+        ensures kept { KeepsButRoom self.old self.new }
+        ensures room { OnOk result (HasRoomForNext self.new) }
+    {
+        if !self.next_takes_room() {
+            return Ok(());
+        }
+        self.reserve(code)
+    }
+
+    /// Makes room for all that one unit takes, whichever it is. Mostly it is there, which one test tells.
     pub fn reserve(&mut self, code: &B::Code) -> Result<(), AllocError>
         requires { code.now ≡ self.old.code }
         ensures kept { KeepsButRoom self.old self.new }
@@ -136,7 +163,7 @@ impl<B: Body> Parts<B> {
         requires stands { StandsForSome B.body self.old }
         requires can { CanStep self.old }
         requires fits { FitsCode (B.body.facts code.now) self.old.setup }
-        requires room { HasUnitRoom self.old }
+        requires room { HasRoomForNext self.old }
         requires few { AreFew (2 ^ 40) (held self.old.shared.happen) }
         requires events { length self.old.shared.happen.events + 40 ≤ 2 ^ 62 }
         requires processed { self.old.processed < 2 ^ 62 }

@@ -7,6 +7,7 @@ ghost use Rattle.sim_machine.specs.Requests as requests;
 ghost use Rattle.sim_procs.specs.RecordOf.{record_of, scope_of};
 ghost use Rattle.sim_events.specs.TableOf.{IsKept, kept_at};
 ghost use Rattle.sim_happen_model.specs.HappenOf.{held};
+ghost use Rattle.sim_shared_model.specs.Waiting.{AreAllOpen};
 ghost use Rattle.sim_steps_model.specs.Becoming.{AreFew, Becomes, BecomesWith, IsOwing};
 ghost use Rattle.sim_steps_model.specs.Calling.{called};
 ghost use Rattle.sim_steps_model.specs.Dropping.{CanLeave};
@@ -35,7 +36,7 @@ impl<B: Body> Parts<B> {
     pub(crate) fn call_try_get(&mut self, event: EventId, res: u32)
         requires calling { IsCalling event self.old.control }
         requires within { res < length self.old.setup.resources }
-        requires ready { AreResourcesReady self.old }
+        requires waiting { AreAllOpen self.old.shared }
         ensures becomes { Becomes B.body
             (called (plan_of B.body self.old) event (callback.TryGet res))
             self.old self.new }

@@ -1,5 +1,5 @@
 -- What an operation on a resource needs is known of the process that asked for it.
-use Rattle.std.proofs.Common.{◌≡◌, ℕ, ◌+◌, ◌<◌, ◌≤◌, ◌^◌, Bool, true, not, List, ◌∷◌, length, sym, ap, subst, ◌∙◌, arith}
+use Rattle.std.proofs.Common.{◌≡◌, ℕ, ◌+◌, ◌<◌, ◌≤◌, ◌^◌, Bool, true, not, List, ◌∷◌, Some, length, sym, ap, subst, ◌∙◌, arith}
 use Rattle.std.proofs.lemmas.Bool.{not-true}
 use Rattle.std.specs.List.{AllPass}
 use Rattle.std.proofs.lemmas.List.Elements.{All-head, All-weaker}
@@ -28,7 +28,7 @@ use Rattle.sim_shared_model.specs.SharedOf.{SharedOf}
 use Rattle.sim_shared_model.specs.ShowsAll.{ShowsAll}
 use Rattle.sim_shared_model.specs.Making.{ShowsSome}
 use Rattle.sim_shared_model.specs.Waiting.{AreAllOpen}
-use Rattle.sim_steps_model.specs.PartsOf.{PartsOf, HasUnitRoom, IsRunning}
+use Rattle.sim_steps_model.specs.PartsOf.{PartsOf, HasUnitRoom, HasRoomForNext, IsRunning, call_takes_room, next_takes_room}
 use Rattle.sim_steps_model.specs.StandsFor.{StandsForSome}
 use Rattle.sim_steps_model.specs.Calling.{TakesCallback}
 use Rattle.sim_steps_model.specs.Holding.{TakesHolder}
@@ -36,7 +36,7 @@ use Rattle.sim_steps_model.specs.Polling.{Asks, AsksOwing}
 use Rattle.sim_steps_model.specs.Resources.{AreResourcesReady, TakesMoves, TakesRequests}
 use Rattle.sim_steps_law.proofs.Becoming.{lawful_stands, shown_with}
 use Rattle.sim_steps_law.proofs.Running.{KeepsLaw, running_can_be_told}
-use Rattle.sim_steps_law.proofs.WaitingRequests.{resources_ready}
+use Rattle.sim_steps_law.proofs.WaitingRequests.{all_open, resources_ready}
 
 -- ---- the process that was polled
 
@@ -127,34 +127,47 @@ shows_taken h left spare c s =
 
 module _ {B Code : Type 0} (body : BodyOf B Code) (a m : PartsOf B Code) (event : EventId) (x : Callback) (t : TakesCallback event x a m)
     (h : StandsForSome body a) where
-  pub taken_ready : AreNeeded a.shared.happen.events → HasUnitRoom a → m.shared.happen.spare ≡ more_callbacks 1 a.shared.happen.spare →
-      length a.shared.happen.events + 1 < 2 ^ 62 → AreResourcesReady m
-  taken_ready needed room more number =
-      let r = resources_ready body a h needed room number in
-      let y : HappenOf = record a.shared.happen { left = m.shared.happen.left; spare = m.shared.happen.spare } in
-      let s : SharedOf = record a.shared { happen = y } in
-      let is : m.shared ≡ s =
-      ap (λ (k : PartsOf B Code). k.shared) t.others ∙ ap (λ (z : HappenOf). let u : SharedOf = record a.shared { happen = z } in u) t.happen in
-      let waits : AreAllOpen s = record {
-        each = λ res z there. All-weaker (IsOpen a.shared.happen) (IsOpen y)
-            (open_taken a.shared.happen m.shared.happen.left m.shared.happen.spare) (waiting_at z) (r.waiting.each res z there);
+  -- what happens once it was taken out, and the resources around it
+  abbrev happen_then : HappenOf
+  happen_then = record a.shared.happen { left = m.shared.happen.left; spare = m.shared.happen.spare }
+
+  abbrev shared_then : SharedOf
+  shared_then = record a.shared { happen = happen_then }
+
+  are_then : m.shared ≡ shared_then
+  are_then =
+      ap (λ (k : PartsOf B Code). k.shared) t.others ∙ ap (λ (z : HappenOf). let u : SharedOf = record a.shared { happen = z } in u) t.happen
+
+  pub taken_waiting : AreNeeded a.shared.happen.events → AreAllOpen m.shared
+  taken_waiting needed =
+      let waiting = all_open body a h needed in
+      let waits : AreAllOpen shared_then = record {
+        each = λ res z there. All-weaker (IsOpen a.shared.happen) (IsOpen happen_then) (open_taken a.shared.happen m.shared.happen.left m.shared.happen.spare)
+            (waiting_at z) (waiting.each res z there);
       } in
-      let f = r.shown.facilities in
-      let shows : ShowsAll s f =
-      shown_with a.shared y f f.calendar (omega arith)
-      (shows_taken a.shared.happen m.shared.happen.left m.shared.happen.spare f.calendar r.shown.shown.calendar) r.shown.shown in
+      subst AreAllOpen (sym are_then) waits
+
+  -- there is room where this callback may take any
+  pub taken_ready : AreNeeded a.shared.happen.events → HasRoomForNext a → m.shared.happen.spare ≡ more_callbacks 1 a.shared.happen.spare →
+      length a.shared.happen.events + 1 < 2 ^ 62 → call_takes_room (Some x) ≡ true → AreResourcesReady m
+  taken_ready needed roomy more number takes =
+      let room : HasUnitRoom a = roomy (subst (λ (c : Control). next_takes_room c ≡ true) (sym t.before) takes) in
+      let f = h.state.facilities in
+      let shown = h.stands.facilities in
+      let shows : ShowsAll shared_then f = shown_with a.shared happen_then f f.calendar (omega arith)
+      (shows_taken a.shared.happen m.shared.happen.left m.shared.happen.spare f.calendar shown.calendar) shown in
       record {
-        waiting = subst AreAllOpen (sym is) waits;
-        shown = subst ShowsSome (sym is) (record { facilities = f; shown = shows });
+        waiting = taken_waiting needed;
+        shown = subst ShowsSome (sym are_then) (record { facilities = f; shown = shows });
         room = record {
           events = subst (λ (z : Spare). 40 ≤ z.events) (sym more) room.events;
           callbacks = subst (λ (z : Spare). 64 ≤ z.callbacks) (sym more) (omega (arith, room.callbacks));
           conditions = subst (λ (z : Spare). 40 ≤ z.conditions) (sym more) room.conditions;
-          places = ap (λ (z : SharedOf). z.used) is ∙ room.places;
+          places = ap (λ (z : SharedOf). z.used) are_then ∙ room.places;
           processes = subst (λ (k : PartsOf B Code). 1 ≤ k.spare) (sym t.others) room.processes;
           ready = subst (λ (k : PartsOf B Code). k.ready ≡ true) (sym t.others) room.ready;
         };
-        number = subst (λ (z : SharedOf). length z.happen.events + 1 < 2 ^ 62) (sym is) number;
+        number = subst (λ (z : SharedOf). length z.happen.events + 1 < 2 ^ 62) (sym are_then) number;
       }
 
   -- it tries a queue of a resource that there is, if it tries one

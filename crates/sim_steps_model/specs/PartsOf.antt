@@ -1,13 +1,15 @@
 -- What contracts see of a kernel.
-use Rattle.std.specs.Prelude.{◌≡◌, ◌≤◌, ℕ, Bool, List, [], Option, None, IfSome, IsTrue}
+use Rattle.std.specs.Prelude.{◌≡◌, ◌≤◌, ℕ, Bool, true, false, List, [], Option, Some, None, IfSome, IsTrue}
 use Rattle.rand_pcg.specs.Lcg.{Lcg}
 use Rattle.sim_types.specs.declared.event.EventId.{EventId}
 use Rattle.sim_types.specs.declared.event.ProcId.{ProcId}
 use Rattle.sim_types.specs.declared.event.Signal.{Signal}
 use Rattle.sim_types.specs.declared.event.Callback.{Callback}
+use Rattle.sim_types.specs.declared.event.Callback.TheVariants as callback
 use Rattle.sim_types.specs.declared.setup.Setup.{Setup}
 use Rattle.sim_machine.specs.State.{Control, Idle, Calling, Active, Over, Plan}
 use Rattle.sim_machine.specs.RandomWords.{word_of}
+use Rattle.sim_machine.specs.Users.{first_of_list}
 use Rattle.sim_machine.specs.Bodies.{BodyOf, start_of}
 use Rattle.sim_procs.specs.RecordOf.{RecordOf, ScopesOf}
 use Rattle.sim_happen_model.specs.HappenOf.{HappenOf}
@@ -114,6 +116,24 @@ pub record HasUnitRoom {B Code : Type 0} (parts : PartsOf B Code) : Type 0 where
   pub places : parts.shared.used ≡ None
   pub processes : 1 ≤ parts.spare
   pub ready : IsTrue parts.ready
+
+-- whether the callback that comes next may take room, if one comes: where the requests at a resource are tried, one may
+-- interrupt who uses a slot, which makes an event
+abbrev pub call_takes_room : Option Callback → Bool
+call_takes_room (Some (callback.TryPut res)) = true
+call_takes_room _ = false
+
+-- whether the next unit may take room: a process that runs may ask for what takes some, and no other unit takes any
+-- but such a callback
+abbrev pub next_takes_room : Control → Bool
+next_takes_room Idle = false
+next_takes_room (Calling event left) = call_takes_room (first_of_list left)
+next_takes_room (Active event left process told) = true
+next_takes_room (Over why event left) = false
+
+-- room for all that the next unit takes, which is none where it takes no room
+abbrev pub HasRoomForNext : {B Code : Type 0} → PartsOf B Code → Type 0
+HasRoomForNext parts = IsTrue (next_takes_room parts.control) → HasUnitRoom parts
 
 -- the plan of the machine that a kernel was opened with
 abbrev pub plan_of : {B Code : Type 0} → BodyOf B Code → PartsOf B Code → Plan B

@@ -24,28 +24,28 @@ returns-then-unit_quietly-clause-steps g c =
 
 -- ---- any other unit
 
-pub invariant_of-self-in_err-reserve : goal.invariant_of-self-in_err-reserve
-invariant_of-self-in_err-reserve g c =
-    let kept = rw (c.if-unit_quietly.ensures.kept refl) at c.reserve.ensures.kept in
-    roomier_holds g.B.LawfulBody.body c.self.inside.units c.self.inside.parts c.reserve.new.self kept c.self.invariant
+pub invariant_of-self-in_err-reserve_for_next : goal.invariant_of-self-in_err-reserve_for_next
+invariant_of-self-in_err-reserve_for_next g c =
+    let kept = rw (c.if-unit_quietly.ensures.kept refl) at c.reserve_for_next.ensures.kept in
+    roomier_holds g.B.LawfulBody.body c.self.inside.units c.self.inside.parts c.reserve_for_next.new.self kept c.self.invariant
 
 pub unit-unit-requires-clause-stands : goal.unit-unit-requires-clause-stands
 unit-unit-requires-clause-stands g c =
     let old = c.self.inside.parts in
-    let kept = rw (c.if-unit_quietly.ensures.kept refl) at c.reserve.ensures.kept in
-    roomier_stands_for_some g.B.LawfulBody.body old c.reserve.new.self kept (stands_for_some g.B.LawfulBody.body c.self.inside.units old c.self.invariant)
+    let kept = rw (c.if-unit_quietly.ensures.kept refl) at c.reserve_for_next.ensures.kept in
+    roomier_stands_for_some g.B.LawfulBody.body old c.reserve_for_next.new.self kept (stands_for_some g.B.LawfulBody.body c.self.inside.units old c.self.invariant)
 
 pub invariant_of-self-2 : goal.invariant_of-self-2
 invariant_of-self-2 g c =
     let old = c.self.inside.parts in
-    let kept = rw (c.if-unit_quietly.ensures.kept refl) at c.reserve.ensures.kept in
-    unit_holds g.B.LawfulBody.body c.self.inside.units old c.reserve.new.self c.unit-unit.result c.unit-unit.new.self (g.B.LawfulBody.lawful old.code)
+    let kept = rw (c.if-unit_quietly.ensures.kept refl) at c.reserve_for_next.ensures.kept in
+    unit_holds g.B.LawfulBody.body c.self.inside.units old c.reserve_for_next.new.self c.unit-unit.result c.unit-unit.new.self (g.B.LawfulBody.lawful old.code)
     c.self.invariant kept c.unit-unit.ensures.moves
 
 pub returns-clause-steps : goal.returns-clause-steps
 returns-clause-steps g c =
     let old = c.self.inside.parts in
-    let kept = rw (c.if-unit_quietly.ensures.kept refl) at c.reserve.ensures.kept in
+    let kept = rw (c.if-unit_quietly.ensures.kept refl) at c.reserve_for_next.ensures.kept in
     rw (← c.self.view_is)
-    (unit_steps g.B.LawfulBody.body old c.self.invariant.fits (g.B.LawfulBody.lawful old.code) c.reserve.new.self c.unit-unit.result
+    (unit_steps g.B.LawfulBody.body old c.self.invariant.fits (g.B.LawfulBody.lawful old.code) c.reserve_for_next.new.self c.unit-unit.result
     c.unit-unit.new.self kept c.unit-unit.ensures.moves c.slots-kept-2.ensures.needed)

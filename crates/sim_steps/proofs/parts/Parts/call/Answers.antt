@@ -6,7 +6,7 @@ use Rattle.sim_steps_law.proofs.Keeping.{none_is_few}
 use Rattle.sim_steps_law.proofs.Calls.{becomes_taken, called_moves, taken_moves, taken_names}
 use Rattle.sim_steps_law.proofs.CalledConditions.{condition_known, condition_taken}
 use Rattle.sim_steps_law.proofs.Naming.{called_names}
-use Rattle.sim_steps_law.proofs.AskedResources.{taken_ready, taken_tries}
+use Rattle.sim_steps_law.proofs.AskedResources.{taken_ready, taken_tries, taken_waiting}
 use Rattle.sim_steps.proofs.parts.Parts.call.Goals as goal
 
 pub settle-requires-clause-kept : goal.settle-requires-clause-kept
@@ -31,9 +31,14 @@ pub answer-requires-clause-tries : goal.answer-requires-clause-tries
 answer-requires-clause-tries g c =
     taken_tries g.B.LawfulBody.body c.args.self.now c.take_callback.new.self c.args.event c.in-Some.callback c.in-Some.ensures.taken c.requires.stands _ c.in-Some.ensures.taken.before
 
+pub answer-requires-clause-waiting : goal.answer-requires-clause-waiting
+answer-requires-clause-waiting g c =
+    taken_waiting g.B.LawfulBody.body c.args.self.now c.take_callback.new.self c.args.event c.in-Some.callback c.in-Some.ensures.taken c.requires.stands c.requires.needed
+
 pub answer-requires-clause-ready : goal.answer-requires-clause-ready
 answer-requires-clause-ready g c =
-    taken_ready g.B.LawfulBody.body c.args.self.now c.take_callback.new.self c.args.event c.in-Some.callback c.in-Some.ensures.taken c.requires.stands c.requires.needed c.requires.room c.in-Some.ensures.spare (omega (arith, c.requires.events))
+    taken_ready g.B.LawfulBody.body c.args.self.now c.take_callback.new.self c.args.event c.in-Some.callback c.in-Some.ensures.taken c.requires.stands c.requires.needed
+    c.requires.room c.in-Some.ensures.spare (omega (arith, c.requires.events))
 
 pub settle-requires-clause-owing : goal.settle-requires-clause-owing
 settle-requires-clause-owing g c = rw c.in-None.ensures.same (some_owing g.B.LawfulBody.body c.args.self.now c.requires.stands)
