@@ -253,11 +253,9 @@ impl Script {
         ensures { (result, self.new) ≡ script_turn code.now self.old time signal }
     {
         self.take_in(code, signal);
-        // An operation is large, and so is made where it is wanted. Most statements ask for nothing.
+        // An operation is large, and so is made where it is wanted.
         let mut asked = Op::Nop;
-        if !self.go_quietly(code, time) {
-            self.ask(code, time, &mut asked);
-        }
+        self.ask(code, time, &mut asked);
         self.asked = Some(Memo::of(&asked));
         asked
     }
