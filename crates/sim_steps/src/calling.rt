@@ -4,17 +4,19 @@ ghost use Rattle.sim_types.specs.declared.event.Callback.TheVariants as callback
 ghost use Rattle.sim_machine.specs.State.{Active, Calling, Idle, Over};
 ghost use Rattle.sim_machine.specs.Events.{is_fail};
 ghost use Rattle.sim_machine.specs.Standing.{left_of};
+ghost use Rattle.sim_machine.specs.Processes as processes;
 ghost use Rattle.sim_machine.specs.Steps as steps;
 ghost use Rattle.sim_machine.specs.LawfulTries.{tries_well};
 ghost use Rattle.sim_events.specs.Changes.{more_callbacks};
 ghost use Rattle.sim_events.specs.TableOf.{AreNeeded, IsKept, kept_at};
+ghost use Rattle.sim_happen_model.specs.Shows.{Follows};
 ghost use Rattle.sim_happen_model.specs.HappenOf.{held};
 ghost use Rattle.sim_shared_model.specs.Waiting.{AreAllOpen};
 ghost use Rattle.sim_accounts.specs.Naming.{but_zero, triggered_by};
 ghost use Rattle.sim_steps_model.specs.Becoming.{AreFew, Becomes, BecomesOwing, IsOwing, Moves};
 ghost use Rattle.sim_steps_model.specs.Calling.{called, CallsKept, TakesCallback};
 ghost use Rattle.sim_steps_model.specs.Conditions.{CallsCondition};
-ghost use Rattle.sim_steps_model.specs.PartsOf.{HasRoomForNext, IsCalling, call_takes_room, plan_of};
+ghost use Rattle.sim_steps_model.specs.PartsOf.{HasRoomForNext, IsCalling, KeepsButHappen, call_takes_room, plan_of};
 ghost use Rattle.sim_steps_model.specs.Resources.{AreResourcesReady};
 ghost use Rattle.sim_steps_model.specs.StandsFor.{StandsForSome};
 
@@ -138,6 +140,20 @@ impl<B: Body> Parts<B> {
         }
     }
 
+    // A failure that a process is told of ends no run by itself. An event that it is told a value of did not fail.
+    fn defuse_told(&mut self, event: EventId, told: Signal)
+        requires kept { IsKept self.old.shared.happen.events event }
+        requires told { let x = (kept_at self.old.shared.happen.events event).event in
+            told ≡ steps.signal_by x.kind x.outcome }
+        ensures follows { Follows (processes.defuse_failed event)
+            self.old.shared.happen self.new.shared.happen }
+        ensures rest { KeepsButHappen self.old self.new }
+    {
+        if !matches!(told, Signal::Value(_)) {
+            self.defuse_failed(event);
+        }
+    }
+
     // A process runs within the call of a callback of the event, and is to be told this.
     fn run(&mut self, event: EventId, process: ProcId, told: Signal)
         requires calling { IsCalling event self.old.control }
@@ -156,7 +172,7 @@ impl<B: Body> Parts<B> {
             self.old self.new }
     {
         let told = self.signal_by(event);
-        self.defuse_failed(event);
+        self.defuse_told(event, told);
         self.run(event, process, told);
     }
 
