@@ -15,7 +15,7 @@ event_in-now-requires-clause-alive g c =
 pub event_in-now-requires-clause-within : goal.event_in-now-requires-clause-within
 event_in-now-requires-clause-within g c =
     rw (c.requires.place, c.requires.code) (place_within g.B.LawfulBody.body g.B.Body.told_place c.args.self.now c.args.event c.args.process
-      c.args.told g.met.B.Body.told_place_within c.requires.stands (omega (arith, c.requires.events)) c.requires.running)
+    c.args.told g.met.B.Body.told_place_within c.requires.stands (omega (arith, c.requires.events)) c.requires.running)
 
 pub hold-requires-clause-kept : goal.hold-requires-clause-kept
 hold-requires-clause-kept g c =
@@ -25,8 +25,8 @@ hold-requires-clause-kept g c =
     record { places = g.met.B.Body.places old.code; few = g.met.B.Body.few_places old.code; others = g.met.B.Body.other_places_stay old.code } in
     let given = rw c.requires.code at c.requires.place in
     rw c.poll_body.ensures.happen (now_kept g.B.LawfulBody.body g.B.Body.events_held place old c.args.process c.args.event c.args.told reads
-      (g.B.LawfulBody.lawful old.code) c.requires.stands (omega (arith, c.requires.events)) c.requires.running c.poll_body.new.self
-      c.poll_body.new.asked c.poll_body.ensures.asked c.args.place c.event_in-now.result given c.event_in-now.ensures c.requires.needed)
+    (g.B.LawfulBody.lawful old.code) c.requires.stands (omega (arith, c.requires.events)) c.requires.running c.poll_body.new.self
+    c.poll_body.new.asked c.poll_body.ensures.asked c.args.place c.event_in-now.result given c.event_in-now.ensures c.requires.needed)
 
 pub hold-requires-clause-few : goal.hold-requires-clause-few
 hold-requires-clause-few g c = rw c.poll_body.ensures.happen (are_few c.args.self.now.shared.happen c.requires.few)
@@ -39,17 +39,17 @@ returns-clause-asked g c =
     record { places = g.met.B.Body.places old.code; few = g.met.B.Body.few_places old.code; others = g.met.B.Body.other_places_stay old.code } in
     let given = rw c.requires.code at c.requires.place in
     now_owing g.B.LawfulBody.body g.B.Body.events_held place old c.args.process c.args.event c.args.told reads (g.B.LawfulBody.lawful old.code)
-      c.requires.stands (omega (arith, c.requires.events)) c.requires.running c.poll_body.new.self c.poll_body.new.asked c.poll_body.ensures.asked
-      c.args.place c.event_in-now.result given c.event_in-now.ensures c.hold.new.self c.poll_body.ensures.happen c.hold.ensures.owes
-      c.hold.ensures.more c.hold.ensures.takes c.hold.ensures.rest
+    c.requires.stands (omega (arith, c.requires.events)) c.requires.running c.poll_body.new.self c.poll_body.new.asked c.poll_body.ensures.asked
+    c.args.place c.event_in-now.result given c.event_in-now.ensures c.hold.new.self c.poll_body.ensures.happen c.hold.ensures.owes
+    c.hold.ensures.more c.hold.ensures.takes c.hold.ensures.rest
 
 pub returns-clause-names : goal.returns-clause-names
 returns-clause-names g c =
     let old = c.args.self.now in
     let asks = returns-clause-asked g c in
     rw c.requires.code (asked_names g.B.LawfulBody.body old c.requires.stands c.requires.needed c.args.event c.args.process c.args.told
-      (rw (← c.requires.code) c.requires.fits) (g.B.LawfulBody.lawful old.code) (omega (arith, c.requires.events)) c.requires.running c.hold.new.self
-      c.poll_body.new.asked asks.asks)
+    (rw (← c.requires.code) c.requires.fits) (g.B.LawfulBody.lawful old.code) (omega (arith, c.requires.events)) c.requires.running c.hold.new.self
+    c.poll_body.new.asked asks.asks)
 
 pub returns-clause-alive : goal.returns-clause-alive
 returns-clause-alive g c =
@@ -60,7 +60,7 @@ pub returns-clause-ready : goal.returns-clause-ready
 returns-clause-ready g c =
     let asks = returns-clause-asked g c in
     polled_ready g.B.LawfulBody.body c.args.self.now c.hold.new.self c.args.process c.args.told _ c.poll_body.new.asked asks c.requires.stands
-      c.requires.needed c.requires.room (omega (arith, c.requires.events))
+    c.requires.needed c.requires.room (omega (arith, c.requires.events))
 
 pub returns-clause-room : goal.returns-clause-room
 returns-clause-room g c =
@@ -96,4 +96,4 @@ pub returns-clause-running : goal.returns-clause-running
 returns-clause-running g c =
     let asks = returns-clause-asked g c in
     asked_running g.B.LawfulBody.body c.args.self.now c.hold.new.self c.args.event c.args.process c.args.told c.poll_body.new.asked asks.asks
-      c.requires.running
+    c.requires.running

@@ -9,13 +9,13 @@ returns-in-Ok g c =
     let kept = rw (← c.copied.ensures) at c.requires.members in
     record {
       becomes = rw (← c.copied.ensures) (condition_becomes _ _ x c.in-Ok.condition _ c.copied.result c.in-Ok.ensures.few kept
-        (λ d s. false_from_ne_true _ (λ wide. false≢true ((c.in-Ok.ensures.wide d s).1 wide))) c.in-Ok.ensures.ok c.in-Ok.ensures.id
-        (c.tell.ensures ∙ rw (c.in-Ok.ensures.rest, c.in-Ok.ensures.ok.left) refl));
+          (λ d s. false_from_ne_true _ (λ wide. false≢true ((c.in-Ok.ensures.wide d s).1 wide))) c.in-Ok.ensures.ok c.in-Ok.ensures.id
+          (c.tell.ensures ∙ rw (c.in-Ok.ensures.rest, c.in-Ok.ensures.ok.left) refl));
     }
 
 pub returns-in-Err : goal.returns-in-Err
 returns-in-Err g c =
     record {
       becomes = rw (← c.copied.ensures) (wide_becomes _ _ _ c.copied.result (λ d s. (c.in-Err.ensures.wide d s).0 refl)
-        (c.tell-in-Err.ensures ∙ rw c.in-Err.ensures.err refl));
+          (c.tell-in-Err.ensures ∙ rw c.in-Err.ensures.err refl));
     }

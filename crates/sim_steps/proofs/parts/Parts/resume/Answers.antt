@@ -7,6 +7,6 @@ pub returns : goal.returns
 returns g c =
     record {
       becomes = resumed_becomes (plan_of g.B.LawfulBody.body c.args.self.now) c.args.self.now c.run.new.self c.defuse_told.new.self.shared.happen
-        c.args.event c.args.process c.signal_by-told.result c.requires.calling c.requires.kept c.signal_by-told.ensures c.defuse_told.ensures.follows
-        (c.run.ensures ∙ rw c.defuse_told.ensures.rest refl);
+          c.args.event c.args.process c.signal_by-told.result c.requires.calling c.requires.kept c.signal_by-told.ensures c.defuse_told.ensures.follows
+          (c.run.ensures ∙ rw c.defuse_told.ensures.rest refl);
     }
