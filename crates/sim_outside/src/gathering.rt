@@ -86,6 +86,14 @@ impl<'a, K: Sink, L: Loan> Gathering<'a, K, L> {
 impl<'a, K: Sink, L: Loan> Sink for Gathering<'a, K, L> {
     ghost tells = { λ sink. gathered (K.tells sink.inner.now) sink.held };
 
+    ghost use Rattle.std.specs.Prelude.{false};
+
+    ghost ignores = { λ _. false };
+
+    fn ignores_bytes(&self) -> bool {
+        false
+    }
+
     #[tactic(auto, using(crate::proofs::HeldBack::gathering))]
     fn write(&mut self, piece: &[u8]) -> Result<usize, Failed> {
         let count = self.held.add(piece);

@@ -184,6 +184,14 @@ impl Sink for MemSink {
 
     ghost tells = { told_in_memory };
 
+    ghost use Rattle.std.specs.Prelude.{false};
+
+    ghost ignores = { λ _. false };
+
+    fn ignores_bytes(&self) -> bool {
+        false
+    }
+
     fn write(&mut self, piece: &[u8]) -> Result<usize, Failed>
         ensures full { IsErr result ↔ (0 < length piece.now) × (self.old.room ≡ 0) }
         ensures count { IfOk result (λ n. n ≡ min (length piece.now) self.old.room) }

@@ -37,6 +37,14 @@ impl Sink for NullSink {
 
     ghost tells = { λ sink. record { taken = None; faults = 0; flushing = sink } };
 
+    ghost use Rattle.std.specs.Prelude.{true};
+
+    ghost ignores = { λ _. true };
+
+    fn ignores_bytes(&self) -> bool {
+        true
+    }
+
     fn write(&mut self, piece: &[u8]) -> Result<usize, Failed>
         ensures count { result ≡ Ok (length piece.now) }
         ensures held_back { self.new ≡ taking (length piece.now) self.old }

@@ -1,5 +1,5 @@
 //! What is written to.
-ghost use Rattle.std.specs.Prelude.{◌≡◌, ◌<◌, length, true, IfOk, OnOk, OnErr};
+ghost use Rattle.std.specs.Prelude.{◌≡◌, ◌<◌, length, Bool, true, None, IsTrue, IfOk, OnOk, OnErr};
 ghost use Rattle.std.specs.Io.{WritesAtMost};
 ghost use Rattle.std.specs.Io.KnownBytes.{WriteAppends, Keeps};
 ghost use Rattle.sim_outside.specs.Causes.{HasCause};
@@ -12,6 +12,15 @@ pub trait Sink {
     /// The bytes taken, in order, where the sink tells them; how many faults it has had; how many flushes went well, and
     /// whether bytes were taken since. A count that reached 2^64 - 1 may stand there.
     ghost tells: { Self → SinkOf };
+
+    /// Whether it makes no difference to the sink which bytes are written to it.
+    ghost ignores: { Self → Bool };
+
+    /// Whether it makes no difference which bytes are written. Then the sink tells none, and whoever has some to write may
+    /// leave that out.
+    fn ignores_bytes(&self) -> bool
+        ensures answer { result ≡ ignores self.now }
+        ensures untold { IsTrue (ignores self.now) → (tells self.now).taken ≡ None };
 
     /// Takes a front of `piece` and answers how many bytes it has. Of a piece that is not empty it takes at least one
     /// byte, or it fails.

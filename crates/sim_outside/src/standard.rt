@@ -93,6 +93,14 @@ impl<W: Write> Sink for StdSink<W> {
 
     ghost tells = { told_by_writer W.contents };
 
+    ghost use Rattle.std.specs.Prelude.{false};
+
+    ghost ignores = { λ _. false };
+
+    fn ignores_bytes(&self) -> bool {
+        false
+    }
+
     fn write(&mut self, piece: &[u8]) -> Result<usize, Failed> {
         match self.output.write(piece) {
             Ok(0) if !piece.is_empty() => Err(self.faults.fail()),
