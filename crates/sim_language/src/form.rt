@@ -166,10 +166,7 @@ impl Form {
     pub fn is_built(self) -> bool
         ensures { result ≡ is_built self }
     {
-        !matches!(
-            self,
-            Form::Port | Form::Journal | Form::After | Form::Poster | Form::Post
-        )
+        !matches!(self, Form::Poster | Form::Post)
     }
 
     /// Whether the form begins with `x =`.

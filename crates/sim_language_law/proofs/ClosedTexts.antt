@@ -46,7 +46,7 @@ StandsAt above below s = Stands (statements above) (variables_at above below) (o
 abbrev SoFar : ℕ → List TextLine → List TextLine → ScenarioOf → Type 0
 SoFar n above below s = All (λ l. IsSaid l.saying) below × StandsAt above below s
 
-no_blocks : (blocks : Option (List Block)) → is_some blocks ≡ false → blocks ≡ None
+pub no_blocks : (blocks : Option (List Block)) → is_some blocks ≡ false → blocks ≡ None
 no_blocks None h = refl
 no_blocks (Some bs) h = absurd (true≢false h)
 
@@ -117,7 +117,7 @@ module _ (heads : ProcessLines) (n : ℕ) (above : List TextLine) (words : List 
 kept : (heads : ProcessLines) → Kept heads SoFar
 kept heads n above l below s p clean = (All-tail (λ k. IsSaid k.saying) l below p.0, one_line heads n above l.words below s l.saying (All-head (λ k. IsSaid k.saying) l below p.0) clean p.1)
 
-nothing_at_line : (n : ℕ) (k : Option FaultKind) → at_line n k ≡ None → k ≡ None
+pub nothing_at_line : (n : ℕ) (k : Option FaultKind) → at_line n k ≡ None → k ≡ None
 nothing_at_line n None h = refl
 nothing_at_line n (Some kind) h = absurd (none-some _ (sym h))
 

@@ -24,7 +24,7 @@ use Rattle.sim_language_law.proofs.NamedLists.{same_is}
 -- ---- rows of words
 
 -- what holds of each row holds of the word and of the form that is found by it
-row_all : (test : Word → Form → Bool) (rows : List (Word × Form)) (w : Word) (f : Form)
+pub row_all : (test : Word → Form → Bool) (rows : List (Word × Form)) (w : Word) (f : Form)
     → list_all (λ row. test row.0 row.1) rows ≡ true → form_at w rows ≡ Some f → test w f ≡ true
 row_all test [] w f all h = absurd (none-some f h)
 row_all test (row ∷ rows) w f all h = by (same w row.0) refl h (and_parts (test row.0 row.1) _ all) (row_all test rows w f)

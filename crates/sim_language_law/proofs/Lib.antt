@@ -50,11 +50,27 @@ pub mod MadeStatements
 pub mod ProcessFirsts
 pub mod StandingCode
 pub mod ClosedTexts
--- forms that are built
-pub mod BuiltLines
-pub mod BuiltTexts
 -- whole texts
 pub mod FittingSoFar
 pub mod FittingTexts
 pub mod ReadTexts
 pub mod WellFormedTexts
+-- what a well-formed scenario is, in its parts
+pub mod WellFormedParts
+pub mod PostsOfScenarios
+-- a text with a journal behind its other lines
+pub mod LinesBehind
+pub mod EndedLines
+pub mod WrittenNumbers
+pub mod WordsOfLines
+pub mod SaidForms
+pub mod PlainLines
+pub mod SectionLines
+pub mod SectionAdditions
+pub mod NamedPorts
+pub mod EntryLines
+pub mod CleanEntries
+pub mod FrontOfSections
+pub mod WholeOfFront
+pub mod LinesWithJournals
+pub mod TextsWithJournals

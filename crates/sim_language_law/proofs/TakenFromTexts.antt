@@ -20,7 +20,7 @@ use Rattle.sim_language_law.proofs.RightLines.{IsRight, is_right}
 use Rattle.sim_language_law.proofs.DeclaringLines.{line_declares, line_head}
 
 -- what is taken from the words of each line is what the line says
-abbrev IsSaidByLine : {A : Type 0} → (Version → List Word → Option A) → (Saying → List A) → Type 0
+abbrev pub IsSaidByLine : {A : Type 0} → (Version → List Word → Option A) → (Saying → List A) → Type 0
 IsSaidByLine taken said = (s : Setting) (l : Word) (ws : List Word) → IsRight (saying s l ws) → option_to_list (taken s.whole.version ws) ≡ said (saying s l ws)
 
 joined : {A : Type 0} (o : Option A) (rest : List A) → cons_option o rest ≡ option_to_list o ++ rest
@@ -28,7 +28,7 @@ joined None rest = refl
 joined (Some x) rest = refl
 
 module _ (heads : ProcessLines) (end : Option Fault) {A : Type 0} (taken : Version → List Word → Option A) (said : Saying → List A) where
-  taken_from : IsSaidByLine taken said → (s : Setting) (ls : List Word) (n : ℕ) (above : List TextLine)
+  pub taken_from : IsSaidByLine taken said → (s : Setting) (ls : List Word) (n : ℕ) (above : List TextLine)
       → first_fault heads (places n above (lines_from s ls)) end ≡ None
       → filter_map (λ l. taken s.whole.version (words (cut l))) ls ≡ said_in said (lines_from s ls)
   taken_from each s [] n above clean = refl

@@ -1,6 +1,6 @@
 //! A scenario, as a text says it.
 ghost use Rattle.std.specs.Prelude.{◌≡◌, IsTrue, Ok};
-ghost use Rattle.sim_language.specs.Built.{is_built, is_built_scenario};
+ghost use Rattle.sim_language.specs.Built.{is_built};
 ghost use Rattle.sim_language.specs.Reads.{reads};
 ghost use Rattle.sim_language.specs.WellFormed.{is_well_formed};
 ghost use Rattle.sim_script_model.specs.Needs.{last_variable, most_frames, most_open_scopes};
@@ -82,7 +82,6 @@ impl Scenario {
     pub fn setup(&self) -> &Setup
         ensures setup { result.now ≡ self.now.setup }
         ensures well_formed { IsTrue (is_well_formed self.now) }
-        ensures built { IsTrue (is_built_scenario self.now) }
     {
         &self.setup
     }
@@ -96,7 +95,8 @@ impl Scenario {
 
     /// The names of the ports, by their numbers.
     pub fn port_names(&self) -> &[Name]
-        ensures { result.now ≡ self.now.port_names }
+        ensures names { result.now ≡ self.now.port_names }
+        ensures well_formed { IsTrue (is_well_formed self.now) }
     {
         self.port_names.as_slice()
     }
@@ -112,9 +112,16 @@ impl Scenario {
     pub fn code(&self) -> &[Stmt]
         ensures code { result.now ≡ self.now.code }
         ensures well_formed { IsTrue (is_well_formed self.now) }
-        ensures built { IsTrue (is_built_scenario self.now) }
     {
         self.code.as_slice()
+    }
+
+    /// What arrives from outside, in its order.
+    pub fn journal(&self) -> &[Arrival]
+        ensures journal { result.now ≡ self.now.journal }
+        ensures well_formed { IsTrue (is_well_formed self.now) }
+    {
+        self.journal.as_slice()
     }
 
     /// The last variable that is given a value.
