@@ -1,1 +1,2 @@
+pub mod SummaryTexts
 pub mod Texts

@@ -1,6 +1,7 @@
 -- The texts that are written: lines of words with one space between each two, and a line feed at the end.
---     trace_text ports lines     the lines of a trace, with the names of the ports
---     fault_text fault           why a text is refused
+--     trace_text ports lines         the lines of a trace, with the names of the ports
+--     journal_text ports entries     a journal, as a scenario text ends with it
+--     fault_text fault               why a text is refused
 use Rattle.std.specs.Prelude.{ℕ, List, [], ◌∷◌, ◌++◌, ◌≤◌, length, All, codes, decimal, slice_get, unwrap_or, flat_map}
 use Rattle.std.specs.List.{join_with_byte}
 use Rattle.std.specs.Fmt.{signed_decimal}
@@ -15,6 +16,7 @@ use Rattle.sim_types.specs.declared.line.End.{End}
 use Rattle.sim_types.specs.declared.line.End.TheVariants as end
 use Rattle.sim_types.specs.declared.line.Line.{Line}
 use Rattle.sim_types.specs.declared.line.Line.TheVariants as line
+use Rattle.sim_types.specs.declared.setup.Arrival.{Arrival}
 
 -- a line of these words
 abbrev pub written : List (List ℕ) → List ℕ
@@ -91,6 +93,14 @@ line_text ports (line.Finish time processed how) =
 
 abbrev pub trace_text : List (List ℕ) → List Line → List ℕ
 trace_text ports lines = flat_map (line_text ports) lines
+
+-- an entry of a journal: how many events were processed before it, who posted it, and what it is
+abbrev pub arrival_text : List (List ℕ) → Arrival → List ℕ
+arrival_text ports a =
+    written (codes "after" ∷ decimal a.after ∷ decimal a.poster ∷ decimal a.serial ∷ port_word ports a.port ∷ signed_decimal a.value ∷ [])
+
+abbrev pub journal_text : List (List ℕ) → List Arrival → List ℕ
+journal_text ports entries = written (codes "journal" ∷ []) ++ flat_map (arrival_text ports) entries
 
 -- the line of a fault, counted from 1, or 0 for the text as a whole
 abbrev pub fault_text : Fault → List ℕ

@@ -5,6 +5,9 @@ ghost use Rattle.std.specs.List.{join_with_byte};
 ghost use Rattle.sim_trace.specs.Texts.{AreNamesShort, kind_word, end_word, outcome_words, port_word, line_text};
 
 use crate::buffer::LineBuf;
+use crate::words::{
+    append_number, append_signed, append_signed_digits, append_word, end_word, kind_word, port_word,
+};
 use sim_types::{End, EventId, EventKind, Line, Name, Outcome, ProcId};
 
 /// Puts a line of a trace into the buffer, with a line feed at its end, in place of what stood there. The ports are
@@ -112,18 +115,6 @@ fn append_arrival(after: u64, port: u32, value: i64, ports: &[Name], out: &mut L
     out.push(b'\n');
 }
 
-/// The name of the port, which is empty where there is none.
-fn port_word<'a>(ports: &'a [Name], port: u32) -> &'a [u8]
-    requires { AreNamesShort ports.now }
-    ensures word { result.now ≡ port_word ports.now port }
-    ensures short { length result.now ≤ 32 }
-{
-    match ports.get(port as usize) {
-        Some(name) => name.bytes(),
-        None => b"",
-    }
-}
-
 fn append_finish(end: End, time: i64, processed: u64, out: &mut LineBuf)
     requires { out.old ≡ [] }
     ensures { out.new ≡ line_text [] (Line.Finish time processed end) }
@@ -133,79 +124,4 @@ fn append_finish(end: End, time: i64, processed: u64, out: &mut LineBuf)
     append_signed(time, out);
     append_number(processed, out);
     out.push(b'\n');
-}
-
-/// Appends a space and the number.
-fn append_number(number: u64, out: &mut LineBuf)
-    requires { length out.old + 21 ≤ 160 }
-    ensures items { out.new ≡ out.old ++ 32 ∷ decimal number }
-    ensures len { length out.new ≤ length out.old + 21 }
-{
-    out.push(b' ');
-    out.append_digits(number);
-}
-
-/// Appends a space and the number, which may be below zero.
-fn append_signed(number: i64, out: &mut LineBuf)
-    requires { length out.old + 22 ≤ 160 }
-    ensures items { out.new ≡ out.old ++ 32 ∷ signed_decimal number }
-    ensures len { length out.new ≤ length out.old + 22 }
-{
-    out.push(b' ');
-    append_signed_digits(number, out);
-}
-
-/// Appends the number, which may be below zero.
-#[tactic(auto, using(itoa::proofs::Decimal::minus_first))]
-fn append_signed_digits(number: i64, out: &mut LineBuf)
-    requires { length out.old + 21 ≤ 160 }
-    ensures items { out.new ≡ out.old ++ signed_decimal number }
-    ensures len { length out.new ≤ length out.old + 21 }
-{
-    if number < 0 {
-        out.push(b'-');
-    }
-    out.append_digits(number.unsigned_abs());
-}
-
-/// Appends a space and the word.
-fn append_word(word: &[u8], out: &mut LineBuf)
-    requires { length out.old + 1 + length word.now ≤ 160 }
-    ensures items { out.new ≡ out.old ++ 32 ∷ word.now }
-    ensures len { length out.new ≡ length out.old + 1 + length word.now }
-{
-    out.push(b' ');
-    out.append(word);
-}
-
-fn kind_word(kind: EventKind) -> &'static [u8]
-    ensures word { result.now ≡ kind_word kind }
-    ensures short { length result.now ≤ 9 }
-{
-    match kind {
-        EventKind::Init => b"init",
-        EventKind::Timeout => b"timeout",
-        EventKind::Plain => b"event",
-        EventKind::Process => b"process",
-        EventKind::Interrupt => b"interrupt",
-        EventKind::Cond => b"cond",
-        EventKind::Request => b"request",
-        EventKind::Release => b"release",
-        EventKind::Put => b"put",
-        EventKind::Get => b"get",
-        EventKind::Stop => b"stop",
-    }
-}
-
-fn end_word(end: End) -> &'static [u8]
-    ensures word { result.now ≡ end_word end }
-    ensures short { length result.now ≤ 7 }
-{
-    match end {
-        End::Empty => b"empty",
-        End::Until => b"until",
-        End::Crash => b"crash",
-        End::Limit => b"limit",
-        End::Starved => b"starved",
-    }
 }
