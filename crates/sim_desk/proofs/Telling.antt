@@ -21,7 +21,6 @@ use Rattle.sim_language.specs.AnywhereInText.{whole_text}
 use Rattle.sim_language.specs.Reads.{is_too_long, reads_text}
 use Rattle.sim_outside.specs.Reads.{TakesFirst}
 use Rattle.sim_outside.specs.Writes.{AppendsPrefix, SinkOf}
-use Rattle.sim_language_law.proofs.BuiltTexts.{read_built}
 use Rattle.sim_language_law.proofs.WellFormedTexts.{read_well_formed}
 use Rattle.sim_engine.proofs.InOrder.{in_order}
 use Rattle.sim_desk.specs.Answers.{IsInOrderFor, is_whole, AnswersWhole, AnswersPrefix}
@@ -72,7 +71,7 @@ same_reading (Some left) rest bytes takes = ap read_of takes.0 ∙ read_of_front
 in_order_for : (asked : Command) (text : List ℕ) (read : Result ScenarioOf Fault) → read_of text ≡ read → IsInOrderFor asked read
 in_order_for command.Check text read is = tt
 in_order_for (command.Run limit) text (Err fault) is = tt
-in_order_for (command.Run limit) text (Ok s) is = in_order s limit (read_well_formed is_built text s is) (read_built text s is)
+in_order_for (command.Run limit) text (Ok s) is = in_order s limit (read_well_formed is_built text s is)
 
 -- an answer to the bytes taken, which the text holds, is one to the text that was read
 pub whole_answer : (asked : Command) (left rest : Option (List ℕ)) (text bytes : List ℕ) (old new : SinkOf) (answer : Status)

@@ -4,7 +4,7 @@ ghost use Rattle.sim_outside.specs.Writes.{IsUnflushed, IsFlushedOnce, Writes};
 ghost use Rattle.sim_engine.specs.EngineFaults.{is_write};
 ghost use Rattle.sim_engine.specs.RunOfScenario.{end_of_scenario, printed_trace};
 
-use sim_engine::{EngineFault, run_scenario};
+use sim_engine::{EngineFault, run};
 use sim_outside::{Gathering, LentSink, Loan, Sink};
 use sim_scenario::Scenario;
 use sim_types::End;
@@ -51,6 +51,26 @@ fn run_on_loan<'a, K: Sink, L: Loan>(
         (IsUnflushed (K.tells lent.entry.sink.now) (K.tells result.sink.now)) }
 {
     let mut gathering = Gathering::<K, L>::new(lent);
-    *answer = run_scenario(alloc, scenario, limit, &mut gathering);
+    *answer = run_whole(alloc, scenario, limit, &mut gathering);
     gathering.into_inner()
+}
+
+/// Runs the scenario with its own seed on its own journal, at most so many units, writes the trace, and flushes the sink.
+#[tactic(auto, using(crate::proofs::Arriving::has_ports))]
+fn run_whole<K: Sink>(
+    alloc: Global,
+    scenario: &Scenario,
+    limit: u32,
+    out: &mut K,
+) -> Result<End, EngineFault>
+    ensures end { IfOk result (λ end. end ≡ end_of_scenario scenario.now limit) }
+    ensures writes { Writes is_write (K.tells out.old) (K.tells out.new) result
+        (printed_trace scenario.now limit) }
+    ensures flushed { OnOk result (IsFlushedOnce (K.tells out.old) (K.tells out.new)) }
+    ensures unflushed { OnErr result (IsUnflushed (K.tells out.old) (K.tells out.new)) }
+{
+    let (seed, journal) = (scenario.seed(), scenario.journal());
+    let report = run(alloc, scenario, seed, journal, limit, out)?;
+    out.flush()?;
+    Ok(report.summary.end)
 }

@@ -23,7 +23,6 @@ use Rattle.sim_machine_law.specs.Courses.{Run}
 use Rattle.sim_machine_law.proofs.KeptProcessesParts.{is_process-yes}
 use Rattle.sim_machine_law.proofs.ServedFronts.{level_of_amounts}
 use Rattle.sim_machine_law.proofs.WholeRuns.{run_stays_lawful}
-use Rattle.sim_language.specs.Built.{is_built_scenario}
 use Rattle.sim_language.specs.WellFormed.{is_well_formed}
 use Rattle.sim_script_model.specs.Scripts.{Script, script_telling}
 use Rattle.sim_script_model.specs.Polls.{script_turn}
@@ -31,9 +30,11 @@ use Rattle.sim_script_law.specs.ScriptMembers.{script_body}
 use Rattle.sim_script_law.specs.SoundScripts.{IsSoundScript}
 use Rattle.sim_script_law.proofs.ScriptLaw.{script_lawful}
 use Rattle.sim_script_law.proofs.SetupFits.{fits_code}
-use Rattle.sim_engine.specs.RunOfScenario.{plan_of_scenario, run_of_scenario}
+use Rattle.sim_language_law.proofs.PostsOfScenarios.{posts_of_scenario}
+use Rattle.sim_machine.specs.RandomWords.{word_of}
+use Rattle.sim_script_model.specs.Scenarios.{plan_with}
+use Rattle.sim_engine.specs.RunOfScenario.{run_of, run_of_scenario}
 use Rattle.sim_engine.specs.Throughout.{is_of_living, IsInOrder, IsInOrderThroughout}
-use Rattle.sim_engine.proofs.ScriptsRun.{runs_alone}
 
 -- ---- what waits for a slot is of a live process
 
@@ -85,7 +86,7 @@ ended_test true alive h = refl
 ended_test false true h = absurd (false≢true (sym h))
 ended_test false false h = refl
 
-in_order_where_lawful : (s : ScenarioOf) (t : State Script) → Lawful (plan_of_scenario s) script_telling (IsSoundScript s) t → IsInOrder s t
+in_order_where_lawful : (s : ScenarioOf) (t : State Script) → Lawful (plan_with s (word_of s.seed)) script_telling (IsSoundScript s) t → IsInOrder s t
 in_order_where_lawful s t h =
     record {
       few_users = h.capacities.slots;
@@ -99,13 +100,13 @@ in_order_where_lawful s t h =
           (list_all-from_AllPass _ t.scopes h.waiting.scopes);
     }
 
--- each state of the run of a scenario that is well formed and built
-pub in_order : (s : ScenarioOf) (limit : ℕ) → IsTrue (is_well_formed s) → IsTrue (is_built_scenario s) → IsInOrderThroughout s limit
-in_order s limit well_formed built n within =
-    let r : Run Script = record { plan = plan_of_scenario s; turn = script_turn s.code; journal = s.journal } in
+-- each state of the run of a scenario that is well formed
+pub in_order : (s : ScenarioOf) (limit : ℕ) → IsTrue (is_well_formed s) → IsInOrderThroughout s limit
+in_order s limit well_formed n within =
+    let r : Run Script = run_of s s.seed s.journal in
     let is_run : IsRunOf script_body s r = record {
       plan = record { starts = refl; fits = fits_code s well_formed };
       turns = λ b time told. (refl, refl);
-      ports = rw (runs_alone s built).journal (All-nil (λ a. a.port < length s.setup.ports));
+      ports = (posts_of_scenario s well_formed).ports;
     } in
     in_order_where_lawful s (run_of_scenario s n).state (run_stays_lawful script_body s (script_lawful s) r is_run n)

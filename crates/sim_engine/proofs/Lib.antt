@@ -1,5 +1,12 @@
-pub mod ScriptsRun
-pub mod RunUnits
+pub mod InOrder
+pub mod OnlySteps
+pub mod RoundCases
+pub mod Rounds
+pub mod RunCourses
 pub mod RunEnds
 pub mod RunTexts
-pub mod InOrder
+pub mod SessionLaws
+pub mod StepTexts
+pub mod StepUnits
+pub mod TurnSteps
+pub mod Unheard

@@ -1,87 +1,185 @@
--- A run whose kernel can make no step has ended, and stays as it is.
-use Rattle.std.proofs.Common.{◌≡◌, ℕ, ◌+◌, ◌-◌, ◌≤◌, List, [], ◌∷◌, length, false, Some, refl, sym, ap, ◌∙◌, subst, arith}
-use Rattle.std.specs.Prelude.{unwrap_or}
-use Rattle.std.proofs.lemmas.List.Sorted.{length_permutation}
+-- Where nothing comes next, the session tells what the whole run comes to.
+use Rattle.std.proofs.Common.{◌≡◌, ◌≤◌, ◌<◌, ◌⊎◌, inl, inr, ℕ, ◌+◌, ◌-◌, List, [], ◌∷◌, length, Bool, true, false, Option, Some, None, refl, sym, ap, ◌∙◌, subst, arith}
+use Rattle.std.specs.Prelude.{nat_lt, nat_le, is_none, if◌then◌else◌, unwrap_or, IsTrue}
+use Rattle.std.proofs.lemmas.Bool.{false≢true, cases_eq}
+use Rattle.std.proofs.lemmas.Bool.Decides.{nat_tests}
+use Rattle.std.proofs.lemmas.Option.{none-some}
 use Rattle.sim_types.specs.Scenarios.{ScenarioOf}
 use Rattle.sim_types.specs.declared.event.Entry.{Entry}
 use Rattle.sim_types.specs.declared.line.End.{End}
 use Rattle.sim_types.specs.declared.line.End.TheVariants as end
-use Rattle.sim_types.specs.declared.setup.Until.{Until}
-use Rattle.sim_machine.specs.State.{Control, Idle, Calling, Active, Over}
+use Rattle.sim_types.specs.declared.setup.Arrival.{Arrival}
+use Rattle.sim_machine.specs.State.{Control, Idle, Calling, Active, Over, State, Plan}
+use Rattle.sim_machine.specs.Agenda.{due}
 use Rattle.sim_machine.specs.Effect.{calendar}
-use Rattle.sim_machine.specs.Runs.{empty_end, end_by, end_of, opening_course}
+use Rattle.sim_machine.specs.Units.{Course}
+use Rattle.sim_machine.specs.Runs.{empty_end, end_by, end_of, opening_course, summary_of}
+use Rattle.sim_machine_law.specs.Courses.{Run, course_after}
+use Rattle.sim_machine_law.proofs.MadeUnits.{made_at_most, made_same, made_on, made_whole}
 use Rattle.sim_machine_law.proofs.UnitLaws.{ended_stays_on}
-use Rattle.sim_steps_model.specs.PartsOf.{PartsOf}
-use Rattle.sim_steps_model.specs.Resting.{rest_of, can_step}
-use Rattle.sim_steps_model.specs.StandsFor.{StandsFor, LawfulOf}
+use Rattle.sim_steps_model.specs.Resting.{rest_of, rest_in, can_arrive}
 use Rattle.sim_steps_model.specs.declared.mode.Rest.{Rest}
 use Rattle.sim_steps_model.specs.declared.mode.Rest.TheVariants as rest
 use Rattle.sim_script_model.specs.Scripts.{Script}
-use Rattle.sim_script_model.specs.Polls.{script_turn}
-use Rattle.sim_script_law.specs.ScriptMembers.{script_body}
-use Rattle.sim_engine.specs.RunOfScenario.{plan_of_scenario, run_of_scenario, end_of_scenario}
-use Rattle.sim_engine.specs.StandsForRun.{StandsForRun, ended_at, stopped_at}
-use Rattle.sim_engine.proofs.RunUnits.{no_arrival_left}
+use Rattle.sim_script_model.specs.Scenarios.{summary}
+use Rattle.sim_engine.specs.RunOfScenario.{run_of, units_of}
+use Rattle.sim_engine.specs.Sessions.{SessionOf, turn_of, turn_at, IsSettled, ended_at, end_in, report_of}
+use Rattle.sim_engine.specs.Rounds.{next_of, IsRefused, StandsInRun}
+use Rattle.sim_engine.specs.declared.runs.Next.{Next}
+use Rattle.sim_engine.specs.declared.runs.Next.TheVariants as next
+use Rattle.sim_engine.specs.declared.session.Turn.{Turn}
+use Rattle.sim_engine.specs.declared.session.Turn.TheVariants as turn
+use Rattle.sim_engine.proofs.RoundCases.{StandsIdle, stands_idle, stands_empty, waits_on, goes_on_idle}
 
--- ---- where the kernel stands tells how the run has ended
+-- ---- how a machine that stands so has ended
 
-empty_as_well : (c : Control) (scenario : ScenarioOf) (kept agenda : List Entry) → length kept ≡ length agenda
-    → ended_at scenario.setup.until (rest_of c kept) ≡ end_by (plan_of_scenario scenario) c agenda []
-empty_as_well Idle scenario [] [] same = refl
-empty_as_well Idle scenario [] (x ∷ xs) same = absurd (omega (arith, same))
-empty_as_well Idle scenario (y ∷ ys) [] same = absurd (omega (arith, same))
-empty_as_well Idle scenario (y ∷ ys) (x ∷ xs) same = refl
-empty_as_well (Calling e left) scenario kept agenda same = refl
-empty_as_well (Active e left p x) scenario kept agenda same = refl
-empty_as_well (Over why e left) scenario kept agenda same = refl
+over_end : (g : Plan Script) (c : Control) (kept agenda : List Entry) (left : List Arrival) (why : End) → rest_of c kept ≡ rest.Over why → end_by g c agenda left ≡ Some why
+over_end g Idle [] agenda left why h = absurd (cc)
+over_end g Idle (x ∷ kept) agenda left why h = absurd (cc)
+over_end g (Calling e calls) kept agenda left why h = absurd (cc)
+over_end g (Active e calls p told) kept agenda left why h = absurd (cc)
+over_end g (Over how e calls) kept agenda left why h = ap Some cc
 
-rest_tells : (scenario : ScenarioOf) (n : ℕ) (parts : PartsOf Script ScenarioOf) → StandsForRun scenario n parts
-    → ended_at scenario.setup.until (rest_of parts.control parts.shared.happen.agenda) ≡ end_of (plan_of_scenario scenario) (run_of_scenario scenario n)
-rest_tells scenario n parts h =
-    let m = run_of_scenario scenario n in
-    rw (no_arrival_left scenario n h.journal)
-    (rw (← h.stands.control) (empty_as_well parts.control scenario parts.shared.happen.agenda (calendar m.state).agenda (length_permutation (calendar m.state).agenda parts.shared.happen.agenda h.stands.facilities.calendar.agenda)))
+busy_end : (g : Plan Script) (c : Control) (kept agenda : List Entry) (left : List Arrival) → rest_of c kept ≡ rest.Busy → end_by g c agenda left ≡ None
+busy_end g Idle [] agenda left h = absurd (cc)
+busy_end g Idle (x ∷ kept) agenda left h = absurd (cc)
+busy_end g (Calling e calls) kept agenda left h = refl
+busy_end g (Active e calls p told) kept agenda left h = refl
+busy_end g (Over how e calls) kept agenda left h = absurd (cc)
 
--- so it tells how the run is said to have ended
-pub end_is : (scenario : ScenarioOf) (n : ℕ) (parts : PartsOf Script ScenarioOf) → StandsForRun scenario n parts
-    → stopped_at scenario.setup.until (rest_of parts.control parts.shared.happen.agenda) ≡ end_of_scenario scenario n
-end_is scenario n parts h = ap (λ o. unwrap_or o end.Limit) (rest_tells scenario n parts h)
+empty_has_ended : (g : Plan Script) (s : State Script) (agenda : List Entry) → Idle ≡ s.control → is_none (due agenda) ≡ true
+    → end_by g s.control agenda [] ≡ Some (empty_end g.setup.until)
+empty_has_ended g s [] c none = rw (← c) refl
+empty_has_ended g s (x ∷ agenda) c none = absurd (false≢true none)
 
--- ---- a run that has ended
+-- ---- where nothing comes next
 
-no_step_is_end : (u : Until) (r : Rest) → can_step r ≡ false → (why : End) × (ended_at u r ≡ Some why)
-no_step_is_end u rest.Busy h = absurd (cc)
-no_step_is_end u rest.Idle h = absurd (cc)
-no_step_is_end u rest.Empty h = (empty_end u, refl)
-no_step_is_end u (rest.Over why) h = (why, refl)
+spent_by : (b : Bool) (processed : ℕ) (left : List Arrival) → next_of (if b then turn.Over end.Limit else turn.Idle) processed left ≡ next.End → b ≡ true
+spent_by true processed left h = refl
+spent_by false processed [] h = absurd (cc)
+spent_by false processed (a ∷ left) h = absurd (late (nat_le a.after processed) h)
+  where
+    late : (b : Bool) → (if b then next.Arrival a else next.Turn) ≡ next.End → ⊥
+    late true k = absurd (cc)
+    late false k = absurd (cc)
 
-run_stays : (scenario : ScenarioOf) (n limit : ℕ) (parts : PartsOf Script ScenarioOf) → StandsForRun scenario n parts
-    → can_step (rest_of parts.control parts.shared.happen.agenda) ≡ false → n ≤ limit
-    → run_of_scenario scenario limit ≡ run_of_scenario scenario n
-run_stays scenario n limit parts h none within =
-    let why = no_step_is_end scenario.setup.until (rest_of parts.control parts.shared.happen.agenda) none in
-    let stays = ended_stays_on (plan_of_scenario scenario) (script_turn scenario.code) (opening_course (plan_of_scenario scenario) scenario.journal) n why.0 (sym (rest_tells scenario n parts h) ∙ why.1) (limit - n) in
-    let all : n + (limit - n) ≡ limit = omega (arith, within) in
-    subst (λ k. run_of_scenario scenario k ≡ run_of_scenario scenario n) all stays
+none_left : (processed : ℕ) (left : List Arrival) → next_of turn.Empty processed left ≡ next.End → left ≡ []
+none_left processed [] h = refl
+none_left processed (a ∷ left) h = absurd (cc)
 
--- the kernel that makes no more steps stands for the whole run
-pub stands_for_whole : (scenario : ScenarioOf) (n limit : ℕ) (parts : PartsOf Script ScenarioOf)
-    → StandsForRun scenario n parts → can_step (rest_of parts.control parts.shared.happen.agenda) ≡ false → n ≤ limit
-    → StandsForRun scenario limit parts
-stands_for_whole scenario n limit parts h none within =
-    let same = run_stays scenario n limit parts h none within in
-    record {
-      code = h.code;
-      setup = h.setup;
-      seed = h.seed;
-      built = h.built;
-      journal = h.journal;
-      stands = subst (λ m. StandsFor parts m.state) (sym same) h.stands;
-      lawful = subst (λ m. LawfulOf script_body parts m.state) (sym same) h.lawful;
-    }
+module _ (s : ScenarioOf) (seed : ℕ) (journal left : List Arrival) (x : SessionOf) (h : StandsInRun s seed journal left x) where
+  abbrev r : Run Script
+  r = run_of s seed journal
 
--- and has written all lines
-pub lines_whole : (scenario : ScenarioOf) (n limit : ℕ) (parts : PartsOf Script ScenarioOf) → StandsForRun scenario n parts
-    → can_step (rest_of parts.control parts.shared.happen.agenda) ≡ false → n ≤ limit
-    → (run_of_scenario scenario limit).state.lines ≡ (run_of_scenario scenario n).state.lines
-lines_whole scenario n limit parts h none within = ap (λ m. m.state.lines) (run_stays scenario n limit parts h none within)
+  abbrev m : Course Script
+  m = course_after r x.units
+
+  -- how it ended, if it did, and that all units are made
+  record EndsSo : Type 0 where
+    how : Option End
+    ends : end_of r.plan m ≡ how
+    told : end_in x ≡ unwrap_or how end.Limit
+    whole : (x.units ≡ x.limit) ⊎ ((why : End) × (how ≡ Some why))
+
+  idle_at : can_arrive (rest_in x.parts) ≡ true → Idle ≡ m.state.control
+  idle_at waits = by (rest_in x.parts) refl waits
+    where
+      by : (q : Rest) → rest_in x.parts ≡ q → can_arrive q ≡ true → Idle ≡ m.state.control
+      by rest.Busy is k = absurd (false≢true k)
+      by rest.Idle is k = (stands_idle x.parts m.state h.at.stands is).control
+      by rest.Empty is k = (stands_empty x.parts m.state h.at.stands is).control
+      by (rest.Over why) is k = absurd (false≢true k)
+
+  refused_end : IsRefused x left → end_of r.plan m ≡ None
+  refused_end refused = rw h.left_is (by left refused.some_left)
+    where
+      by : (ls : List Arrival) → 0 < length ls → end_by r.plan m.state.control (calendar m.state).agenda ls ≡ None
+      by [] some = absurd (omega (arith, some))
+      by (a ∷ ls) some = waits_on r.plan m.state a ls (calendar m.state).agenda (idle_at refused.waits) refl
+
+  ends_at : (b : Bool) (q : Rest) → x.refused ≡ b → rest_in x.parts ≡ q → x.units ≤ x.limit → IsSettled x → next_of (turn_of x) x.parts.processed left ≡ next.End → EndsSo
+  ends_at true q refused is within settled none =
+      let why = h.refused refused in
+      record { how = None; ends = refused_end why; told = rw refused refl; whole = inl why.spent }
+  ends_at false rest.Busy refused is within settled none =
+      record {
+        how = None;
+        ends = rw (← h.at.stands.control) (busy_end r.plan x.parts.control x.parts.shared.happen.agenda (calendar m.state).agenda m.left is);
+        told = rw refused (rw is refl);
+        whole = inl (settled (rw is refl));
+      }
+  ends_at false rest.Idle refused is within settled none =
+      let idle = stands_idle x.parts m.state h.at.stands is in
+      let turns : turn_of x ≡ (if nat_le x.limit x.units then turn.Over end.Limit else turn.Idle) = rw refused (rw is refl) in
+      let spent = spent_by (nat_le x.limit x.units) x.parts.processed left (subst (λ t. next_of t x.parts.processed left ≡ next.End) turns none) in
+      record {
+        how = None;
+        ends = goes_on_idle r.plan m.state m.left (calendar m.state).agenda idle.control idle.agenda;
+        told = rw refused (rw is refl);
+        whole = inl (grind (arith, nat_tests, spent, within));
+      }
+  ends_at false rest.Empty refused is within settled none =
+      let idle = stands_empty x.parts m.state h.at.stands is in
+      let turns : turn_of x ≡ turn.Empty = rw refused (rw is refl) in
+      let nothing = none_left x.parts.processed left (subst (λ t. next_of t x.parts.processed left ≡ next.End) turns none) in
+      record {
+        how = Some (empty_end s.setup.until);
+        ends = rw (h.left_is ∙ nothing) (empty_has_ended r.plan m.state (calendar m.state).agenda idle.control idle.agenda);
+        told = rw refused (rw is (rw h.setup refl));
+        whole = inr (empty_end s.setup.until, refl);
+      }
+  ends_at false (rest.Over why) refused is within settled none =
+      record {
+        how = Some why;
+        ends = rw (← h.at.stands.control) (over_end r.plan x.parts.control x.parts.shared.happen.agenda (calendar m.state).agenda m.left why is);
+        told = rw refused (rw is refl);
+        whole = inr (why, refl);
+      }
+
+  module _ (within : x.units ≤ x.limit) (settled : IsSettled x) (none : next_of (turn_of x) x.parts.processed left ≡ next.End) where
+    ends : EndsSo
+    ends = ends_at x.refused (rest_in x.parts) refl refl within settled none
+
+    -- the run stays as it is
+    pub stays_whole : course_after r x.limit ≡ m
+    stays_whole = by ends.whole
+      where
+        by : (x.units ≡ x.limit) ⊎ ((why : End) × (ends.how ≡ Some why)) → course_after r x.limit ≡ m
+        by (inl all) = ap (course_after r) (sym all)
+        by (inr over) =
+            let more : x.units + (x.limit - x.units) ≡ x.limit = omega (arith, within) in
+            subst (λ n. course_after r n ≡ m) more (ended_stays_on r.plan r.turn (opening_course r.plan journal) x.units over.0 (ends.ends ∙ over.1) (x.limit - x.units))
+
+    pub summary_is : (report_of x).summary ≡ summary s seed journal x.limit
+    summary_is =
+        let told : end_in x ≡ unwrap_or (end_of r.plan m) end.Limit = ends.told ∙ ap (λ o. unwrap_or o end.Limit) (sym ends.ends) in
+        rw stays_whole (rw (told, h.at.stands.facilities.calendar.time, h.at.stands.processed, h.at.logs, h.at.total) refl)
+
+    -- no unit was made after the end, and none is left out
+    pub units_are : x.units ≡ units_of s seed journal x.limit
+    units_are = by (nat_lt x.units made) (nat_lt made x.units) refl refl
+      where
+        made : ℕ
+        made = units_of s seed journal x.limit
+
+        fewer : x.units < made → ⊥
+        fewer below = ends_early ends.whole
+          where
+            ends_early : (x.units ≡ x.limit) ⊎ ((why : End) × (ends.how ≡ Some why)) → ⊥
+            ends_early (inl all) = omega (arith, all, below, made_at_most r.plan r.turn journal x.limit)
+            ends_early (inr over) = none-some over.0 (sym (made_on r.plan r.turn journal x.limit x.units below) ∙ ends.ends ∙ over.1)
+
+        more : made < x.units → ⊥
+        more below = ends_late (made_whole r.plan r.turn journal x.limit)
+          where
+            on : end_of r.plan (course_after r x.limit) ≡ None
+            on = ap (end_of r.plan) (sym (made_same r.plan r.turn journal x.limit)) ∙ h.under_way made below
+
+            ends_late : (made ≡ x.limit) ⊎ (end_of r.plan (course_after r x.limit) ≡ None → ⊥) → ⊥
+            ends_late (inl all) = omega (arith, all, below, within)
+            ends_late (inr over) = over on
+
+        by : (a b : Bool) → nat_lt x.units made ≡ a → nat_lt made x.units ≡ b → x.units ≡ made
+        by true b p q = absurd (fewer (grind (arith, nat_tests)))
+        by false true p q = absurd (more (grind (arith, nat_tests)))
+        by false false p q = grind (arith, nat_tests)

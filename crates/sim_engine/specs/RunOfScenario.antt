@@ -2,31 +2,38 @@
 use Rattle.std.specs.Prelude.{ℕ, List}
 use Rattle.sim_types.specs.Scenarios.{ScenarioOf}
 use Rattle.sim_types.specs.declared.line.End.{End}
-use Rattle.sim_types.specs.declared.line.Line.{Line}
-use Rattle.sim_machine.specs.State.{Plan}
+use Rattle.sim_types.specs.declared.setup.Arrival.{Arrival}
 use Rattle.sim_machine.specs.RandomWords.{word_of}
 use Rattle.sim_machine.specs.Units.{Course}
-use Rattle.sim_machine.specs.Runs.{end_word}
+use Rattle.sim_machine.specs.Runs.{end_word, units_made}
+use Rattle.sim_machine_law.specs.Courses.{Run, course_after}
 use Rattle.sim_script_model.specs.Scripts.{Script}
-use Rattle.sim_script_model.specs.Scenarios.{plan_with, run_with, trace}
+use Rattle.sim_script_model.specs.Polls.{script_turn}
+use Rattle.sim_script_model.specs.Scenarios.{plan_with, trace}
 use Rattle.sim_trace.specs.Texts.{trace_text}
 
--- the random words are those of the scenario's own seed
-abbrev pub plan_of_scenario : ScenarioOf → Plan Script
-plan_of_scenario s = plan_with s (word_of s.seed)
+-- a run of the scenario with the random words of this seed, at which this arrives
+abbrev pub run_of : ScenarioOf → ℕ → List Arrival → Run Script
+run_of s seed journal = record { plan = plan_with s (word_of seed); turn = script_turn s.code; journal = journal }
+
+-- its lines by so many units and the one on its end, as they are printed
+abbrev pub printed_run : ScenarioOf → ℕ → List Arrival → ℕ → List ℕ
+printed_run s seed journal limit = trace_text s.port_names (trace s seed journal limit)
+
+-- how many units of so many at most are made before it ends
+abbrev pub units_of : ScenarioOf → ℕ → List Arrival → ℕ → ℕ
+units_of s seed journal limit = units_made (plan_with s (word_of seed)) (script_turn s.code) journal limit
+
+-- ---- the scenario's own run: with its own seed, on its own journal
 
 -- the run of so many units at most
 abbrev pub run_of_scenario : ScenarioOf → ℕ → Course Script
-run_of_scenario s limit = run_with s (word_of s.seed) s.journal limit
-
--- its lines
-abbrev pub trace_of_scenario : ScenarioOf → ℕ → List Line
-trace_of_scenario s limit = trace s s.seed s.journal limit
+run_of_scenario s limit = course_after (run_of s s.seed s.journal) limit
 
 -- its lines as they are printed
 abbrev pub printed_trace : ScenarioOf → ℕ → List ℕ
-printed_trace s limit = trace_text s.port_names (trace_of_scenario s limit)
+printed_trace s limit = printed_run s s.seed s.journal limit
 
 -- how it ended
 abbrev pub end_of_scenario : ScenarioOf → ℕ → End
-end_of_scenario s limit = end_word (plan_of_scenario s) (run_of_scenario s limit)
+end_of_scenario s limit = end_word (plan_with s (word_of s.seed)) (run_of_scenario s limit)

@@ -2,7 +2,11 @@
 #![tactic(auto)]
 
 mod fault;
-mod run;
+mod report;
+mod runs;
+mod session;
 
 pub use fault::EngineFault;
-pub use run::run_scenario;
+pub use report::Report;
+pub use runs::{replicate, run};
+pub use session::{Session, Turn};

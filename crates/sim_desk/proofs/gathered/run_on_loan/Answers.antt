@@ -6,6 +6,6 @@ use Rattle.sim_desk.proofs.gathered.run_on_loan.Goals as goal
 
 pub returns-clause-writes : goal.returns-clause-writes
 returns-clause-writes g c =
-    written_on_loan is_write _ _ _ _ _ _ c.new-gathering.ensures.tells c.into_inner.ensures.tells c.run_scenario.ensures.flushed
+    written_on_loan is_write _ _ _ _ _ _ c.new-gathering.ensures.tells c.into_inner.ensures.tells c.run_whole.ensures.flushed
     (subst (λ t. StaysInFront t (g.K.Sink.tells c.into_inner.result.sink.now).taken) (sym c.requires.taken) c.into_inner.ensures.in_front)
-    c.run_scenario.ensures.writes
+    c.run_whole.ensures.writes

@@ -1,0 +1,38 @@
+-- A step of scripts is a step of their function.
+use Rattle.std.proofs.Common.{◌≡◌, refl}
+use Rattle.sim_types.specs.Scenarios.{ScenarioOf}
+use Rattle.sim_types.specs.declared.event.ProcId.{ProcId}
+use Rattle.sim_types.specs.declared.event.Signal.{Signal}
+use Rattle.sim_machine.specs.State.{Control, Idle, Calling, Active, Over, State, Plan}
+use Rattle.sim_machine.specs.Steps.{IsPoll, IsStepAt, IsStep, step_of}
+use Rattle.sim_machine_law.proofs.UnitLaws.{only_step}
+use Rattle.sim_machine_law.specs.Courses.{OfFunction}
+use Rattle.sim_script_model.specs.Scripts.{Script}
+use Rattle.sim_script_model.specs.Polls.{script_turn}
+use Rattle.sim_script_law.specs.ScriptMembers.{IsScriptTurn}
+
+paired : {X Y : Type 0} (p : X × Y) (x : X) (y : Y) → x ≡ p.0 → y ≡ p.1 → p ≡ (x, y)
+paired p x y a b = rw (a, b) refl
+
+poll_of_function : (g : Plan Script) (scenario : ScenarioOf) (p : ProcId) (x : Signal) (s t : State Script)
+    → IsPoll g (IsScriptTurn scenario) p x s t → IsPoll g (OfFunction (script_turn scenario.code)) p x s t
+poll_of_function g scenario p x s t h =
+    record {
+      process = h.process;
+      found = h.found;
+      asked = h.asked;
+      body = h.body;
+      turned = paired _ h.asked h.body h.turned.0 h.turned.1;
+      then_is = h.then_is;
+    }
+
+step_of_function : (g : Plan Script) (scenario : ScenarioOf) (s t : State Script) (c : Control)
+    → IsStepAt g (IsScriptTurn scenario) s t c → IsStepAt g (OfFunction (script_turn scenario.code)) s t c
+step_of_function g scenario s t Idle h = h
+step_of_function g scenario s t (Calling e left) h = h
+step_of_function g scenario s t (Active e left p x) h = poll_of_function g scenario p x s t h
+step_of_function g scenario s t (Over why e left) h = h
+
+pub only_script_step : (g : Plan Script) (scenario : ScenarioOf) (s t : State Script) → IsStep g (IsScriptTurn scenario) s t
+    → t ≡ step_of g (script_turn scenario.code) s
+only_script_step g scenario s t h = only_step g (script_turn scenario.code) s t (step_of_function g scenario s t s.control h)

@@ -1,0 +1,105 @@
+-- A unit of the kernel is a step of the machine, whose line is counted.
+use Rattle.std.proofs.Common.{◌≡◌, ◌≤◌, ℕ, ◌+◌, ℤ, pos, ◌+ℤ◌, List, [], ◌∷◌, ◌++◌, length, refl, sym, ap, ◌∙◌, subst, arith}
+use Rattle.std.proofs.Math.IntN.{+ℤ_assoc, +ℤ_idl, +ℤ_idr}
+use Rattle.std.proofs.Common.{length-append, add-zero}
+use Rattle.sim_types.specs.Scenarios.{ScenarioOf}
+use Rattle.sim_types.specs.declared.line.Line.{Line}
+use Rattle.sim_types.specs.declared.line.Line.TheVariants as line
+use Rattle.sim_machine.specs.State.{State}
+use Rattle.sim_machine.specs.Runs.{logged, total}
+use Rattle.sim_machine.specs.Units.{arrive}
+use Rattle.sim_machine.specs.Steps.{IsStep}
+use Rattle.sim_steps_model.specs.PartsOf.{PartsOf, plan_of}
+use Rattle.sim_steps_model.specs.StandsFor.{StandsFor, LawfulOf, lines_of}
+use Rattle.sim_steps_model.specs.declared.mode.Unit.{Unit}
+use Rattle.sim_steps_model.specs.declared.mode.Unit.TheVariants as unit
+use Rattle.sim_kernel.specs.Stepping.{MakesStep, StepsFrom}
+use Rattle.sim_kernel.specs.Arriving.{MakesArrival, ArrivesFrom}
+use Rattle.sim_script_model.specs.Scripts.{Script}
+use Rattle.sim_script_law.specs.ScriptMembers.{script_body}
+use Rattle.sim_trace.specs.Texts.{trace_text}
+use Rattle.sim_engine.specs.Sessions.{SessionOf, IsAt, steps_in, text_of_steps}
+use Rattle.sim_engine.proofs.OnlySteps.{only_script_step}
+use Rattle.sim_engine.proofs.StepTexts.{text_is}
+
+-- ---- what is logged by more lines
+
+pub logged_append : (xs ys : List Line) → logged (xs ++ ys) ≡ logged xs ++ logged ys
+logged_append [] ys = refl
+logged_append (line.Event time number event outcome priority kind ∷ xs) ys = logged_append xs ys
+logged_append (line.Log time p value ∷ xs) ys = ap (λ vs. value ∷ vs) (logged_append xs ys)
+logged_append (line.Arrive after value port ∷ xs) ys = logged_append xs ys
+logged_append (line.Finish time processed how ∷ xs) ys = logged_append xs ys
+
+total_append : (xs ys : List ℤ) → total (xs ++ ys) ≡ total xs +ℤ total ys
+total_append [] ys = sym (+ℤ_idl (total ys))
+total_append (x ∷ xs) ys = ap (λ n. x +ℤ n) (total_append xs ys) ∙ sym (+ℤ_assoc x (total xs) (total ys))
+
+-- ---- what a session stands for and counts
+
+-- where the lines grew by these, which were counted
+pub now_at : (old new : SessionOf) (t u : State Script) (added : List Line) → IsAt old t
+    → StandsFor new.parts u → LawfulOf script_body new.parts u → u.lines ≡ t.lines ++ added
+    → new.logs ≡ old.logs + length (logged added) → new.total ≡ old.total +ℤ total (logged added) → IsAt new u
+now_at old new t u added h stands lawful lines logs sum =
+    record {
+      stands = stands;
+      lawful = lawful;
+      logs =
+          logs ∙ ap (λ n. n + length (logged added)) h.logs
+          ∙ sym (ap (λ ls. length (logged ls)) lines ∙ ap length (logged_append t.lines added) ∙ length-append (logged t.lines) (logged added));
+      total =
+          sum ∙ ap (λ n. n +ℤ total (logged added)) h.total
+          ∙ sym (ap (λ ls. total (logged ls)) lines ∙ ap total (logged_append t.lines added) ∙ total_append (logged t.lines) (logged added));
+    }
+
+-- ---- a unit
+
+pub record UnitStands (old new : PartsOf Script ScenarioOf) (answer : Unit) (t : State Script) : Type 0 where
+  pub stands : StandsFor new (steps_in old 1 t)
+  pub lawful : LawfulOf script_body new (steps_in old 1 t)
+  pub lines : (steps_in old 1 t).lines ≡ t.lines ++ lines_of answer
+
+pub unit_stands : (old new : PartsOf Script ScenarioOf) (answer : Unit) (t : State Script) → StandsFor old t → LawfulOf script_body old t
+    → MakesStep script_body old answer new → UnitStands old new answer t
+unit_stands old new answer t stands lawful makes =
+    let next : StepsFrom script_body old t answer new = makes.each t lawful stands in
+    let is : next.state ≡ steps_in old 1 t = only_script_step (plan_of script_body old) old.code t next.state next.stepped in
+    record {
+      stands = subst (StandsFor new) is next.stands;
+      lawful = subst (LawfulOf script_body new) is next.lawful;
+      lines = ap (λ u. u.lines) (sym is) ∙ next.lines;
+    }
+
+module _ (old new : SessionOf) (before : PartsOf Script ScenarioOf) (same : before ≡ old.parts) where
+  -- a unit that writes nothing
+  pub quiet_at : (answer : Unit) → MakesStep script_body before answer new.parts → answer ≡ unit.Quiet → new.logs ≡ old.logs → new.total ≡ old.total
+      → (t : State Script) → IsAt old t → IsAt new (steps_in old.parts 1 t)
+  quiet_at answer makes is logs sum t at =
+      let stepped = unit_stands old.parts new.parts answer t at.stands at.lawful (subst (λ p. MakesStep script_body p answer new.parts) same makes) in
+      let lines : (steps_in old.parts 1 t).lines ≡ t.lines ++ [] = stepped.lines ∙ ap (λ a. t.lines ++ lines_of a) is in
+      now_at old new t (steps_in old.parts 1 t) [] at stepped.stands stepped.lawful lines (logs ∙ sym (add-zero old.logs)) (sum ∙ sym (+ℤ_idr old.total))
+
+  -- a unit that writes a line
+  pub line_at : (answer : Unit) (x : Line) → MakesStep script_body before answer new.parts → answer ≡ unit.Line x
+      → new.logs ≡ old.logs + length (logged (x ∷ [])) → new.total ≡ old.total +ℤ total (logged (x ∷ []))
+      → (t : State Script) → IsAt old t → IsAt new (steps_in old.parts 1 t)
+  line_at answer x makes is logs sum t at =
+      let stepped = unit_stands old.parts new.parts answer t at.stands at.lawful (subst (λ p. MakesStep script_body p answer new.parts) same makes) in
+      let lines : (steps_in old.parts 1 t).lines ≡ t.lines ++ x ∷ [] = stepped.lines ∙ ap (λ a. t.lines ++ lines_of a) is in
+      now_at old new t (steps_in old.parts 1 t) (x ∷ []) at stepped.stands stepped.lawful lines logs sum
+
+  -- something arrives
+  pub arrives_at : (port : ℕ) (value : ℤ) (x : Line) → MakesArrival script_body port value before x new.parts
+      → new.logs ≡ old.logs + length (logged (x ∷ [])) → new.total ≡ old.total +ℤ total (logged (x ∷ []))
+      → (t : State Script) → IsAt old t → IsAt new (arrive (plan_of script_body old.parts) port value t)
+  arrives_at port value x makes logs sum t at =
+      let arrived : ArrivesFrom script_body port value old.parts t x new.parts = (subst (λ p. MakesArrival script_body port value p x new.parts) same makes).each t at.lawful at.stands in
+      now_at old new t (arrive (plan_of script_body old.parts) port value t) (x ∷ []) at arrived.stands arrived.lawful arrived.lines logs sum
+
+-- ---- the text of a unit
+
+pub text_of_unit : (ports : List (List ℕ)) (old new : PartsOf Script ScenarioOf) (answer : Unit) (t : State Script) → StandsFor old t → LawfulOf script_body old t
+    → MakesStep script_body old answer new → text_of_steps ports old 1 t ≡ trace_text ports (lines_of answer)
+text_of_unit ports old new answer t stands lawful makes =
+    text_is ports t (steps_in old 1 t) (lines_of answer) (unit_stands old new answer t stands lawful makes).lines

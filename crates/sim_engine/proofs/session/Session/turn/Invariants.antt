@@ -1,0 +1,29 @@
+use Rattle.std.proofs.Common.{◌≡◌, ◌≤◌, ◌<◌, ◌-◌, false, Ok}
+use Rattle.sim_machine.specs.State.{State}
+use Rattle.sim_outside.specs.Writes.{IsUnflushed, Writes}
+use Rattle.sim_script_model.specs.Scripts.{Script}
+use Rattle.sim_engine.specs.declared.fault.EngineFault.{EngineFault}
+use Rattle.sim_engine.specs.EngineFaults.{is_write}
+use Rattle.sim_engine.specs.Sessions.{IsAt, GoesOn, steps_in, IsBusyBetween, text_of_steps}
+use Rattle.sim_engine.proofs.session.Session.turn.Given as goal
+
+-- so many units were made, one at least, and all of them after the first went on with what was being done
+abbrev pub invariant-loop-self : goal.invariant-loop-self
+invariant-loop-self g l =
+    record {
+      code : l.scenario ≡ l.self.parts.code;
+      goes_on : GoesOn l.fn.self l.self;
+      none_refused : l.self.refused ≡ false;
+      within : l.self.units ≤ l.fn.self.limit;
+      more : l.fn.self.units < l.self.units;
+      busy : (t : State Script) → IsAt l.fn.self t → IsBusyBetween l.fn.self.parts (l.self.units - l.fn.self.units) t;
+      steps : (t : State Script) → IsAt l.fn.self t → IsAt l.self (steps_in l.fn.self.parts (l.self.units - l.fn.self.units) t);
+      written :
+          (t : State Script) → IsAt l.fn.self t →
+          Writes {T = Unit {0}} {E = EngineFault} is_write (g.K.Sink.tells l.fn.out) (g.K.Sink.tells l.out) (Ok tt)
+          (text_of_steps l.scenario.port_names l.fn.self.parts (l.self.units - l.fn.self.units) t);
+      unflushed : IsUnflushed (g.K.Sink.tells l.fn.out) (g.K.Sink.tells l.out);
+    }
+
+abbrev pub decreases-loop-self : goal.decreases-loop-self
+decreases-loop-self g l = l.self.limit - l.self.units
