@@ -1,0 +1,8 @@
+-- What a batch answers.
+use Rattle.std.specs.Prelude.{ℕ, List, map}
+use Rattle.std.specs.List.{range_with_len}
+use Rattle.sim_types.specs.declared.line.Summary.{Summary}
+
+-- the answers to the indices 0, 1, .. below this count, in order
+abbrev pub answers_of : (ℕ → Summary) → ℕ → List Summary
+answers_of answer count = map answer (range_with_len 0 count)
