@@ -10,7 +10,6 @@ use Rattle.sim_types.specs.declared.fault.Fault.{Fault}
 use Rattle.sim_types.specs.declared.fault.FaultKind.{FaultKind}
 use Rattle.sim_types.specs.declared.fault.FaultKind.TheVariants as fault
 use Rattle.sim_types.specs.declared.setup.Class.{Class}
-use Rattle.sim_language.specs.Built.{is_built}
 use Rattle.sim_language.specs.Lines.{Word, lines}
 use Rattle.sim_language.specs.Named.{Named}
 use Rattle.sim_language.specs.AnywhereInText.{ProcessLines, WholeText, whole_text}
@@ -35,10 +34,10 @@ end-later n above l below = let same : n + suc (length below) ≡ n + 1 + length
 -- ---- in front of the first line
 
 pub reading_starts : (whole : WholeText) (ls : List Word) (r : ReadingOf)
-    → r.above ≡ above_of [] → r.number ≡ 1 → r.variables ≡ [] → r.draft ≡ nothing_said → r.lines ≡ sayings is_built whole ls → length r.lines ≤ most_bytes
-    → IsReading whole.heads (reads_text is_built whole ls) r
+    → r.above ≡ above_of [] → r.number ≡ 1 → r.variables ≡ [] → r.draft ≡ nothing_said → r.lines ≡ sayings whole ls → length r.lines ≤ most_bytes
+    → IsReading whole.heads (reads_text whole ls) r
 reading_starts whole ls r above_is number_is variables_are draft_is lines_are few =
-    let start = outcome whole.heads nothing_said (places 1 [] (sayings is_built whole ls)) in
+    let start = outcome whole.heads nothing_said (places 1 [] (sayings whole ls)) in
     let events : r.draft.setup.events ≡ 0 = ap (λ (s : ScenarioOf). s.setup.events) draft_is in
     let statements : length r.draft.code ≡ 0 = ap (λ (s : ScenarioOf). length s.code) draft_is in
     record {
@@ -49,7 +48,7 @@ reading_starts whole ls r above_is number_is variables_are draft_is lines_are fe
       few = omega (arith, few);
       few_events = omega (arith, events);
       few_statements = omega (arith, statements);
-      outcome_is = rw (number_is, draft_is, lines_are) (ap start (end-start (sayings is_built whole ls)));
+      outcome_is = rw (number_is, draft_is, lines_are) (ap start (end-start (sayings whole ls)));
     }
 
 pub reading_small : (heads : ProcessLines) (answer : Result ScenarioOf Fault) (r : ReadingOf) → IsReading heads answer r → IsSmall r
@@ -243,16 +242,16 @@ memory_says_nothing_of_it result read err = let why = err_from_is_err_and result
 
 -- ---- a whole text
 
-pub reads_is : (text : List ℕ) (whole : WholeText) → length text ≤ most_bytes → whole ≡ whole_text is_built (lines text)
-    → reads is_built text ≡ reads_text is_built whole (lines text)
+pub reads_is : (text : List ℕ) (whole : WholeText) → length text ≤ most_bytes → whole ≡ whole_text (lines text)
+    → reads text ≡ reads_text whole (lines text)
 reads_is text whole few whole_is = let short : nat_lt most_bytes (length text) ≡ false = grind (arith, nat_tests) in rw (short, whole_is) refl
 
-pub reads_long : (text : List ℕ) → most_bytes < length text → reads is_built text ≡ Err (record { line = 0; kind = fault.TooLong })
+pub reads_long : (text : List ℕ) → most_bytes < length text → reads text ≡ Err (record { line = 0; kind = fault.TooLong })
 reads_long text long = let passes : nat_lt most_bytes (length text) ≡ true = grind (arith, nat_tests) in rw passes refl
 
 module _ (text : List ℕ) (whole : WholeText) (draft : ScenarioOf)
     (few : length text ≤ most_bytes)
-    (whole_is : whole ≡ whole_text is_built (lines text))
-    (says : reads_text is_built whole (lines text) ≡ Ok (with_links draft)) where
-  pub draft_says : reads is_built text ≡ Ok (with_links draft)
+    (whole_is : whole ≡ whole_text (lines text))
+    (says : reads_text whole (lines text) ≡ Ok (with_links draft)) where
+  pub draft_says : reads text ≡ Ok (with_links draft)
   draft_says = reads_is text whole few whole_is ∙ says

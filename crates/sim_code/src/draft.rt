@@ -1,7 +1,6 @@
 //! A scenario that is being read.
 ghost use Rattle.std.specs.Prelude.{◌≡◌, ◌<◌, ◌≤◌, ◌^◌, None, IfOk, OnOk, false, Ok, length, map, pos, take};
 ghost use Rattle.sim_language.specs.AnywhereInText as anywhere;
-ghost use Rattle.sim_language.specs.Built.{is_built};
 ghost use Rattle.sim_code.specs.Readings.{with_links};
 ghost use Rattle.sim_code.specs.LineGroups.{add_of, is_of_declarations, is_of_entries, is_of_headers, is_of_resources};
 ghost use Rattle.sim_language.specs.Faults.{fault_at};
@@ -368,7 +367,7 @@ impl Draft {
     /// The scenario that the text says: each statement is told where it goes on.
     pub fn finish(self, alloc: Global, text: &[u8]) -> Result<Scenario, AllocError>
         requires few { length self.code ≤ most_bytes }
-        requires says { reads is_built text.now ≡ Ok (with_links self) }
+        requires says { reads text.now ≡ Ok (with_links self) }
         ensures { IfOk result (λ scenario. scenario ≡ with_links self) }
     {
         let Draft {

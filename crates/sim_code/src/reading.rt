@@ -1,6 +1,5 @@
 //! Reads a text: the scenario that it says, or the fault of its first faulty line.
 ghost use Rattle.std.specs.Prelude.{◌≡◌, ◌+◌, ◌≤◌, [], IfOk, OnOk, Result, length};
-ghost use Rattle.sim_language.specs.Built.{is_built};
 ghost use Rattle.sim_language.specs.Lines.{lines};
 ghost use Rattle.sim_language.specs.Reads.{reads, reads_text};
 ghost use Rattle.sim_language.specs.Variables.{variables_then};
@@ -41,7 +40,7 @@ impl From<AllocError> for ReadError {
 
 /// What the text says: the scenario, or the fault of its first faulty line.
 pub fn read(alloc: Global, text: &[u8]) -> Result<Scenario, ReadError>
-    ensures { Gives result (reads is_built text.now) }
+    ensures { Gives result (reads text.now) }
 {
     if text.len() > MOST_BYTES as usize {
         return Err(ReadError::Fault(Fault {
@@ -58,7 +57,7 @@ pub fn read(alloc: Global, text: &[u8]) -> Result<Scenario, ReadError>
 /// What the lines of the text say, where this is the whole of it; the statements are yet to be linked.
 fn read_lines<'t>(alloc: Global, text: &'t [u8], whole: &WholeText<'t>) -> Result<Draft, ReadError>
     requires { length text.now ≤ most_bytes }
-    ensures gives { GivesDraft result (reads_text is_built whole.now (lines text.now)) }
+    ensures gives { GivesDraft result (reads_text whole.now (lines text.now)) }
     ensures few { IfOk result (λ draft. length draft.code ≤ most_bytes) }
 {
     let mut reading = Reading::of_text(alloc, text, whole);
@@ -101,7 +100,7 @@ impl<'t, 'w> Reading<'t, 'w> {
     fn of_text(alloc: Global, text: &'t [u8], whole: &'w WholeText<'t>) -> Reading<'t, 'w>
         requires { length text.now ≤ most_bytes }
         ensures { IsReading whole.now.heads
-            (reads_text is_built whole.now (lines text.now)) result }
+            (reads_text whole.now (lines text.now)) result }
     {
         Reading {
             lines: Lines::of_text(text, whole),

@@ -1,10 +1,8 @@
 -- What a line takes from lines anywhere in its text, above it or below.
---     whole_text built lines      the version of the text, its process lines, and the names that its lines declare
+--     whole_text lines      the version of the text, its process lines, and the names that its lines declare
 use Rattle.std.specs.Prelude.{ℕ, suc, Bool, false, ◌&&◌, if◌then◌else◌, List, [], ◌∷◌, map, filter_map, codes, Option, None, Some, option_map, unwrap_or}
 use Rattle.std.specs.Option.{option_and_then}
 use Rattle.sim_types.specs.declared.setup.Class.{Class}
-use Rattle.sim_language.specs.declared.form.Form.{Form}
-use Rattle.sim_language.specs.declared.form.Form.TheVariants as form
 use Rattle.sim_language.specs.declared.form.Sort.{Sort}
 use Rattle.sim_language.specs.declared.form.Sort.TheVariants as sort
 use Rattle.sim_language.specs.declared.form.Version.{Version}
@@ -32,9 +30,9 @@ abbrev pub is_second_header : List Word → Bool
 is_second_header (v ∷ w ∷ []) = same v (codes "scenario") && same w (codes "2")
 is_second_header ws = false
 
--- a text that begins with `scenario 2` is of the second version, where that is built
-abbrev pub version_of : (Form → Bool) → List Word → Version
-version_of built ls = if built form.ScenarioTwo && is_second_header (first_worded ls) then Two else One
+-- a text that begins with `scenario 2` is of the second version
+abbrev pub version_of : List Word → Version
+version_of ls = if is_second_header (first_worded ls) then Two else One
 
 -- ---- the process lines
 
@@ -90,5 +88,5 @@ pub record WholeText : Type 0 where
   pub heads : ProcessLines
   pub declarations : List (Named Sort)
 
-abbrev pub whole_text : (Form → Bool) → List Word → WholeText
-whole_text built ls = let version : Version = version_of built ls in record { version = version; heads = heads_of version ls; declarations = declarations ls }
+abbrev pub whole_text : List Word → WholeText
+whole_text ls = let version : Version = version_of ls in record { version = version; heads = heads_of version ls; declarations = declarations ls }

@@ -20,7 +20,6 @@ pub mod Faults
 pub mod Statements
 pub mod Links
 pub mod Reads
-pub mod Built
 pub mod FittingStatements
 pub mod FittingBlocks
 pub mod WellFormed

@@ -11,8 +11,8 @@ use Rattle.sim_language.specs.Sayings.{TextLine, begins_with}
 use Rattle.sim_language.specs.Blocks.{Block, says, first_word}
 use Rattle.sim_language.specs.Places.{Above, in_process, blocks_of, stands_in}
 
--- ---- BadHeader: the first line with words is neither `scenario 1` nor, where that is built, `scenario 2`, or the second does
--- not begin with `until`
+-- ---- BadHeader: the first line with words is neither `scenario 1` nor `scenario 2`, or the second does not begin with
+-- `until`
 
 abbrev pub is_header : Form → Bool
 is_header form.Scenario = true

@@ -1,5 +1,5 @@
 -- What a text says.
---     reads built bytes      the fault of the first faulty line, or else the scenario
+--     reads bytes      the fault of the first faulty line, or else the scenario
 use Rattle.std.specs.Prelude.{ℕ, suc, ◌+◌, Bool, if◌then◌else◌, nat_lt, List, [], ◌∷◌, ◌++◌, map, length, take, replicate, nat_abs, ℤ, pos, Option, Some, None, unwrap_or, Result, Ok, Err}
 use Rattle.sim_types.specs.Limits.{most_bytes, most_items, most_level}
 use Rattle.sim_types.specs.Scenarios.{ScenarioOf}
@@ -145,15 +145,15 @@ reads_lines heads ls = outcome heads nothing_said (places 1 [] ls) (end_fault ls
 abbrev pub is_too_long : List ℕ → Bool
 is_too_long bytes = nat_lt most_bytes (length bytes)
 
-abbrev pub reads_text : (Form → Bool) → WholeText → List Word → Result ScenarioOf Fault
-reads_text built whole ls = reads_lines whole.heads (sayings built whole ls)
+abbrev pub reads_text : WholeText → List Word → Result ScenarioOf Fault
+reads_text whole ls = reads_lines whole.heads (sayings whole ls)
 
-abbrev pub reads : (Form → Bool) → List ℕ → Result ScenarioOf Fault
-reads built bytes = if is_too_long bytes then Err (record { line = 0; kind = fault.TooLong }) else reads_text built (whole_text built (lines bytes)) (lines bytes)
+abbrev pub reads : List ℕ → Result ScenarioOf Fault
+reads bytes = if is_too_long bytes then Err (record { line = 0; kind = fault.TooLong }) else reads_text (whole_text (lines bytes)) (lines bytes)
 
 -- the fault alone
-abbrev pub fault_of : (Form → Bool) → List ℕ → Option Fault
-fault_of built bytes = by (reads built bytes)
+abbrev pub fault_of : List ℕ → Option Fault
+fault_of bytes = by (reads bytes)
   where
     by : Result ScenarioOf Fault → Option Fault
     by (Ok scenario) = None

@@ -1,5 +1,5 @@
 -- What a line says by itself: nothing, a fault, or a form with its operands.
---     sayings built whole lines      the lines of a text, each with what it says
+--     sayings whole lines      the lines of a text, each with what it says
 use Rattle.std.specs.Prelude.{ℕ, ◌+◌, Bool, true, false, not, ◌||◌, ◌&&◌, if◌then◌else◌, nat_lt, List, [], ◌∷◌, length, codes, Option, Some, None, is_none}
 use Rattle.std.specs.List.{list_any, list_all}
 use Rattle.sim_types.specs.declared.fault.FaultKind.{FaultKind}
@@ -38,12 +38,6 @@ abbrev pub form_in : Version → Section → List Word → Option Form
 form_in version Plain ws = begins version ws
 form_in version InJournal ws = if begins_with (codes "after") ws then Some form.After else None
 form_in version InPosters ws = if begins_with (codes "poster") ws then Some form.Poster else Some form.Post
-
--- a form that is not built is none; a header of a version that is not built is one of another shape
-abbrev pub if_built : (Form → Bool) → Option Form → Option Form
-if_built built None = None
-if_built built (Some form.ScenarioTwo) = Some (if built form.ScenarioTwo then form.ScenarioTwo else form.Scenario)
-if_built built (Some f) = if built f then Some f else None
 
 -- ---- numbers and names
 
@@ -104,9 +98,8 @@ abbrev pub said_by_form : Context → Option Form → List Word → Saying
 said_by_form context None ws = Wrong fault.UnknownWord
 said_by_form context (Some f) ws = said_by_slots context.whole.version f (fit context [] (shape f) (operands f ws))
 
--- what a line says depends on the forms that are built, on the whole text, and on the sections that began above
+-- what a line says depends on the whole text, and on the sections that began above
 pub record Setting : Type 0 where
-  pub built : Form → Bool
   pub whole : WholeText
   pub section : Section
   pub posters : ℕ
@@ -120,7 +113,7 @@ saying s line [] = Blank
 saying s line (w ∷ ws) =
     if not (list_all is_text line) then Wrong fault.NotText
     else (if nat_lt 200 (length line) then Wrong fault.LineTooLong
-    else said_by_form (context_of s) (if_built s.built (form_in s.whole.version s.section (w ∷ ws))) (w ∷ ws))
+    else said_by_form (context_of s) (form_in s.whole.version s.section (w ∷ ws)) (w ∷ ws))
 
 -- a cut line, its words and what it says
 pub record TextLine : Type 0 where
@@ -139,5 +132,5 @@ lines_from s [] = []
 lines_from s (l ∷ ls) = line_of s l ∷ lines_from (setting_behind (words (cut l)) s) ls
 
 -- the lines of a text
-abbrev pub sayings : (Form → Bool) → WholeText → List Word → List TextLine
-sayings built whole ls = lines_from (record { built = built; whole = whole; section = Plain; posters = 0 }) ls
+abbrev pub sayings : WholeText → List Word → List TextLine
+sayings whole ls = lines_from (record { whole = whole; section = Plain; posters = 0 }) ls

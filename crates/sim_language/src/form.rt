@@ -1,6 +1,5 @@
 //! What a line of a scenario can be.
 ghost use Rattle.std.specs.Prelude.{◌≡◌};
-ghost use Rattle.sim_language.specs.Built.{is_built};
 ghost use Rattle.sim_language.specs.Forms.{declares_sort, is_end, is_made, is_process, is_statement, opens_block};
 ghost use Rattle.sim_language.specs.LimitFaults.{most_of};
 ghost use Rattle.sim_language.specs.Shapes.{shape};
@@ -162,13 +161,6 @@ pub enum Form {
 }
 
 impl Form {
-    /// Whether a line of this form can be read yet.
-    pub fn is_built(self) -> bool
-        ensures { result ≡ is_built self }
-    {
-        !matches!(self, Form::Poster | Form::Post)
-    }
-
     /// Whether the form begins with `x =`.
     pub fn is_made(self) -> bool
         ensures { result ≡ is_made self }

@@ -13,7 +13,6 @@ use Rattle.std.proofs.lemmas.Fmt.{decimal_nonempty, length-decimal-le}
 use Rattle.sim_types.specs.Limits.{last_time}
 use Rattle.sim_types.specs.Setups.{is_within}
 use Rattle.sim_types.specs.declared.setup.Arrival.{Arrival}
-use Rattle.sim_language.specs.declared.form.Form.{Form}
 use Rattle.sim_language.specs.declared.form.Form.TheVariants as form
 use Rattle.sim_language.specs.declared.form.Section.TheVariants.{InJournal}
 use Rattle.sim_language.specs.declared.form.Sort.TheVariants as sort
@@ -26,7 +25,6 @@ use Rattle.sim_language.specs.Names.{is_small_letter, may_stand_in_name, is_spel
 use Rattle.sim_language.specs.Shapes.{Operand, any_literal}
 use Rattle.sim_language.specs.AnywhereInText.{WholeText}
 use Rattle.sim_language.specs.Sayings.{TextLine, Saying, Says, Setting, saying, line_of, setting_behind, lines_from}
-use Rattle.sim_language_law.specs.Sections.{ReadsJournals}
 use Rattle.sim_trace.specs.Texts.{port_word}
 use Rattle.sim_language_law.proofs.LineByLine.{line}
 use Rattle.sim_language_law.proofs.WrittenNumbers.{digits_written, literal_written}
@@ -210,26 +208,25 @@ line_then : (s : Setting) (l : Word) (ls ws : List Word) → words (cut l) ≡ w
 line_then s l ls ws e f = ap (λ t. line_of s l ∷ lines_from t ls) (ap (λ vs. setting_behind vs s) e ∙ f)
 
 -- the setting of the lines behind `journal`
-abbrev pub in_journal : (Form → Bool) → WholeText → Setting
-in_journal built whole = record { built = built; whole = whole; section = InJournal; posters = 0 }
+abbrev pub in_journal : WholeText → Setting
+in_journal whole = record { whole = whole; section = InJournal; posters = 0 }
 
 -- the lines of a journal
 abbrev pub journal_lines : List Word → List Arrival → List TextLine
 journal_lines ports entries = line (codes "journal" ∷ []) (Says form.Journal []) ∷ map (entry_line ports) entries
 
-module _ (built : Form → Bool) (whole : WholeText) (reads : ReadsJournals built) where
+module _ (whole : WholeText) where
   first_said : (version : Version) → version ≡ whole.version
-      → saying (in_plain built whole) (codes "journal") (codes "journal" ∷ []) ≡ Says form.Journal []
-  first_said One e = rw (← e) (rw reads.journal refl)
-  first_said Two e = rw (← e) (rw reads.journal refl)
+      → saying (in_plain whole) (codes "journal") (codes "journal" ∷ []) ≡ Says form.Journal []
+  first_said One e = rw (← e) refl
+  first_said Two e = rw (← e) refl
 
   entry_said : (ports : List Word) (a : Arrival) → GoodEntry whole.version ports a
-      → saying (in_journal built whole) (entry_written ports a) (arrival_words ports a) ≡ Says form.After (entry_slots ports a)
+      → saying (in_journal whole) (entry_written ports a) (arrival_words ports a) ≡ Says form.After (entry_slots ports a)
   entry_said ports a good =
       rw (
         text_joined (codes "after") (words_behind ports a) (entry_plain whole.version ports a good),
         le-ltb 200 (length (entry_written ports a)) (entry_short whole.version ports a good),
-        reads.after,
         after_read whole.version ports a good,
         poster_read whole.version ports a good,
         serial_read whole.version ports a good,
@@ -245,22 +242,22 @@ module _ (built : Form → Bool) (whole : WholeText) (reads : ReadsJournals buil
       ∙ words_joined (codes "after") (words_behind ports a) plain
 
   entry_line_of : (ports : List Word) (a : Arrival) → GoodEntry whole.version ports a
-      → line_of (in_journal built whole) (entry_written ports a) ≡ entry_line ports a
+      → line_of (in_journal whole) (entry_written ports a) ≡ entry_line ports a
   entry_line_of ports a good =
       let plain = entry_plain whole.version ports a good in
-      line_is (in_journal built whole) (entry_written ports a) (entry_written ports a) (arrival_words ports a) (Says form.After (entry_slots ports a))
+      line_is (in_journal whole) (entry_written ports a) (entry_written ports a) (arrival_words ports a) (Says form.After (entry_slots ports a))
       (cut_joined (codes "after") (words_behind ports a) plain) (words_joined (codes "after") (words_behind ports a) plain) (entry_said ports a good)
 
   pub entries_said : (ports : List Word) (entries : List Arrival) → All (GoodEntry whole.version ports) entries
-      → lines_from (in_journal built whole) (map (entry_written ports) entries) ≡ map (entry_line ports) entries
+      → lines_from (in_journal whole) (map (entry_written ports) entries) ≡ map (entry_line ports) entries
   entries_said ports [] good = refl
   entries_said ports (a ∷ entries) good =
       let here = All-head (GoodEntry whole.version ports) a entries good in
       let rest = entries_said ports entries (All-tail (GoodEntry whole.version ports) a entries good) in
-      line_then (in_journal built whole) (entry_written ports a) (map (entry_written ports) entries) (arrival_words ports a)
+      line_then (in_journal whole) (entry_written ports a) (map (entry_written ports) entries) (arrival_words ports a)
       (entry_words ports a here) refl
       ∙ ap₂ (λ l ls. l ∷ ls) (entry_line_of ports a here) rest
 
   pub all_said : (ports : List Word) (entries : List Arrival) → All (GoodEntry whole.version ports) entries
-      → lines_from (in_plain built whole) (codes "journal" ∷ map (entry_written ports) entries) ≡ journal_lines ports entries
+      → lines_from (in_plain whole) (codes "journal" ∷ map (entry_written ports) entries) ≡ journal_lines ports entries
   all_said ports entries good = rw (first_said whole.version refl, entries_said ports entries good) refl

@@ -182,16 +182,16 @@ no_poster f h = refl
 
 -- ---- the whole
 
-module _ (built : Form → Bool) (whole : WholeText) (front : List Word) (none : list_any begins_section front ≡ false) where
+module _ (whole : WholeText) (front : List Word) (none : list_any begins_section front ≡ false) where
   abbrev said : List TextLine
-  said = lines_from (in_plain built whole) front
+  said = lines_from (in_plain whole) front
 
-  front_words : (ls : List Word) → list_any begins_section ls ≡ false → none_journal (lines_from (in_plain built whole) ls) ≡ true
+  front_words : (ls : List Word) → list_any begins_section ls ≡ false → none_journal (lines_from (in_plain whole) ls) ≡ true
   front_words [] h = refl
   front_words (l ∷ ls) h =
       let parts = or_parts (begins_section l) (list_any begins_section ls) h in
       let words_are = or_parts (begins_with (codes "journal") (words (cut l))) (begins_with (codes "poster") (words (cut l))) parts.0 in
-      and_from _ _ (ap not words_are.0) (rw (words_in_front built whole l (words (cut l)) parts.0).1 (front_words ls parts.1))
+      and_from _ _ (ap not words_are.0) (rw (words_in_front whole l (words (cut l)) parts.0).1 (front_words ls parts.1))
 
   -- neither an entry nor a poster stands there
   pub record NoEntries : Type 0 where
@@ -201,7 +201,7 @@ module _ (built : Form → Bool) (whole : WholeText) (front : List Word) (none :
 
   pub front_plain : first_fault whole.heads (places 1 [] said) None ≡ None → NoEntries
   front_plain clean =
-      let ordinary = ordinary_lines whole.heads None said 1 [] refl (front_words front none) (said_in_front built whole front none) clean in
+      let ordinary = ordinary_lines whole.heads None said 1 [] refl (front_words front none) (said_in_front whole front none) clean in
       record {
         entries = nothing_counted is_entry no_entry said [] ordinary;
         posters = nothing_counted is_poster no_poster said [] ordinary;
@@ -210,30 +210,30 @@ module _ (built : Form → Bool) (whole : WholeText) (front : List Word) (none :
 
   -- where no line is faulty in front of the others, which begin a section
   module _ (others : List Word) (first : FirstPasses begins_section others)
-      (clean : first_fault whole.heads (places 1 [] (said ++ lines_from (in_plain built whole) others))
-      (end_fault (said ++ lines_from (in_plain built whole) others)) ≡ None) where
+      (clean : first_fault whole.heads (places 1 [] (said ++ lines_from (in_plain whole) others))
+      (end_fault (said ++ lines_from (in_plain whole) others)) ≡ None) where
     pub front_ends : AtEnd (passed [] said)
     front_ends = by others first clean
       where
         opening : (n : ℕ) (above : List TextLine) (l : Word) (ws : List Word) (below : List TextLine)
             → (begins_with (codes "journal") ws || begins_with (codes "poster") ws) ≡ true
-            → passes opens_section (saying (in_plain built whole) (cut l) ws) ≡ true
-            → fault_at whole.heads (place_at n above (line ws (saying (in_plain built whole) (cut l) ws)) below) ≡ None → AtEnd above
+            → passes opens_section (saying (in_plain whole) (cut l) ws) ≡ true
+            → fault_at whole.heads (place_at n above (line ws (saying (in_plain whole) (cut l) ws)) below) ≡ None → AtEnd above
         opening n above l [] below opens h free = absurd (false≢true opens)
         opening n above l (w ∷ ws) below opens h free =
-            let s = saying (in_plain built whole) (cut l) (w ∷ ws) in
-            opening_says whole.heads n above below (context_of (in_plain built whole)) w ws opens s h
-            (right_line (in_plain built whole) w ws (cut l) (is_right whole.heads n above (w ∷ ws) s below free)) free
+            let s = saying (in_plain whole) (cut l) (w ∷ ws) in
+            opening_says whole.heads n above below (context_of (in_plain whole)) w ws opens s h
+            (right_line (in_plain whole) w ws (cut l) (is_right whole.heads n above (w ∷ ws) s below free)) free
 
         by : (ls : List Word) → FirstPasses begins_section ls
-            → first_fault whole.heads (places 1 [] (said ++ lines_from (in_plain built whole) ls))
-            (end_fault (said ++ lines_from (in_plain built whole) ls)) ≡ None → AtEnd (passed [] said)
+            → first_fault whole.heads (places 1 [] (said ++ lines_from (in_plain whole) ls))
+            (end_fault (said ++ lines_from (in_plain whole) ls)) ≡ None → AtEnd (passed [] said)
         by [] passing free =
             let past : end_fault (said ++ []) ≡ None = reach whole.heads (end_fault (said ++ [])) said [] 1 [] free in
             at_end said (subst (λ ls. end_fault ls ≡ None) (append-nil said) past)
         by (l ∷ ls) passing free =
-            let below = lines_from (setting_behind (words (cut l)) (in_plain built whole)) ls in
-            let end = end_fault (said ++ lines_from (in_plain built whole) (l ∷ ls)) in
-            let here = first_faultless whole.heads end (1 + length said) (passed [] said) (line_of (in_plain built whole) l) below
-            (reach whole.heads end said (lines_from (in_plain built whole) (l ∷ ls)) 1 [] free) in
-            opening (1 + length said) (passed [] said) l (words (cut l)) below passing (said_first built whole l passing) here
+            let below = lines_from (setting_behind (words (cut l)) (in_plain whole)) ls in
+            let end = end_fault (said ++ lines_from (in_plain whole) (l ∷ ls)) in
+            let here = first_faultless whole.heads end (1 + length said) (passed [] said) (line_of (in_plain whole) l) below
+            (reach whole.heads end said (lines_from (in_plain whole) (l ∷ ls)) 1 [] free) in
+            opening (1 + length said) (passed [] said) l (words (cut l)) below passing (said_first whole l passing) here

@@ -1,22 +1,20 @@
 -- The lines of a text in front of its sections.
 --     said_in_front      they say no `journal`, `poster` or post
 --     lines_in_front     lines behind them are read as if these were not there
---     lines_same         they are read as the same where other forms of posters are built
-use Rattle.std.proofs.Common.{◌≡◌, refl, sym, ap, ◌∙◌, Bool, true, false, not, ◌||◌, if◌then◌else◌, nat_lt, List, [], ◌∷◌, ◌++◌, length, Option, Some, None, codes}
+use Rattle.std.proofs.Common.{◌≡◌, refl, sym, ◌∙◌, Bool, true, false, ◌||◌, if◌then◌else◌, List, [], ◌∷◌, ◌++◌, Option, Some, None, codes}
 use Rattle.std.specs.Option.{option_or}
 use Rattle.std.specs.List.{list_any, list_all}
-use Rattle.std.proofs.lemmas.Bool.{false≢true, true≢false, and_from, or_parts}
-use Rattle.sim_types.specs.declared.fault.FaultKind.TheVariants as fault
+use Rattle.std.proofs.lemmas.Bool.{true≢false, and_from, or_parts}
 use Rattle.sim_language.specs.declared.form.Form.{Form}
 use Rattle.sim_language.specs.declared.form.Form.TheVariants as form
 use Rattle.sim_language.specs.declared.form.Section.TheVariants.{Plain}
 use Rattle.sim_language.specs.declared.form.Version.{Version}
 use Rattle.sim_language.specs.declared.form.Version.TheVariants.{One, Two}
-use Rattle.sim_language.specs.Lines.{Word, same, cut, words, is_text}
+use Rattle.sim_language.specs.Lines.{Word, same, cut, words}
 use Rattle.sim_language.specs.Forms.{first_words, made_words, form_at, told_by, made_form, begins}
 use Rattle.sim_language.specs.AnywhereInText.{WholeText}
-use Rattle.sim_language.specs.Sayings.{Wrong, Setting, context_of, if_built, begins_with, said_by_form, saying, setting_behind, lines_from}
-use Rattle.sim_language_law.specs.Sections.{begins_section, is_posting, AreSameBesidePosters}
+use Rattle.sim_language.specs.Sayings.{Setting, begins_with, saying, setting_behind, lines_from}
+use Rattle.sim_language_law.specs.Sections.{begins_section}
 use Rattle.sim_language_law.proofs.FirstWords.{row_all}
 use Rattle.sim_language_law.proofs.SaidForms.{passes, passes_found, all_pass, passes_saying}
 
@@ -101,21 +99,21 @@ module _ (w : Word) (journal : same w (codes "journal") ≡ false) (poster : sam
   found_in_front (Some f) h = in_front f h
 
 -- the setting of a text's first lines
-abbrev pub in_plain : (Form → Bool) → WholeText → Setting
-in_plain built whole = record { built = built; whole = whole; section = Plain; posters = 0 }
+abbrev pub in_plain : WholeText → Setting
+in_plain whole = record { whole = whole; section = Plain; posters = 0 }
 
-module _ (built : Form → Bool) (whole : WholeText) where
+module _ (whole : WholeText) where
   pub words_in_front : (l : Word) (ws : List Word) → (begins_with (codes "journal") ws || begins_with (codes "poster") ws) ≡ false
-      → (passes is_in_front (saying (in_plain built whole) (cut l) ws) ≡ true) × (setting_behind ws (in_plain built whole) ≡ in_plain built whole)
+      → (passes is_in_front (saying (in_plain whole) (cut l) ws) ≡ true) × (setting_behind ws (in_plain whole) ≡ in_plain whole)
   words_in_front l [] h = (refl, refl)
   words_in_front l (w ∷ ws) h =
       let parts = or_parts (same w (codes "journal")) (same w (codes "poster")) h in (
-        passes_saying is_in_front (in_plain built whole) (cut l) w ws (λ e. refl)
+        passes_saying is_in_front (in_plain whole) (cut l) w ws
             (found_in_front w parts.0 parts.1 (begins whole.version (w ∷ ws)) (begun whole.version w ws)),
         rw (parts.0, parts.1) refl,
       )
 
-  pub said_in_front : (ls : List Word) → list_any begins_section ls ≡ false → all_pass is_in_front (lines_from (in_plain built whole) ls) ≡ true
+  pub said_in_front : (ls : List Word) → list_any begins_section ls ≡ false → all_pass is_in_front (lines_from (in_plain whole) ls) ≡ true
   said_in_front [] h = refl
   said_in_front (l ∷ ls) h =
       let parts = or_parts (begins_section l) (list_any begins_section ls) h in
@@ -123,44 +121,9 @@ module _ (built : Form → Bool) (whole : WholeText) where
       and_from _ _ here.0 (rw here.1 (said_in_front ls parts.1))
 
   pub lines_in_front : (ls more : List Word) → list_any begins_section ls ≡ false
-      → lines_from (in_plain built whole) (ls ++ more) ≡ lines_from (in_plain built whole) ls ++ lines_from (in_plain built whole) more
+      → lines_from (in_plain whole) (ls ++ more) ≡ lines_from (in_plain whole) ls ++ lines_from (in_plain whole) more
   lines_in_front [] more h = refl
   lines_in_front (l ∷ ls) more h =
       let parts = or_parts (begins_section l) (list_any begins_section ls) h in
       let here = words_in_front l (words (cut l)) parts.0 in
       rw (here.1, lines_in_front ls more parts.1) refl
-
--- ---- other forms that are built
-
-not_posting : (f : Form) → is_in_front f ≡ true → is_posting f ≡ false
-not_posting form.Poster h = absurd (false≢true h)
-not_posting form.Post h = absurd (false≢true h)
-not_posting f h = refl
-
-module _ (built other : Form → Bool) (whole : WholeText) (agree : AreSameBesidePosters built other) where
-  found_same : (o : Option Form) → passes_found is_in_front o ≡ true → if_built built o ≡ if_built other o
-  found_same None h = refl
-  found_same (Some form.ScenarioTwo) h = rw (agree form.ScenarioTwo refl) refl
-  found_same (Some f) h = rw (agree f (not_posting f h)) refl
-
-  words_same : (l : Word) (ws : List Word) → (begins_with (codes "journal") ws || begins_with (codes "poster") ws) ≡ false
-      → saying (in_plain built whole) (cut l) ws ≡ saying (in_plain other whole) (cut l) ws
-  words_same l [] h = refl
-  words_same l (w ∷ ws) h =
-      let parts = or_parts (same w (codes "journal")) (same w (codes "poster")) h in
-      let found = found_in_front w parts.0 parts.1 (begins whole.version (w ∷ ws)) (begun whole.version w ws) in
-      ap (λ o. if not (list_all is_text (cut l)) then Wrong fault.NotText
-      else (if nat_lt 200 (length (cut l)) then Wrong fault.LineTooLong else said_by_form (context_of (in_plain built whole)) o (w ∷ ws)))
-      (found_same (begins whole.version (w ∷ ws)) found)
-
-  -- lines in front are read as the same
-  pub lines_same : (ls : List Word) → list_any begins_section ls ≡ false → lines_from (in_plain built whole) ls ≡ lines_from (in_plain other whole) ls
-  lines_same [] h = refl
-  lines_same (l ∷ ls) h =
-      let parts = or_parts (begins_section l) (list_any begins_section ls) h in
-      rw (
-        (words_in_front built whole l (words (cut l)) parts.0).1,
-        (words_in_front other whole l (words (cut l)) parts.0).1,
-        words_same l (words (cut l)) parts.0,
-        lines_same ls parts.1,
-      ) refl

@@ -6,9 +6,10 @@ use Rattle.std.proofs.lemmas.Bool.{false≢true, and_parts, eqb-true, leb-true, 
 use Rattle.std.proofs.lemmas.List.Elements.{All-nil, All-cons}
 use Rattle.sim_types.specs.Scenarios.{ScenarioOf}
 use Rattle.sim_types.specs.declared.setup.Arrival.{Arrival}
+use Rattle.sim_types.specs.declared.setup.Post.{Post}
 use Rattle.sim_language.specs.Lines.{Word}
 use Rattle.sim_language.specs.Names.{is_small_letter, may_stand_in_name, is_spelled}
-use Rattle.sim_language.specs.WellFormed.{arrival_fits, never_falls, is_well_formed}
+use Rattle.sim_language.specs.WellFormed.{arrival_fits, never_falls, post_fits, is_well_formed}
 use Rattle.sim_language_law.proofs.WellFormedParts.{fits_well}
 
 -- the ports that entries name have names, and these are short
@@ -17,6 +18,12 @@ pub record PostsFit (s : ScenarioOf) : Type 0 where
   pub named : length s.port_names ≡ length s.setup.ports
   pub names : All (λ name. length name ≤ 32) s.port_names
   pub falls : never_falls s.journal ≡ true
+
+-- posters are few, and they post at ports that there are
+pub record PostersFit (s : ScenarioOf) : Type 0 where
+  pub few : length s.posters ≤ 16
+  pub lengths : All (λ posts. length posts ≤ 65536) s.posters
+  pub ports : All (All (λ p. p.port < length s.setup.ports)) s.posters
 
 -- what follows from a test holds of all that pass it
 all_pass : {X : Type 0} (test : X → Bool) (P : X → Type 0) (xs : List X) → ((x : X) → test x ≡ true → P x) → list_all test xs ≡ true → All P xs
@@ -52,4 +59,18 @@ posts_of_scenario s well_formed =
       named = eqb-true _ _ g.0;
       names = all_pass is_spelled (λ name. length name ≤ 32) s.port_names spelled_short g.1;
       falls = d.1;
+    }
+
+pub posters_of_scenario : (s : ScenarioOf) → IsTrue (is_well_formed s) → PostersFit s
+posters_of_scenario s well_formed =
+    let poster_fits : List Post → Bool = λ posts. nat_le (length posts) 65536 && list_all (post_fits s) posts in
+    let a = and_parts _ (list_all poster_fits s.posters) (fits_well s well_formed).posts in
+    let b = and_parts _ (nat_le (length s.posters) 16) a.0 in
+    record {
+      few = leb-true _ _ b.1;
+      lengths = all_pass poster_fits _ s.posters (λ posts h. leb-true _ _ (and_parts (nat_le (length posts) 65536) _ h).0) a.1;
+      ports =
+          all_pass poster_fits _ s.posters
+          (λ posts h. all_pass (post_fits s) _ posts (λ p. ltb-true _ _) (and_parts (nat_le (length posts) 65536) _ h).1)
+          a.1;
     }

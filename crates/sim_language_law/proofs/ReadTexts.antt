@@ -9,7 +9,6 @@ use Rattle.std.proofs.lemmas.List.Elements.{All-from_recursion}
 use Rattle.sim_types.specs.Scenarios.{ScenarioOf}
 use Rattle.sim_types.specs.declared.fault.Fault.{Fault}
 use Rattle.sim_types.specs.declared.fault.FaultKind.TheVariants as fault
-use Rattle.sim_language.specs.declared.form.Form.{Form}
 use Rattle.sim_language.specs.Lines.{lines}
 use Rattle.sim_language.specs.AnywhereInText.{ProcessLines, WholeText, whole_text}
 use Rattle.sim_language.specs.Sayings.{TextLine, Saying, Blank, Wrong, Says, sayings}
@@ -52,36 +51,36 @@ module _ (whole : WholeText) (ls : List TextLine) (text : IsFaultless whole ls) 
 
 -- ---- texts that are read
 
-abbrev pub whole_of : (Form → Bool) → List ℕ → WholeText
-whole_of built bytes = whole_text built (lines bytes)
+abbrev pub whole_of : List ℕ → WholeText
+whole_of bytes = whole_text (lines bytes)
 
--- the lines of a text, in the forms that are built
-abbrev pub lines_of : (Form → Bool) → List ℕ → List TextLine
-lines_of built bytes = sayings built (whole_of built bytes) (lines bytes)
+-- the lines of a text
+abbrev pub lines_of : List ℕ → List TextLine
+lines_of bytes = sayings (whole_of bytes) (lines bytes)
 
-pub record Read (built : Form → Bool) (bytes : List ℕ) (t : ScenarioOf) : Type 0 where
-  pub faultless : IsFaultless (whole_of built bytes) (lines_of built bytes)
-  pub whole : WholeOf (whole_of built bytes) (lines_of built bytes)
-  pub is : linked_by (whole_of built bytes).heads (lines_of built bytes) ≡ t
+pub record Read (bytes : List ℕ) (t : ScenarioOf) : Type 0 where
+  pub faultless : IsFaultless (whole_of bytes) (lines_of bytes)
+  pub whole : WholeOf (whole_of bytes) (lines_of bytes)
+  pub is : linked_by (whole_of bytes).heads (lines_of bytes) ≡ t
 
-pub read_is : (built : Form → Bool) (bytes : List ℕ) (t : ScenarioOf) → reads built bytes ≡ Ok t → Read built bytes t
-read_is built bytes t h = too_long (is_too_long bytes) h
+pub read_is : (bytes : List ℕ) (t : ScenarioOf) → reads bytes ≡ Ok t → Read bytes t
+read_is bytes t h = too_long (is_too_long bytes) h
   where
     heads : ProcessLines
-    heads = (whole_of built bytes).heads
+    heads = (whole_of bytes).heads
 
     ls : List TextLine
-    ls = lines_of built bytes
+    ls = lines_of bytes
 
-    faulty : (o : Option Fault) → first_fault heads (places 1 [] ls) (end_fault ls) ≡ o → unless_faulty o (said_by heads ls) ≡ Ok t → Read built bytes t
+    faulty : (o : Option Fault) → first_fault heads (places 1 [] ls) (end_fault ls) ≡ o → unless_faulty o (said_by heads ls) ≡ Ok t → Read bytes t
     faulty (Some f) e read = absurd cc
     faulty None e read = record {
-      faultless = record { among = all_among built (whole_of built bytes) (lines bytes); none = e };
-      whole = taken_from_text built (end_fault ls) (lines bytes) e;
+      faultless = record { among = all_among (whole_of bytes) (lines bytes); none = e };
+      whole = taken_from_text (end_fault ls) (lines bytes) e;
       is = cc;
     }
 
-    too_long : (b : Bool) → (if b then Err (record { line = 0; kind = fault.TooLong }) else reads_text built (whole_of built bytes) (lines bytes)) ≡ Ok t
-        → Read built bytes t
+    too_long : (b : Bool) → (if b then Err (record { line = 0; kind = fault.TooLong }) else reads_text (whole_of bytes) (lines bytes)) ≡ Ok t
+        → Read bytes t
     too_long true read = absurd cc
     too_long false read = faulty (first_fault heads (places 1 [] ls) (end_fault ls)) refl read

@@ -6,7 +6,7 @@ use Rattle.std.specs.Prelude.{◌≡◌, refl, ℕ, Bool, true, false, not, if�
 use Rattle.std.specs.List.{list_any, list_all, AllByRecursion}
 use Rattle.std.proofs.Common.{sym, ap, ◌∙◌, subst}
 use Rattle.std.proofs.lemmas.Bool.{true≢false, not-false, or_parts}
-use Rattle.std.proofs.lemmas.Option.{none-some, same_Some, cond_some}
+use Rattle.std.proofs.lemmas.Option.{none-some, same_Some}
 use Rattle.sim_types.specs.declared.fault.FaultKind.{FaultKind}
 use Rattle.sim_types.specs.declared.fault.FaultKind.TheVariants as fault
 use Rattle.sim_language.specs.declared.form.Form.{Form}
@@ -18,7 +18,7 @@ use Rattle.sim_language.specs.Names.{is_name}
 use Rattle.sim_language.specs.Forms.{begins, operands, declares_sort}
 use Rattle.sim_language.specs.Shapes.{Operand, Context, shape, fit}
 use Rattle.sim_language.specs.AnywhereInText.{ProcessLines, sort_begun}
-use Rattle.sim_language.specs.Sayings.{TextLine, Saying, Blank, Wrong, Says, Setting, context_of, if_built, form_in, said_by_slots, said_by_form, saying, is_bad_number, is_bad_name}
+use Rattle.sim_language.specs.Sayings.{TextLine, Saying, Blank, Wrong, Says, Setting, context_of, form_in, said_by_slots, said_by_form, saying, is_bad_number, is_bad_name}
 use Rattle.sim_language.specs.Places.{LineInText}
 use Rattle.sim_language.specs.Faults.{is_wrong, applies, kinds_in_order, fault_at}
 use Rattle.sim_language_law.proofs.Walking.{place_at}
@@ -65,15 +65,6 @@ abbrev pub IsRightLine : Context → Word → List Word → Saying → Type 0
 IsRightLine context w ws (Says f slots) = Right context w ws f slots
 IsRightLine context w ws other = ⊥
 
--- a form that is built in place of another one declares the same
-built_sort : (built : Form → Bool) (g f : Form) → if_built built (Some g) ≡ Some f → declares_sort f ≡ declares_sort g
-built_sort built form.ScenarioTwo f h = by (built form.ScenarioTwo) h
-  where
-    by : (b : Bool) → Some (if b then form.ScenarioTwo else form.Scenario) ≡ Some f → declares_sort f ≡ None
-    by true e = ap declares_sort (sym (same_Some form.ScenarioTwo f e))
-    by false e = ap declares_sort (sym (same_Some form.Scenario f e))
-built_sort built g f h = ap declares_sort (sym (cond_some (built g) g f h).1)
-
 -- the port of a post is a name
 post_name : (context : Context) (w : Word) (ws : List Word) (slots : List Operand) → fit context [] (shape form.Post) (w ∷ ws) ≡ Some slots
     → list_any (is_bad_name context.whole.version) slots ≡ false → is_name context.whole.version w ≡ true
@@ -83,34 +74,34 @@ post_name context w (v ∷ []) slots fits names =
     not-false (is_name context.whole.version w) (or_parts (not (is_name context.whole.version w)) _ good).0
 post_name context w (v ∷ u ∷ ws) slots fits names = absurd (none-some slots fits)
 
-module _ (built : Form → Bool) (context : Context) (w : Word) (ws : List Word) (f : Form) (slots : List Operand) where
-  plain_sort : (o : Option Form) → begins context.whole.version (w ∷ ws) ≡ o → if_built built o ≡ Some f → declares_sort f ≡ sort_begun w
+module _ (context : Context) (w : Word) (ws : List Word) (f : Form) (slots : List Operand) where
+  plain_sort : (o : Option Form) → begins context.whole.version (w ∷ ws) ≡ o → o ≡ Some f → declares_sort f ≡ sort_begun w
   plain_sort None e is = absurd (none-some f is)
-  plain_sort (Some g) e is = built_sort built g f is ∙ begun_sort context.whole.version w ws g e
+  plain_sort (Some g) e is = ap declares_sort (sym (same_Some g f is)) ∙ begun_sort context.whole.version w ws g e
 
-  section_sort : (section : Section) → if_built built (form_in context.whole.version section (w ∷ ws)) ≡ Some f
+  section_sort : (section : Section) → form_in context.whole.version section (w ∷ ws) ≡ Some f
       → fit context [] (shape f) (operands f (w ∷ ws)) ≡ Some slots
       → list_any (is_bad_name context.whole.version) slots ≡ false → declares_sort f ≡ sort_begun w
   section_sort Plain is fits names = plain_sort (begins context.whole.version (w ∷ ws)) refl is
   section_sort InJournal is fits names = by (same w (codes "after")) refl is
     where
-      by : (b : Bool) → same w (codes "after") ≡ b → if_built built (if b then Some form.After else None) ≡ Some f → declares_sort f ≡ sort_begun w
-      by true e some = built_sort built form.After f some ∙ (rw (same_is w (codes "after") e) refl)
+      by : (b : Bool) → same w (codes "after") ≡ b → (if b then Some form.After else None) ≡ Some f → declares_sort f ≡ sort_begun w
+      by true e some = ap declares_sort (sym (same_Some form.After f some)) ∙ (rw (same_is w (codes "after") e) refl)
       by false e some = absurd (none-some f some)
   section_sort InPosters is fits names = by (same w (codes "poster")) refl is
     where
-      by : (b : Bool) → same w (codes "poster") ≡ b → if_built built (if b then Some form.Poster else Some form.Post) ≡ Some f → declares_sort f ≡ sort_begun w
-      by true e some = built_sort built form.Poster f some ∙ (rw (same_is w (codes "poster") e) refl)
+      by : (b : Bool) → same w (codes "poster") ≡ b → (if b then Some form.Poster else Some form.Post) ≡ Some f → declares_sort f ≡ sort_begun w
+      by true e some = ap declares_sort (sym (same_Some form.Poster f some)) ∙ (rw (same_is w (codes "poster") e) refl)
       by false e some =
-          let post : form.Post ≡ f = (cond_some (built form.Post) form.Post f some).1 in
+          let post : form.Post ≡ f = same_Some form.Post f some in
           let shaped = subst (λ g. fit context [] (shape g) (operands g (w ∷ ws)) ≡ Some slots) (sym post) fits in
-          built_sort built form.Post f some ∙ sym (name_begins_none context.whole.version w (post_name context w ws slots shaped names))
+          ap declares_sort (sym post) ∙ sym (name_begins_none context.whole.version w (post_name context w ws slots shaped names))
 
 module _ (s : Setting) (w : Word) (ws : List Word) where
   abbrev context : Context
   context = context_of s
 
-  slots_right : (f : Form) (o : Option (List Operand)) → if_built s.built (form_in s.whole.version s.section (w ∷ ws)) ≡ Some f
+  slots_right : (f : Form) (o : Option (List Operand)) → form_in s.whole.version s.section (w ∷ ws) ≡ Some f
       → fit context [] (shape f) (operands f (w ∷ ws)) ≡ o
       → IsRight (said_by_slots s.whole.version f o) → IsRightLine context w ws (said_by_slots s.whole.version f o)
   slots_right f None is fits right = absurd (true≢false (right fault.BadShape))
@@ -121,9 +112,9 @@ module _ (s : Setting) (w : Word) (ws : List Word) where
           → IsRightLine context w ws (if n then Wrong fault.BadNumber else (if m then Wrong fault.BadName else Says f slots))
       by true m names fine = absurd (true≢false (fine fault.BadNumber))
       by false true names fine = absurd (true≢false (fine fault.BadName))
-      by false false names fine = record { sort = section_sort s.built context w ws f slots s.section is fits names; fits = fits; names = names }
+      by false false names fine = record { sort = section_sort context w ws f slots s.section is fits names; fits = fits; names = names }
 
-  form_right : (o : Option Form) → if_built s.built (form_in s.whole.version s.section (w ∷ ws)) ≡ o
+  form_right : (o : Option Form) → form_in s.whole.version s.section (w ∷ ws) ≡ o
       → IsRight (said_by_form context o (w ∷ ws)) → IsRightLine context w ws (said_by_form context o (w ∷ ws))
   form_right None is right = absurd (true≢false (right fault.UnknownWord))
   form_right (Some f) is right = slots_right f (fit context [] (shape f) (operands f (w ∷ ws))) is refl right
@@ -132,10 +123,10 @@ module _ (s : Setting) (w : Word) (ws : List Word) where
   right_line l right = by (not (list_all is_text l)) (nat_lt 200 (length l)) right
     where
       said : Saying
-      said = said_by_form context (if_built s.built (form_in s.whole.version s.section (w ∷ ws))) (w ∷ ws)
+      said = said_by_form context (form_in s.whole.version s.section (w ∷ ws)) (w ∷ ws)
 
       by : (a b : Bool) → IsRight (if a then Wrong fault.NotText else (if b then Wrong fault.LineTooLong else said))
           → IsRightLine context w ws (if a then Wrong fault.NotText else (if b then Wrong fault.LineTooLong else said))
       by true b fine = absurd (true≢false (fine fault.NotText))
       by false true fine = absurd (true≢false (fine fault.LineTooLong))
-      by false false fine = form_right (if_built s.built (form_in s.whole.version s.section (w ∷ ws))) refl fine
+      by false false fine = form_right (form_in s.whole.version s.section (w ∷ ws)) refl fine

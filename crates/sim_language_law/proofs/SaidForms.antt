@@ -4,12 +4,11 @@ use Rattle.std.proofs.Common.{◌≡◌, refl, Bool, true, false, not, if◌then
 use Rattle.std.specs.List.{list_any, list_all}
 use Rattle.sim_types.specs.declared.fault.FaultKind.TheVariants as fault
 use Rattle.sim_language.specs.declared.form.Form.{Form}
-use Rattle.sim_language.specs.declared.form.Form.TheVariants as form
 use Rattle.sim_language.specs.declared.form.Version.{Version}
 use Rattle.sim_language.specs.Lines.{Word, is_text}
 use Rattle.sim_language.specs.Forms.{operands}
 use Rattle.sim_language.specs.Shapes.{Operand, Context, fit, shape}
-use Rattle.sim_language.specs.Sayings.{TextLine, Saying, Wrong, Says, Setting, context_of, form_in, if_built, is_bad_number, is_bad_name, said_by_slots, said_by_form, saying}
+use Rattle.sim_language.specs.Sayings.{TextLine, Saying, Wrong, Says, Setting, context_of, form_in, is_bad_number, is_bad_name, said_by_slots, said_by_form, saying}
 
 -- ---- a form that is said passes a test
 
@@ -38,27 +37,13 @@ module _ (test : Form → Bool) where
   passes_form context None ws h = refl
   passes_form context (Some f) ws h = passes_slots context.whole.version f (fit context [] (shape f) (operands f ws)) h
 
-  passes_built : (built : Form → Bool) (o : Option Form) → (test form.ScenarioTwo ≡ true → test form.Scenario ≡ true) → passes_found test o ≡ true
-      → passes_found test (if_built built o) ≡ true
-  passes_built built None first h = refl
-  passes_built built (Some form.ScenarioTwo) first h = by (built form.ScenarioTwo)
-    where
-      by : (b : Bool) → test (if b then form.ScenarioTwo else form.Scenario) ≡ true
-      by true = h
-      by false = first h
-  passes_built built (Some f) first h = by (built f)
-    where
-      by : (b : Bool) → passes_found test (if b then Some f else None) ≡ true
-      by true = h
-      by false = refl
-
   -- where the first words begin such a form
-  pub passes_saying : (s : Setting) (line : Word) (w : Word) (ws : List Word) → (test form.ScenarioTwo ≡ true → test form.Scenario ≡ true)
+  pub passes_saying : (s : Setting) (line : Word) (w : Word) (ws : List Word)
       → passes_found test (form_in s.whole.version s.section (w ∷ ws)) ≡ true → passes test (saying s line (w ∷ ws)) ≡ true
-  passes_saying s line w ws first h = by (not (list_all is_text line)) (nat_lt 200 (length line))
+  passes_saying s line w ws h = by (not (list_all is_text line)) (nat_lt 200 (length line))
     where
       by : (a b : Bool) → passes test (if a then Wrong fault.NotText else (if b then Wrong fault.LineTooLong
-          else said_by_form (context_of s) (if_built s.built (form_in s.whole.version s.section (w ∷ ws))) (w ∷ ws))) ≡ true
+          else said_by_form (context_of s) (form_in s.whole.version s.section (w ∷ ws)) (w ∷ ws))) ≡ true
       by true b = refl
       by false true = refl
-      by false false = passes_form (context_of s) _ (w ∷ ws) (passes_built s.built (form_in s.whole.version s.section (w ∷ ws)) first h)
+      by false false = passes_form (context_of s) (form_in s.whole.version s.section (w ∷ ws)) (w ∷ ws) h

@@ -65,7 +65,7 @@ form_inside version InPosters ws h = by (begins_with (codes "poster") ws)
 words_inside : (s : Setting) (line : Word) (ws : List Word) → is_inside s.section ≡ true → passes is_of_section (saying s line ws) ≡ true
 words_inside s line [] h = refl
 words_inside s line (w ∷ ws) h =
-    passes_saying is_of_section s line w ws (λ e. absurd (false≢true e)) (form_inside s.whole.version s.section (w ∷ ws) h)
+    passes_saying is_of_section s line w ws (form_inside s.whole.version s.section (w ∷ ws) h)
 
 said_inside : (s : Setting) (ls : List Word) → is_inside s.section ≡ true → all_pass is_of_section (lines_from s ls) ≡ true
 said_inside s [] h = refl
@@ -106,20 +106,20 @@ opens_of_section (Says form.Journal slots) h = refl
 opens_of_section (Says form.Poster slots) h = refl
 opens_of_section (Says f slots) h = absurd (false≢true h)
 
-module _ (built : Form → Bool) (whole : WholeText) where
+module _ (whole : WholeText) where
   -- what the first line of a section says, and that its section goes on
   opening_words : (l : Word) (ws : List Word) → (begins_with (codes "journal") ws || begins_with (codes "poster") ws) ≡ true
-      → (passes opens_section (saying (in_plain built whole) (cut l) ws) ≡ true) × (is_inside (section_behind ws Plain) ≡ true)
+      → (passes opens_section (saying (in_plain whole) (cut l) ws) ≡ true) × (is_inside (section_behind ws Plain) ≡ true)
   opening_words l [] h = absurd (false≢true h)
   opening_words l (w ∷ ws) h = (
-    passes_saying opens_section (in_plain built whole) (cut l) w ws (λ e. absurd (false≢true e)) (opening_found whole.version w ws h),
+    passes_saying opens_section (in_plain whole) (cut l) w ws (opening_found whole.version w ws h),
     opening_inside (same w (codes "journal")) (same w (codes "poster")) h,
   )
 
-  pub said_first : (l : Word) → begins_section l ≡ true → passes opens_section (saying (in_plain built whole) (cut l) (words (cut l))) ≡ true
+  pub said_first : (l : Word) → begins_section l ≡ true → passes opens_section (saying (in_plain whole) (cut l) (words (cut l))) ≡ true
   said_first l h = (opening_words l (words (cut l)) h).0
 
-  pub said_behind : (l : Word) (ls : List Word) → begins_section l ≡ true → all_pass is_of_section (lines_from (in_plain built whole) (l ∷ ls)) ≡ true
+  pub said_behind : (l : Word) (ls : List Word) → begins_section l ≡ true → all_pass is_of_section (lines_from (in_plain whole) (l ∷ ls)) ≡ true
   said_behind l ls h =
       and_from _ _ (opens_of_section _ (said_first l h))
-      (said_inside (setting_behind (words (cut l)) (in_plain built whole)) ls (opening_words l (words (cut l)) h).1)
+      (said_inside (setting_behind (words (cut l)) (in_plain whole)) ls (opening_words l (words (cut l)) h).1)

@@ -1,11 +1,10 @@
 -- What is taken from the whole of a text without a fault is what its lines say.
 --     taken_from_text      so it is for the lines that `sayings` gives
-use Rattle.std.specs.Prelude.{◌≡◌, refl, ℕ, ◌+◌, Bool, List, [], ◌∷◌, ◌++◌, filter_map, Option, Some, None}
+use Rattle.std.specs.Prelude.{◌≡◌, refl, ℕ, ◌+◌, List, [], ◌∷◌, ◌++◌, filter_map, Option, Some, None}
 use Rattle.std.specs.Option.{option_to_list}
 use Rattle.std.specs.List.{cons_option}
 use Rattle.std.proofs.Common.{ap, ap₂, ◌∙◌}
 use Rattle.sim_types.specs.declared.fault.Fault.{Fault}
-use Rattle.sim_language.specs.declared.form.Form.{Form}
 use Rattle.sim_language.specs.declared.form.Section.TheVariants.{Plain}
 use Rattle.sim_language.specs.declared.form.Version.{Version}
 use Rattle.sim_language.specs.Lines.{Word, cut, words}
@@ -39,16 +38,16 @@ module _ (heads : ProcessLines) (end : Option Fault) {A : Type 0} (taken : Versi
       let rest = taken_from each (setting_behind ws s) ls (n + 1) (line_of s l ∷ above) (others_clean heads end n above (line_of s l) below clean) in
       joined (taken s.whole.version ws) (filter_map (λ k. taken s.whole.version (words (cut k))) ls) ∙ ap₂ (λ xs ys. xs ++ ys) (each s (cut l) ws right) rest
 
-pub taken_from_text : (built : Form → Bool) (end : Option Fault) (ls : List Word)
-    → first_fault (whole_text built ls).heads (places 1 [] (sayings built (whole_text built ls) ls)) end ≡ None
-    → WholeOf (whole_text built ls) (sayings built (whole_text built ls) ls)
-taken_from_text built end ls clean = record {
+pub taken_from_text : (end : Option Fault) (ls : List Word)
+    → first_fault (whole_text ls).heads (places 1 [] (sayings (whole_text ls) ls)) end ≡ None
+    → WholeOf (whole_text ls) (sayings (whole_text ls) ls)
+taken_from_text end ls clean = record {
   heads = ap (with_all []) (taken_from whole.heads end head_of head_said line_head start ls 1 [] clean);
   declarations = taken_from whole.heads end (λ version ws. declaration ws) declaration_said line_declares start ls 1 [] clean;
 }
   where
     whole : WholeText
-    whole = whole_text built ls
+    whole = whole_text ls
 
     start : Setting
-    start = record { built = built; whole = whole; section = Plain; posters = 0 }
+    start = record { whole = whole; section = Plain; posters = 0 }

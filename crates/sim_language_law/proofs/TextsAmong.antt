@@ -8,7 +8,7 @@ use Rattle.sim_language.specs.Lines.{Word, cut, words, is_text}
 use Rattle.sim_language.specs.Forms.{operands}
 use Rattle.sim_language.specs.Shapes.{Operand, shape, fit}
 use Rattle.sim_language.specs.AnywhereInText.{WholeText}
-use Rattle.sim_language.specs.Sayings.{Saying, Wrong, Says, Setting, context_of, if_built, form_in, said_by_slots, said_by_form, saying, setting_behind, lines_from, is_bad_number, is_bad_name, sayings}
+use Rattle.sim_language.specs.Sayings.{Saying, Wrong, Says, Setting, context_of, form_in, said_by_slots, said_by_form, saying, setting_behind, lines_from, is_bad_number, is_bad_name, sayings}
 use Rattle.sim_language_law.proofs.LineByLine.{Among, AllAmong}
 
 slots_among : (s : Setting) (f : Form) (ws : List Word) (o : Option (List Operand)) → fit (context_of s) [] (shape f) ws ≡ o
@@ -28,7 +28,7 @@ form_among s (Some f) ws = slots_among s f (operands f ws) (fit (context_of s) [
 
 saying_among : (s : Setting) (line : Word) (ws : List Word) → Among s.whole (saying s line ws)
 saying_among s line [] = tt
-saying_among s line (w ∷ ws) = by (not (list_all is_text line)) (nat_lt 200 (length line)) (said_by_form (context_of s) (if_built s.built (form_in s.whole.version s.section (w ∷ ws))) (w ∷ ws)) (form_among s (if_built s.built (form_in s.whole.version s.section (w ∷ ws))) (w ∷ ws))
+saying_among s line (w ∷ ws) = by (not (list_all is_text line)) (nat_lt 200 (length line)) (said_by_form (context_of s) (form_in s.whole.version s.section (w ∷ ws)) (w ∷ ws)) (form_among s (form_in s.whole.version s.section (w ∷ ws)) (w ∷ ws))
   where
     by : (a b : Bool) (other : Saying) → Among s.whole other → Among s.whole (if a then Wrong fault.NotText else (if b then Wrong fault.LineTooLong else other))
     by true b other among = tt
@@ -39,5 +39,5 @@ lines_among : (s : Setting) (ls : List Word) → AllAmong s.whole (lines_from s 
 lines_among s [] = tt
 lines_among s (l ∷ ls) = (saying_among s (cut l) (words (cut l)), lines_among (setting_behind (words (cut l)) s) ls)
 
-pub all_among : (built : Form → Bool) (whole : WholeText) (ls : List Word) → AllAmong whole (sayings built whole ls)
-all_among built whole ls = lines_among _ ls
+pub all_among : (whole : WholeText) (ls : List Word) → AllAmong whole (sayings whole ls)
+all_among whole ls = lines_among _ ls

@@ -1,6 +1,6 @@
 -- A text with a journal behind its other lines says the same with that journal.
 --     reads_with_journal      so it is
-use Rattle.std.proofs.Common.{◌≡◌, refl, sym, ap, ap₂, subst, ◌∙◌, ℕ, ◌+◌, ◌≤◌, Bool, true, false, ◌&&◌, if◌then◌else◌, List, [], ◌∷◌, ◌++◌, length, map, codes, Option, None, Ok, Err, arith}
+use Rattle.std.proofs.Common.{◌≡◌, refl, sym, ap, ap₂, subst, ◌∙◌, ℕ, ◌+◌, ◌≤◌, true, false, if◌then◌else◌, List, [], ◌∷◌, ◌++◌, length, map, codes, Option, None, Ok, Err, arith}
 use Rattle.std.specs.List.{All, list_any}
 use Rattle.std.proofs.lemmas.Bool.{le-ltb}
 use Rattle.sim_types.specs.Limits.{most_bytes}
@@ -8,19 +8,15 @@ use Rattle.sim_types.specs.Scenarios.{ScenarioOf}
 use Rattle.sim_types.specs.declared.setup.Arrival.{Arrival}
 use Rattle.sim_types.specs.declared.fault.Fault.{Fault}
 use Rattle.sim_types.specs.declared.fault.FaultKind.TheVariants as fault
-use Rattle.sim_language.specs.declared.form.Form.{Form}
-use Rattle.sim_language.specs.declared.form.Form.TheVariants as form
-use Rattle.sim_language.specs.declared.form.Version.{Version}
-use Rattle.sim_language.specs.declared.form.Version.TheVariants.{One, Two}
 use Rattle.sim_language.specs.Lines.{Word, lines}
-use Rattle.sim_language.specs.AnywhereInText.{WholeText, first_worded, is_second_header, version_of, heads_of, declarations, whole_text}
+use Rattle.sim_language.specs.AnywhereInText.{WholeText, version_of, whole_text}
 use Rattle.sim_language.specs.Sayings.{TextLine, lines_from, sayings}
 use Rattle.sim_language.specs.Declarations.{declared}
 use Rattle.sim_language.specs.Places.{places}
 use Rattle.sim_language.specs.Faults.{first_fault, end_fault}
 use Rattle.sim_language.specs.Links.{linked}
 use Rattle.sim_language.specs.Reads.{with_lines, nothing_said, unless_faulty, reads_lines, reads_text, is_too_long, reads}
-use Rattle.sim_language_law.specs.Sections.{begins_section, lines_before, text_with_journal, CanBeJournal, IsWithinLimits, ReadsJournals, AreSameBesidePosters, with_journal}
+use Rattle.sim_language_law.specs.Sections.{begins_section, lines_before, text_with_journal, CanBeJournal, IsWithinLimits, with_journal}
 use Rattle.sim_language_law.proofs.Walking.{passed}
 use Rattle.sim_language_law.proofs.LinesSoFar.{SoFar, so_far}
 use Rattle.sim_language_law.proofs.TextsAmong.{all_among}
@@ -29,7 +25,7 @@ use Rattle.sim_language_law.proofs.LinesBehind.{places_appended, faults_appended
 use Rattle.sim_language_law.proofs.EndedLines.{from_first, up_to_from, none_up_to, FirstPasses, first_passes}
 use Rattle.sim_language_law.proofs.SaidForms.{all_pass}
 use Rattle.sim_language_law.proofs.SectionLines.{is_of_section, said_behind}
-use Rattle.sim_language_law.proofs.PlainLines.{in_plain, lines_in_front, lines_same}
+use Rattle.sim_language_law.proofs.PlainLines.{in_plain, lines_in_front}
 use Rattle.sim_language_law.proofs.SectionAdditions.{section_adds}
 use Rattle.sim_language_law.proofs.NamedPorts.{PortsNamed, ports_named}
 use Rattle.sim_language_law.proofs.EntryLines.{GoodEntry, entry_written, journal_lines, all_said}
@@ -44,7 +40,7 @@ passed_appended (x ∷ xs) ys above = passed_appended xs ys (x ∷ above)
 
 -- ---- the text in front of its sections
 
-module _ (built : Form → Bool) (text : List ℕ) (s : ScenarioOf) (read : reads built text ≡ Ok s) where
+module _ (text : List ℕ) (s : ScenarioOf) (read : reads text ≡ Ok s) where
   abbrev front : List Word
   front = lines_before text
 
@@ -52,13 +48,13 @@ module _ (built : Form → Bool) (text : List ℕ) (s : ScenarioOf) (read : read
   others = from_first begins_section (lines text)
 
   abbrev whole : WholeText
-  whole = whole_text built (lines text)
+  whole = whole_text (lines text)
 
   abbrev said : List TextLine
-  said = lines_from (in_plain built whole) front
+  said = lines_from (in_plain whole) front
 
   abbrev behind : List TextLine
-  behind = lines_from (in_plain built whole) others
+  behind = lines_from (in_plain whole) others
 
   abbrev above : List TextLine
   above = passed [] said
@@ -72,17 +68,17 @@ module _ (built : Form → Bool) (text : List ℕ) (s : ScenarioOf) (read : read
   text_split : front ++ others ≡ lines text
   text_split = up_to_from begins_section (lines text)
 
-  said_split : sayings built whole (lines text) ≡ said ++ behind
-  said_split = ap (sayings built whole) (sym text_split) ∙ lines_in_front built whole front others none
+  said_split : sayings whole (lines text) ≡ said ++ behind
+  said_split = ap (sayings whole) (sym text_split) ∙ lines_in_front whole front others none
 
   abbrev end : Option Fault
   end = end_fault (said ++ behind)
 
   clean : first_fault whole.heads (places 1 [] (said ++ behind)) end ≡ None
-  clean = subst (λ ls. first_fault whole.heads (places 1 [] ls) (end_fault ls) ≡ None) said_split (read_is built text s read).faultless.none
+  clean = subst (λ ls. first_fault whole.heads (places 1 [] ls) (end_fault ls) ≡ None) said_split (read_is text s read).faultless.none
 
   ends : AtEnd above
-  ends = front_ends built whole front none others (first_passes begins_section (lines text)) clean
+  ends = front_ends whole front none others (first_passes begins_section (lines text)) clean
 
   placed : (more : List TextLine) → places 1 [] (said ++ more) ≡ places 1 [] said ++ places next above more
   placed more = places_appended said more 1 [] ends.closed
@@ -98,13 +94,13 @@ module _ (built : Form → Bool) (text : List ℕ) (s : ScenarioOf) (read : read
   front_says = with_lines whole.heads nothing_said (places 1 [] said)
 
   all_so_far : SoFar front_says (1 + length said) above front_says
-  all_so_far = so_far whole None front_says said (all_among built whole front) clean_parts.0 refl
+  all_so_far = so_far whole None front_says said (all_among whole front) clean_parts.0 refl
 
   front_ports : PortsNamed whole.version (declared above) front_says.port_names
-  front_ports = ports_named whole None front_says said (all_among built whole front) clean_parts.0 refl
+  front_ports = ports_named whole None front_says said (all_among whole front) clean_parts.0 refl
 
-  plain : NoEntries built whole front none
-  plain = front_plain built whole front none clean_parts.0
+  plain : NoEntries whole front none
+  plain = front_plain whole front none clean_parts.0
 
   nothing_arrived : front_says.journal ≡ []
   nothing_arrived = no_more front_says.journal (omega (arith, all_so_far.entries.arrivals, plain.entries))
@@ -117,12 +113,12 @@ module _ (built : Form → Bool) (text : List ℕ) (s : ScenarioOf) (read : read
   section : all_pass is_of_section behind ≡ true
   section = by others (first_passes begins_section (lines text))
     where
-      by : (ls : List Word) → FirstPasses begins_section ls → all_pass is_of_section (lines_from (in_plain built whole) ls) ≡ true
+      by : (ls : List Word) → FirstPasses begins_section ls → all_pass is_of_section (lines_from (in_plain whole) ls) ≡ true
       by [] h = refl
-      by (l ∷ ls) h = said_behind built whole l ls h
+      by (l ∷ ls) h = said_behind whole l ls h
 
   abbrev text_says : ScenarioOf
-  text_says = with_lines whole.heads nothing_said (places 1 [] (sayings built whole (lines text)))
+  text_says = with_lines whole.heads nothing_said (places 1 [] (sayings whole (lines text)))
 
   text_adds : with_journal [] text_says ≡ with_journal [] front_says
   text_adds =
@@ -136,7 +132,7 @@ module _ (built : Form → Bool) (text : List ℕ) (s : ScenarioOf) (read : read
   closed_with entries t = record t { code = linked 0 t.code; journal = entries; posters = [] }
 
   text_is : (entries : List Arrival) → with_journal entries s ≡ closed_with entries front_says
-  text_is entries = ap (with_journal entries) (sym (read_is built text s read).is) ∙ ap (closed_with entries) text_adds
+  text_is entries = ap (with_journal entries) (sym (read_is text s read).is) ∙ ap (closed_with entries) text_adds
 
   names_are : front_says.port_names ≡ s.port_names
   names_are = sym (ap (λ t. t.port_names) (text_is []))
@@ -153,41 +149,34 @@ module _ (built : Form → Bool) (text : List ℕ) (s : ScenarioOf) (read : read
   -- ---- what is taken from the whole
 
   words_in_front : has_words front ≡ true
-  words_in_front = words_there (in_plain built whole) front ends.worded
+  words_in_front = words_there (in_plain whole) front ends.worded
 
-  version_is : whole.version ≡ version_of built front
-  version_is = ap (version_of built) (sym text_split) ∙ version_front built front others words_in_front
+  version_is : whole.version ≡ version_of front
+  version_is = ap version_of (sym text_split) ∙ version_front front others words_in_front
 
   silent : Silent whole.version others
-  silent = section_silent built whole end others next above section clean_parts.1
+  silent = section_silent whole end others next above section clean_parts.1
 
-  whole_is : whole ≡ whole_text built front
+  whole_is : whole ≡ whole_text front
   whole_is =
-      ap (whole_text built) (sym text_split)
-      ∙ whole_front built front others words_in_front (subst (λ v. Silent v others) version_is silent)
+      ap whole_text (sym text_split)
+      ∙ whole_front front others words_in_front (subst (λ v. Silent v others) version_is silent)
 
 -- ---- the text with this journal
 
-whole_same : (built other : Form → Bool) → AreSameBesidePosters built other → (ls : List Word) → whole_text built ls ≡ whole_text other ls
-whole_same built other agree ls =
-    ap (λ b. of_version (if b && is_second_header (first_worded ls) then Two else One)) (agree form.ScenarioTwo refl)
-  where
-    of_version : Version → WholeText
-    of_version version = record { version = version; heads = heads_of version ls; declarations = declarations ls }
-
-module _ (built other : Form → Bool) (agree : AreSameBesidePosters built other) (reading : ReadsJournals other) (text : List ℕ) (s : ScenarioOf)
-    (read : reads built text ≡ Ok s) (entries : List Arrival) (can : CanBeJournal s entries) (room : IsWithinLimits s.port_names entries text) where
+module _ (text : List ℕ) (s : ScenarioOf) (read : reads text ≡ Ok s)
+    (entries : List Arrival) (can : CanBeJournal s entries) (room : IsWithinLimits s.port_names entries text) where
   abbrev old : WholeText
-  old = whole built text s read
+  old = whole text s read
 
   abbrev first : List TextLine
-  first = said built text s read
+  first = said text s read
 
   abbrev up : List TextLine
-  up = above built text s read
+  up = above text s read
 
   abbrev place : ℕ
-  place = next built text s read
+  place = next text s read
 
   abbrev journal : List TextLine
   journal = journal_lines s.port_names entries
@@ -196,29 +185,29 @@ module _ (built other : Form → Bool) (agree : AreSameBesidePosters built other
   tail = written_lines s.port_names entries
 
   fits : All (FittingEntry old.version (declared up) s.port_names) entries
-  fits = all_fit s old.version s.port_names (named built text s read) (declared up) (known built text s read) entries can.fit can.values
+  fits = all_fit s old.version s.port_names (named text s read) (declared up) (known text s read) entries can.fit can.values
 
   good : All (GoodEntry old.version s.port_names) entries
   good = all_good entries fits
 
   -- ---- its lines
 
-  journal_is : lines_from (in_plain other old) tail ≡ journal
-  journal_is = all_said other old reading s.port_names entries good
+  journal_is : lines_from (in_plain old) tail ≡ journal
+  journal_is = all_said old s.port_names entries good
 
-  lines_said : lines_from (in_plain other old) (lines_before text ++ tail) ≡ first ++ journal
+  lines_said : lines_from (in_plain old) (lines_before text ++ tail) ≡ first ++ journal
   lines_said =
-      lines_in_front other old (lines_before text) tail (none built text s read)
-      ∙ ap₂ (λ xs ys. xs ++ ys) (sym (lines_same built other old agree (lines_before text) (none built text s read))) journal_is
+      lines_in_front old (lines_before text) tail (none text s read)
+      ∙ ap (λ ys. first ++ ys) journal_is
 
   ready : Ready (declared up) 0 None up
   ready =
-      let ends_here = ends built text s read in
-      let plain_here = plain built text s read in
+      let ends_here = ends text s read in
+      let plain_here = plain text s read in
       record { closed = ends_here.closed; worded = ends_here.worded; declared = refl; entries = plain_here.entries; after = plain_here.after }
 
   lines_few : place + length entries ≤ 65536
-  lines_few = omega (arith, room.lines, long (in_plain built old) (lines_before text))
+  lines_few = omega (arith, room.lines, long (in_plain old) (lines_before text))
 
   journal_faultless : first_fault old.heads (places place up journal) None ≡ None
   journal_faultless =
@@ -235,17 +224,17 @@ module _ (built other : Form → Bool) (agree : AreSameBesidePosters built other
 
   all_faultless : first_fault old.heads (places 1 [] (first ++ journal)) last ≡ None
   all_faultless =
-      ap (λ ps. first_fault old.heads ps last) (placed built text s read journal)
+      ap (λ ps. first_fault old.heads ps last) (placed text s read journal)
       ∙ (faults_appended old.heads (places 1 [] first) (places place up journal) last
-      ∙ faultless_whole old.heads (places 1 [] first) (first_fault old.heads (places place up journal) last) (clean_parts built text s read).0
+      ∙ faultless_whole old.heads (places 1 [] first) (first_fault old.heads (places place up journal) last) (clean_parts text s read).0
       (faultless_whole old.heads (places place up journal) last journal_faultless ends_well))
 
   abbrev front_scenario : ScenarioOf
-  front_scenario = front_says built text s read
+  front_scenario = front_says text s read
 
   all_say : with_lines old.heads nothing_said (places 1 [] (first ++ journal)) ≡ record front_scenario { journal = front_scenario.journal ++ entries }
   all_say =
-      ap (with_lines old.heads nothing_said) (placed built text s read journal)
+      ap (with_lines old.heads nothing_said) (placed text s read journal)
       ∙ (lines_appended old.heads (places 1 [] first) (places place up journal) nothing_said
       ∙ journal_adds old.heads old.version (declared up) s.port_names place None up entries ready fits
       (follows_none entries) can.falls lines_few front_scenario)
@@ -254,15 +243,13 @@ module _ (built other : Form → Bool) (agree : AreSameBesidePosters built other
 
   tail_silent : Silent old.version tail
   tail_silent =
-      section_silent other old None tail place up (said_behind other old (codes "journal") (map (entry_written s.port_names) entries) refl)
+      section_silent old None tail place up (said_behind old (codes "journal") (map (entry_written s.port_names) entries) refl)
       (subst (λ ls. first_fault old.heads (places place up ls) None ≡ None) (sym journal_is) journal_faultless)
 
-  whole_new : whole_text other (lines_before text ++ tail) ≡ old
+  whole_new : whole_text (lines_before text ++ tail) ≡ old
   whole_new =
-      let same = whole_same built other agree (lines_before text) in
-      let version : old.version ≡ version_of other (lines_before text) = version_is built text s read ∙ ap (λ w. w.version) same in
-      whole_front other (lines_before text) tail (words_in_front built text s read) (subst (λ v. Silent v tail) version tail_silent)
-      ∙ (sym same ∙ sym (whole_is built text s read))
+      whole_front (lines_before text) tail (words_in_front text s read) (subst (λ v. Silent v tail) (version_is text s read) tail_silent)
+      ∙ sym (whole_is text s read)
 
   -- ---- what it says
 
@@ -275,14 +262,13 @@ module _ (built other : Form → Bool) (agree : AreSameBesidePosters built other
   lines_new : lines bytes ≡ lines_before text ++ tail
   lines_new = lines_are old.version s.port_names entries text good
 
-  pub reads_with_journal : reads other bytes ≡ Ok (with_journal entries s)
+  pub reads_with_journal : reads bytes ≡ Ok (with_journal entries s)
   reads_with_journal =
-      ap (λ b. if b then Err (record { line = 0; kind = fault.TooLong }) else reads_text other (whole_text other (lines bytes))
-      (lines bytes)) not_long
-      ∙ (ap (λ ls. reads_text other (whole_text other ls) ls) lines_new
-      ∙ (ap (λ w. reads_text other w (lines_before text ++ tail)) whole_new
+      ap (λ b. if b then Err (record { line = 0; kind = fault.TooLong }) else reads_text (whole_text (lines bytes)) (lines bytes)) not_long
+      ∙ (ap (λ ls. reads_text (whole_text ls) ls) lines_new
+      ∙ (ap (λ w. reads_text w (lines_before text ++ tail)) whole_new
       ∙ (ap (reads_lines old.heads) lines_said
       ∙ (ap₂ unless_faulty all_faultless all_say
       ∙ (ap₂ (λ j p. Ok (record front_scenario { code = linked 0 front_scenario.code; journal = j; posters = p }))
-      (ap (λ j. j ++ entries) (nothing_arrived built text s read)) (no_posters built text s read)
-      ∙ ap Ok (sym (text_is built text s read entries)))))))
+      (ap (λ j. j ++ entries) (nothing_arrived text s read)) (no_posters text s read)
+      ∙ ap Ok (sym (text_is text s read entries)))))))

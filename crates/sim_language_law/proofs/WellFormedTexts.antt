@@ -1,8 +1,7 @@
 -- What is read is a well-formed scenario.
-use Rattle.std.proofs.Common.{◌≡◌, subst, Bool, true, ℕ, List, Ok}
+use Rattle.std.proofs.Common.{◌≡◌, subst, true, ℕ, List, Ok}
 use Rattle.std.specs.Prelude.{IsTrue}
 use Rattle.sim_types.specs.Scenarios.{ScenarioOf}
-use Rattle.sim_language.specs.declared.form.Form.{Form}
 use Rattle.sim_language.specs.AnywhereInText.{WholeText}
 use Rattle.sim_language.specs.Sayings.{TextLine}
 use Rattle.sim_language.specs.Reads.{reads}
@@ -11,13 +10,12 @@ use Rattle.sim_language_law.proofs.ClosedTexts.{closed_text}
 use Rattle.sim_language_law.proofs.FittingTexts.{linked_by}
 use Rattle.sim_language_law.proofs.ReadTexts.{Read, all_is_said, whole_of, lines_of, read_is, well_formed}
 
--- whatever forms are built
-module _ (built : Form → Bool) (text : List ℕ) (s : ScenarioOf) where
-  its_lines_are : Read built text s → is_well_formed (linked_by (whole_of built text).heads (lines_of built text)) ≡ true
+module _ (text : List ℕ) (s : ScenarioOf) where
+  its_lines_are : Read text s → is_well_formed (linked_by (whole_of text).heads (lines_of text)) ≡ true
   its_lines_are read =
-      let whole : WholeText = whole_of built text in
-      let ls : List TextLine = lines_of built text in
+      let whole : WholeText = whole_of text in
+      let ls : List TextLine = lines_of text in
       well_formed whole ls read.faultless read.whole (closed_text whole.heads ls (all_is_said whole ls read.faultless.among) read.faultless.none)
 
-  pub read_well_formed : reads built text ≡ Ok s → IsTrue (is_well_formed s)
-  read_well_formed says = let read = read_is built text s says in subst (λ t. IsTrue (is_well_formed t)) read.is (its_lines_are read)
+  pub read_well_formed : reads text ≡ Ok s → IsTrue (is_well_formed s)
+  read_well_formed says = let read = read_is text s says in subst (λ t. IsTrue (is_well_formed t)) read.is (its_lines_are read)

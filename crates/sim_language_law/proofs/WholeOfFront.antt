@@ -1,14 +1,12 @@
 -- What is taken from the whole of a text is taken from the lines in front of its sections.
 --     whole_front         so it is where those behind declare nothing
 --     section_silent      the lines of a section without a fault declare nothing
-use Rattle.std.proofs.Common.{◌≡◌, refl, sym, ap, ◌∙◌, ℕ, ◌+◌, ◌≤◌, Bool, true, false, not, ◌&&◌, ◌||◌, if◌then◌else◌, List, [], ◌∷◌, ◌++◌, filter_map, Option, None, arith}
+use Rattle.std.proofs.Common.{◌≡◌, refl, sym, ap, ◌∙◌, ℕ, ◌+◌, ◌≤◌, Bool, true, false, not, ◌||◌, if◌then◌else◌, List, [], ◌∷◌, ◌++◌, filter_map, Option, None, arith}
 use Rattle.std.specs.List.{list_any}
 use Rattle.std.proofs.lemmas.Bool.{false≢true, or_parts}
 use Rattle.std.proofs.lemmas.List.{append-nil}
 use Rattle.std.proofs.lemmas.List.Elements.{filter_map-append}
 use Rattle.sim_types.specs.declared.fault.Fault.{Fault}
-use Rattle.sim_language.specs.declared.form.Form.{Form}
-use Rattle.sim_language.specs.declared.form.Form.TheVariants as form
 use Rattle.sim_language.specs.declared.form.Sort.{Sort}
 use Rattle.sim_language.specs.declared.form.Version.{Version}
 use Rattle.sim_language.specs.declared.form.Version.TheVariants.{One, Two}
@@ -69,9 +67,9 @@ pub record Silent (version : Version) (ls : List Word) : Type 0 where
   pub heads : filter_map (λ l. head_of version (words (cut l))) ls ≡ []
   pub declared : filter_map (λ l. declaration (words (cut l))) ls ≡ []
 
-module _ (built : Form → Bool) (front more : List Word) where
-  pub version_front : has_words front ≡ true → version_of built (front ++ more) ≡ version_of built front
-  version_front h = ap (λ ws. if built form.ScenarioTwo && is_second_header ws then Two else One) (first_of_front front more h)
+module _ (front more : List Word) where
+  pub version_front : has_words front ≡ true → version_of (front ++ more) ≡ version_of front
+  version_front h = ap (λ ws. if is_second_header ws then Two else One) (first_of_front front more h)
 
   abbrev of_version : Version → WholeText
   of_version version = record { version = version; heads = heads_of version (front ++ more); declarations = declarations (front ++ more) }
@@ -87,19 +85,19 @@ module _ (built : Form → Bool) (front more : List Word) where
       let taken : Word → Option (Named Sort) = λ l. declaration (words (cut l)) in
       filter_map-append taken front more ∙ (ap (λ rest. filter_map taken front ++ rest) h ∙ append-nil (filter_map taken front))
 
-  pub whole_front : has_words front ≡ true → Silent (version_of built front) more → whole_text built (front ++ more) ≡ whole_text built front
+  pub whole_front : has_words front ≡ true → Silent (version_of front) more → whole_text (front ++ more) ≡ whole_text front
   whole_front h silent =
-      ap of_version (version_front h) ∙ (rw (heads_front (version_of built front) silent.heads, declarations_front silent.declared) refl)
+      ap of_version (version_front h) ∙ (rw (heads_front (version_of front) silent.heads, declarations_front silent.declared) refl)
 
 -- ---- sections
 
-pub section_silent : (built : Form → Bool) (whole : WholeText) (end : Option Fault) (ls : List Word) (n : ℕ) (above : List TextLine)
-    → all_pass is_of_section (lines_from (in_plain built whole) ls) ≡ true
-    → first_fault whole.heads (places n above (lines_from (in_plain built whole) ls)) end ≡ None → Silent whole.version ls
-section_silent built whole end ls n above section clean = record {
+pub section_silent : (whole : WholeText) (end : Option Fault) (ls : List Word) (n : ℕ) (above : List TextLine)
+    → all_pass is_of_section (lines_from (in_plain whole) ls) ≡ true
+    → first_fault whole.heads (places n above (lines_from (in_plain whole) ls)) end ≡ None → Silent whole.version ls
+section_silent whole end ls n above section clean = record {
   heads =
-      taken_from whole.heads end head_of head_said line_head (in_plain built whole) ls n above clean
-      ∙ none_headed (lines_from (in_plain built whole) ls) section;
-  declared = taken_from whole.heads end (λ version ws. declaration ws) declaration_said line_declares (in_plain built whole) ls n above clean
-      ∙ none_declared (lines_from (in_plain built whole) ls) section;
+      taken_from whole.heads end head_of head_said line_head (in_plain whole) ls n above clean
+      ∙ none_headed (lines_from (in_plain whole) ls) section;
+  declared = taken_from whole.heads end (λ version ws. declaration ws) declaration_said line_declares (in_plain whole) ls n above clean
+      ∙ none_declared (lines_from (in_plain whole) ls) section;
 }

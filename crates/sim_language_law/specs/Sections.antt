@@ -1,14 +1,12 @@
 -- A text in front of its sections, and with a journal behind its other lines.
 --     before_sections text                    the lines in front of the first `journal` or `poster` line
 --     text_with_journal ports entries text    these lines, and this journal as it is written
-use Rattle.std.specs.Prelude.{◌≡◌, ℕ, ◌+◌, ◌≤◌, Bool, true, false, ◌||◌, List, [], ◌∷◌, ◌++◌, IsTrue, length, flat_map, codes}
+use Rattle.std.specs.Prelude.{ℕ, ◌+◌, ◌≤◌, Bool, ◌||◌, List, [], ◌∷◌, ◌++◌, IsTrue, length, flat_map, codes}
 use Rattle.std.specs.List.{list_all}
 use Rattle.sim_types.specs.Limits.{most_bytes}
 use Rattle.sim_types.specs.Scenarios.{ScenarioOf}
 use Rattle.sim_types.specs.Setups.{is_within}
 use Rattle.sim_types.specs.declared.setup.Arrival.{Arrival}
-use Rattle.sim_language.specs.declared.form.Form.{Form}
-use Rattle.sim_language.specs.declared.form.Form.TheVariants as form
 use Rattle.sim_language.specs.Lines.{Word, lines, cut, words, up_to}
 use Rattle.sim_language.specs.Numbers.{least, greatest}
 use Rattle.sim_language.specs.Sayings.{begins_with}
@@ -49,19 +47,3 @@ pub record CanBeJournal (s : ScenarioOf) (entries : List Arrival) : Type 0 where
 pub record IsWithinLimits (ports : List Word) (entries : List Arrival) (text : List ℕ) : Type 0 where
   pub bytes : length (text_with_journal ports entries text) ≤ most_bytes
   pub lines : length (lines_before text) + 1 + length entries ≤ 65536
-
--- ---- the forms that are built
-
--- those of a journal are
-pub record ReadsJournals (built : Form → Bool) : Type 0 where
-  pub journal : built form.Journal ≡ true
-  pub after : built form.After ≡ true
-
-abbrev pub is_posting : Form → Bool
-is_posting form.Poster = true
-is_posting form.Post = true
-is_posting f = false
-
--- the same are, but perhaps those of posters
-abbrev pub AreSameBesidePosters : (Form → Bool) → (Form → Bool) → Type 0
-AreSameBesidePosters built other = (f : Form) → is_posting f ≡ false → built f ≡ other f

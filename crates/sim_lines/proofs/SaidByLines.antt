@@ -6,7 +6,7 @@ use Rattle.sim_language.specs.declared.form.Form.{Form}
 use Rattle.sim_language.specs.Lines.{Word, is_text}
 use Rattle.sim_language.specs.Forms.{operands}
 use Rattle.sim_language.specs.Shapes.{Operand, Context, fit, shape}
-use Rattle.sim_language.specs.Sayings.{Setting, Wrong, Says, context_of, form_in, if_built, is_bad_name, is_bad_number, said_by_form, said_by_slots, saying}
+use Rattle.sim_language.specs.Sayings.{Setting, Wrong, Says, context_of, form_in, is_bad_name, is_bad_number, said_by_form, said_by_slots, saying}
 use Rattle.sim_language.specs.Said.{IsSaid}
 
 slots_are_said : (f : Form) (context : Context) (words : List Word) (slots : List Operand)
@@ -32,7 +32,7 @@ saying_is_said s line [] = tt
 saying_is_said s line (w ∷ ws) = by (list_all is_text line) (nat_lt 200 (length line))
   where
     by : (text long : Bool)
-        → IsSaid (if not text then Wrong fault.NotText else (if long then Wrong fault.LineTooLong else said_by_form (context_of s) (if_built s.built (form_in s.whole.version s.section (w ∷ ws))) (w ∷ ws)))
+        → IsSaid (if not text then Wrong fault.NotText else (if long then Wrong fault.LineTooLong else said_by_form (context_of s) (form_in s.whole.version s.section (w ∷ ws)) (w ∷ ws)))
     by false long = tt
     by true true = tt
-    by true false = form_is_said (context_of s) (if_built s.built (form_in s.whole.version s.section (w ∷ ws))) (w ∷ ws)
+    by true false = form_is_said (context_of s) (form_in s.whole.version s.section (w ∷ ws)) (w ∷ ws)

@@ -1,4 +1,3 @@
-pub mod SettingOf
 pub mod LineOf
 pub mod OneWord
 pub mod Spans

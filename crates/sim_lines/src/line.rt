@@ -4,7 +4,6 @@ ghost use Rattle.sim_language.specs.Lines.{is_empty};
 ghost use Rattle.sim_language.specs.Sayings.{Blank, begins_with, line_of};
 ghost use Rattle.sim_language.specs.Said.{IsSaid};
 ghost use Rattle.sim_lines.specs.LineOf.{operands_of, without_operands};
-ghost use Rattle.sim_lines.specs.SettingOf.{setting_of};
 
 use crate::cutting::cut;
 use crate::operand::Operand;
@@ -64,7 +63,7 @@ impl<'t> TextLine<'t> {
     /// Reads a line of a text where it stands in this setting. After want of memory it is not told what it says, until it
     /// is read anew.
     pub fn read(&mut self, line: &'t [u8], setting: &Setting<'_, '_>) -> Result<(), AllocError>
-        ensures { OnOk result (self.new ≡ line_of (setting_of setting.now) line.now) }
+        ensures { OnOk result (self.new ≡ line_of setting.now line.now) }
     {
         self.cut = cut(line);
         self.saying = Saying::Blank;

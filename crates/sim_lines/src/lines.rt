@@ -1,6 +1,5 @@
 //! The lines of a text, one after the other.
 ghost use Rattle.std.specs.Prelude.{◌≡◌, ◌≤◌, [], ◌∷◌, false, IfOk, OnErr, cond, length};
-ghost use Rattle.sim_language.specs.Built.{is_built};
 ghost use Rattle.sim_language.specs.Lines.{lines};
 ghost use Rattle.sim_language.specs.Sayings.{sayings};
 ghost use Rattle.sim_types.specs.Limits.{most_bytes};
@@ -24,11 +23,10 @@ impl<'t, 'w> Model for Lines<'t, 'w> {
     ghost use Rattle.sim_language.specs.Lines.{lines};
     ghost use Rattle.sim_language.specs.Sayings.{TextLine, lines_from};
     ghost use Rattle.sim_types.specs.Limits.{most_bytes};
-    ghost use Rattle.sim_lines.specs.SettingOf.{setting_of};
 
     ghost Value = { List TextLine };
 
-    ghost view = { λ a. lines_from (setting_of a.setting) (lines a.rest.now) };
+    ghost view = { λ a. lines_from a.setting (lines a.rest.now) };
 
     ghost invariant = { λ a. a.setting.posters + length a.rest.now ≤ most_bytes };
 }
@@ -38,7 +36,7 @@ impl<'t, 'w> Lines<'t, 'w> {
     #[tactic(auto, using(crate::proofs::CountsOfLines::few_lines))]
     pub fn of_text(text: &'t [u8], whole: &'w WholeText<'t>) -> Lines<'t, 'w>
         requires { length text.now ≤ most_bytes }
-        ensures lines { result ≡ sayings is_built whole.now (lines text.now) }
+        ensures lines { result ≡ sayings whole.now (lines text.now) }
         ensures few { length result ≤ length text.now }
     {
         Lines {

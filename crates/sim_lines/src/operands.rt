@@ -1,8 +1,8 @@
 //! What the words of a line are there for.
 ghost use Rattle.std.specs.Prelude.{◌≡◌, ◌++◌, [], IfOk, OnOk, Some, None, cond, map};
+ghost use Rattle.sim_language.specs.Sayings.{context_of};
 ghost use Rattle.sim_language.specs.Shapes.{fit, opening, side_by_side, slot_of, spawn_argument, start_argument};
 ghost use Rattle.sim_lines.specs.OneWord.{at_item, behind_all};
-ghost use Rattle.sim_lines.specs.SettingOf.{context_in};
 
 use crate::operand::{Operand, capacity};
 use crate::setting::Setting;
@@ -20,7 +20,7 @@ pub fn fit<'t>(
 ) -> Result<bool, AllocError>
     requires { slots.old.items ≡ [] }
     ensures { IfOk result (λ fits.
-        fit (context_in setting.now) [] shape.now words.now
+        fit (context_of setting.now) [] shape.now words.now
         ≡ cond fits (Some slots.new.items) None) }
 {
     let heads = setting.whole().heads();
@@ -68,7 +68,7 @@ fn take_word<'t>(
     word: &'t [u8],
 ) -> Result<bool, AllocError>
     ensures { IfOk result (λ fits.
-        behind_all slots.old.items (at_item (context_in setting.now) last.now item word.now)
+        behind_all slots.old.items (at_item (context_of setting.now) last.now item word.now)
         ≡ cond fits (Some slots.new.items) None) }
 {
     let role = match item {

@@ -1,11 +1,9 @@
 //! What a line says by itself.
 ghost use Rattle.std.specs.Prelude.{◌≡◌, [], IfOk, Some};
 ghost use Rattle.std.specs.List.{list_any};
-ghost use Rattle.sim_language.specs.Built.{is_built};
 ghost use Rattle.sim_language.specs.Lines.{words};
-ghost use Rattle.sim_language.specs.Sayings.{begins_with, form_in, if_built, is_bad_name, is_bad_number, said_by_form, said_by_slots, saying};
+ghost use Rattle.sim_language.specs.Sayings.{begins_with, context_of, form_in, is_bad_name, is_bad_number, said_by_form, said_by_slots, saying};
 ghost use Rattle.sim_lines.specs.LineOf.{saying_of};
-ghost use Rattle.sim_lines.specs.SettingOf.{context_in, setting_of};
 
 use crate::beginning::{begins, operands};
 use crate::cutting::is_text;
@@ -30,7 +28,7 @@ pub fn say<'t>(
     requires { slots.old.items ≡ [] }
     ensures { IfOk result (λ what.
         saying_of what slots.new.items
-        ≡ saying (setting_of setting.now) line.now (words line.now)) }
+        ≡ saying setting.now line.now (words line.now)) }
 {
     let words = Words::new(line);
     if words.is_empty() {
@@ -42,7 +40,7 @@ pub fn say<'t>(
     if line.len() > LONGEST_LINE {
         return Ok(Saying::Wrong(FaultKind::LineTooLong));
     }
-    match built_form(setting, &words) {
+    match form_in(setting, &words) {
         Some(form) => say_form(slots, setting, form, &words),
         None => Ok(Saying::Wrong(FaultKind::UnknownWord)),
     }
@@ -58,7 +56,7 @@ fn say_form<'t>(
     requires { slots.old.items ≡ [] }
     ensures { IfOk result (λ what.
         saying_of what slots.new.items
-        ≡ said_by_form (context_in setting.now) (Some form) words.now) }
+        ≡ said_by_form (context_of setting.now) (Some form) words.now) }
 {
     if fit(slots, setting, form.shape(), &operands(form, words))? {
         Ok(say_operands(setting.whole().version(), form, slots))
@@ -90,20 +88,6 @@ fn has_bad_name(version: Version, slots: &[Operand<'_>]) -> bool
     ensures { result ≡ list_any (is_bad_name version) slots.now }
 {
     slots.iter().any(|slot| slot.is_bad_name(version))
-}
-
-/// The form that the words of a line begin in this setting, if they begin one that is built. The header of a version that
-/// is not built counts as one of another shape.
-fn built_form(setting: &Setting<'_, '_>, words: &Words<'_>) -> Option<Form>
-    ensures { result
-        ≡ if_built is_built
-        (form_in setting.now.whole.version setting.now.section words.now) }
-{
-    match form_in(setting, words) {
-        Some(form) if form.is_built() => Some(form),
-        Some(Form::ScenarioTwo) => Some(Form::Scenario),
-        _ => None,
-    }
 }
 
 /// The form that the words of a line begin in this setting, if they begin one.

@@ -3,7 +3,6 @@ ghost use Rattle.std.specs.Prelude.{◌≡◌, ◌<◌};
 ghost use Rattle.sim_language.specs.Sayings.{section_behind, setting_behind};
 ghost use Rattle.sim_language.specs.declared.form.Section.TheVariants.{Plain};
 ghost use Rattle.sim_types.specs.Limits.{most_bytes};
-ghost use Rattle.sim_lines.specs.SettingOf.{setting_of};
 
 use crate::line::TextLine;
 use crate::whole_text::WholeText;
@@ -20,9 +19,9 @@ pub struct Setting<'t, 'w> {
 }
 
 impl<'t, 'w> Model for Setting<'t, 'w> {
-    ghost use Rattle.sim_lines.specs.SettingOf.{SettingOf};
+    ghost use Rattle.sim_language.specs.Sayings.{Setting};
 
-    ghost Value = { SettingOf };
+    ghost Value = { Setting };
 
     ghost view = { λ a.
         record { whole = a.whole.now; section = a.section; posters = a.posters } };
@@ -72,7 +71,7 @@ impl<'t, 'w> Setting<'t, 'w> {
     /// Goes on behind a line.
     pub fn pass(&mut self, line: &TextLine<'_>)
         requires { self.old.posters < most_bytes }
-        ensures { setting_of self.new ≡ setting_behind line.now.words (setting_of self.old) }
+        ensures { self.new ≡ setting_behind line.now.words self.old }
     {
         self.section = section_behind(self.section, line);
         if line.begins_with(b"poster") {

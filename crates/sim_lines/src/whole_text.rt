@@ -1,7 +1,6 @@
 //! What the lines of a text take from lines anywhere in it, above them or below.
 ghost use Rattle.std.specs.Prelude.{◌≡◌, ◌≤◌, IfOk, length, option_map};
 ghost use Rattle.sim_language.specs.AnywhereInText.{ahead, declaration, declarations, first_worded, is_second_header, version_of, whole_text};
-ghost use Rattle.sim_language.specs.Built.{is_built};
 ghost use Rattle.sim_language.specs.Forms.{same_sort};
 ghost use Rattle.sim_language.specs.declared.form.Sort.TheVariants.{Event};
 ghost use Rattle.sim_language.specs.Lines.{lines};
@@ -12,7 +11,7 @@ use crate::beginning::sort_begun;
 use crate::cutting::{cut, first_line};
 use crate::process_lines::ProcessLines;
 use crate::words::Words;
-use sim_language::{Ahead, Form, Sort, Version};
+use sim_language::{Ahead, Sort, Version};
 use sim_names::Names;
 use std::alloc::{AllocError, Global};
 use std::marker::Model;
@@ -50,7 +49,7 @@ impl<'t> WholeText<'t> {
     /// The text with its version, its process lines and the names that its lines declare.
     pub fn of(alloc: Global, text: &'t [u8]) -> Result<WholeText<'t>, AllocError>
         requires { length text.now ≤ most_bytes }
-        ensures { IfOk result (λ whole. whole ≡ whole_text is_built (lines text.now)) }
+        ensures { IfOk result (λ whole. whole ≡ whole_text (lines text.now)) }
     {
         let version = version_of(text);
         let heads = ProcessLines::of_text(alloc, version, text)?;
@@ -87,9 +86,9 @@ impl<'t> WholeText<'t> {
 
 /// The version of a text, told by the first line that has words.
 fn version_of(text: &[u8]) -> Version
-    ensures { result ≡ version_of is_built (lines text.now) }
+    ensures { result ≡ version_of (lines text.now) }
 {
-    if Form::ScenarioTwo.is_built() && is_second_header(&first_worded(text)) {
+    if is_second_header(&first_worded(text)) {
         Version::Two
     } else {
         Version::One

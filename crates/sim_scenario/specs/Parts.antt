@@ -6,7 +6,6 @@ use Rattle.sim_types.specs.declared.setup.Arrival.{Arrival}
 use Rattle.sim_types.specs.declared.setup.Post.{Post}
 use Rattle.sim_types.specs.declared.script.Kind.{Kind}
 use Rattle.sim_types.specs.declared.script.Stmt.{Stmt}
-use Rattle.sim_language.specs.Built.{is_built}
 use Rattle.sim_language.specs.Reads.{reads}
 use Rattle.sim_script_model.specs.Needs as needs
 
@@ -26,7 +25,7 @@ of_parts setup seed port_names kinds code journal posters =
 -- some text says this scenario
 pub record IsRead (s : ScenarioOf) : Type 0 where
   pub text : List ℕ
-  pub says : reads is_built text ≡ Ok s
+  pub says : reads text ≡ Ok s
 
 -- the scripts of this scenario need these variables, frames and scopes
 pub record HasNeeds (s : ScenarioOf) (last_variable most_frames most_open_scopes : ℕ) : Type 0 where

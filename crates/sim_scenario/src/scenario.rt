@@ -1,6 +1,5 @@
 //! A scenario, as a text says it.
 ghost use Rattle.std.specs.Prelude.{◌≡◌, IsTrue, Ok};
-ghost use Rattle.sim_language.specs.Built.{is_built};
 ghost use Rattle.sim_language.specs.Reads.{reads};
 ghost use Rattle.sim_language.specs.WellFormed.{is_well_formed};
 ghost use Rattle.sim_script_model.specs.Needs.{last_variable, most_frames, most_open_scopes};
@@ -55,7 +54,7 @@ impl Scenario {
         posters: List<List<Post>>,
     ) -> Scenario
         requires { let parts = of_parts setup seed port_names kinds code journal posters in
-            reads is_built _text.now ≡ Ok parts }
+            reads _text.now ≡ Ok parts }
         ensures { result ≡ of_parts setup seed port_names kinds code journal posters }
     {
         let Needs {
@@ -122,6 +121,14 @@ impl Scenario {
         ensures well_formed { IsTrue (is_well_formed self.now) }
     {
         self.journal.as_slice()
+    }
+
+    /// What each poster posts, by the numbers of the posters.
+    pub fn posters(&self) -> &[List<Post>]
+        ensures posters { result.now ≡ self.now.posters }
+        ensures well_formed { IsTrue (is_well_formed self.now) }
+    {
+        self.posters.as_slice()
     }
 
     /// The last variable that is given a value.

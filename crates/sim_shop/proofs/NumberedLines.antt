@@ -6,7 +6,6 @@ use Rattle.std.proofs.lemmas.Bool.Decides.{nat_tests}
 use Rattle.sim_language.specs.declared.form.Form.TheVariants as form
 use Rattle.sim_language.specs.declared.form.Section.TheVariants.{Plain}
 use Rattle.sim_language.specs.declared.shape.Role.TheVariants.{Declares}
-use Rattle.sim_language.specs.Built.{is_built}
 use Rattle.sim_language.specs.Lines.{Word, is_blank, cut, words}
 use Rattle.sim_language.specs.Shapes.{any_literal, users}
 use Rattle.sim_language.specs.AnywhereInText.{WholeText, whole_text}
@@ -25,10 +24,10 @@ count_text w = codes "repeat " ++ w
 
 -- what the shop's lines take from the whole text is the same for all numbers
 abbrev pub shop_whole : WholeText
-shop_whole = whole_text is_built (shop_lines (codes "1") (codes "1"))
+shop_whole = whole_text (shop_lines (codes "1") (codes "1"))
 
 abbrev pub in_shop : Setting
-in_shop = record { built = is_built; whole = shop_whole; section = Plain; posters = 0 }
+in_shop = record { whole = shop_whole; section = Plain; posters = 0 }
 
 abbrev pub crews_line : Word → TextLine
 crews_line w = record {

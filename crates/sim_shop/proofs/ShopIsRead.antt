@@ -5,7 +5,6 @@ use Rattle.std.proofs.Common.{◌≡◌, refl, ℕ, ◌*◌, ◌^◌, ◌<◌, �
 use Rattle.std.specs.List.{list_all}
 use Rattle.std.proofs.lemmas.Bool.Decides.{nat_tests}
 use Rattle.sim_types.specs.declared.fault.Fault.{Fault}
-use Rattle.sim_language.specs.Built.{is_built}
 use Rattle.sim_language.specs.Lines.{Word, is_line_feed, lines}
 use Rattle.sim_language.specs.AnywhereInText.{ProcessLines, whole_text}
 use Rattle.sim_language.specs.Sayings.{TextLine, line_of, lines_from, setting_behind}
@@ -65,12 +64,12 @@ said_is_read crews machines = faultless_is_read shop_whole.heads (shop_said crew
 
 -- ---- the text
 
-text_is_read : (text : List ℕ) (ls : List Word) → is_too_long text ≡ false → lines text ≡ ls → whole_text is_built ls ≡ shop_whole
-    → IsOk (reads_lines shop_whole.heads (said ls)) → IsOk (reads is_built text)
-text_is_read text ls short e whole read = rw (short, e) (subst (λ w. IsOk (reads_text is_built w ls)) (sym whole) read)
+text_is_read : (text : List ℕ) (ls : List Word) → is_too_long text ≡ false → lines text ≡ ls → whole_text ls ≡ shop_whole
+    → IsOk (reads_lines shop_whole.heads (said ls)) → IsOk (reads text)
+text_is_read text ls short e whole read = rw (short, e) (subst (λ w. IsOk (reads_text w ls)) (sym whole) read)
 
 module _ (crews machines : Word) (c n : ℕ) (p : IsNumeral crews c) (q : IsNumeral machines n) where
-  whole_alike : whole_text is_built (shop_lines crews machines) ≡ shop_whole
+  whole_alike : whole_text (shop_lines crews machines) ≡ shop_whole
   whole_alike = rw (crews_cut_to crews c p, count_cut_to crews c p, count_cut_to machines n q) refl
 
   lines_said : 0 < c → said (shop_lines crews machines) ≡ shop_said crews machines
@@ -99,14 +98,14 @@ module _ (crews machines : Word) (c n : ℕ) (p : IsNumeral crews c) (q : IsNume
       let few : length (text_of_lines (shop_lines crews machines)) ≤ 201 * 61 = few_bytes (shop_lines crews machines) short_lines in
       grind (arith, nat_tests, few)
 
-  numbered_is_read : 0 < c → IsOk (reads is_built (text_of_lines (shop_lines crews machines)))
+  numbered_is_read : 0 < c → IsOk (reads (text_of_lines (shop_lines crews machines)))
   numbered_is_read some =
       let ls : List Word = shop_lines crews machines in
       let read : IsOk (reads_lines shop_whole.heads (said ls)) =
       subst (λ k. IsOk (reads_lines shop_whole.heads k)) (sym (lines_said some)) (said_is_read crews machines) in
       text_is_read (text_of_lines ls) ls not_too_long (lines_back ls one_line_each) whole_alike read
 
-pub shop_is_read : (size : ℕ) → size < 2 ^ 32 → IsOk (reads is_built (shop_text size))
+pub shop_is_read : (size : ℕ) → size < 2 ^ 32 → IsOk (reads (shop_text size))
 shop_is_read size small =
     let crews : IsNumeral (decimal (crews_of size)) (crews_of size) = decimal_is_numeral (crews_of size) (omega arith) in
     numbered_is_read (decimal (crews_of size)) (decimal size) (crews_of size) size crews (decimal_is_numeral size small) (omega arith)

@@ -1,6 +1,5 @@
 //! The text of the machine shop.
 ghost use Rattle.std.specs.Prelude.{◌≡◌, ◌++◌, decimal, IfOk, IsOk, OnOk};
-ghost use Rattle.sim_language.specs.Built.{is_built};
 ghost use Rattle.sim_language.specs.Reads.{reads};
 ghost use Rattle.sim_shop.specs.Shop.{shop_text};
 
@@ -86,7 +85,7 @@ pub fn shop_text(alloc: Global, size: u32) -> Result<Vec<u8>, AllocError>
     ensures text { IfOk result (λ text. text.items ≡ shop_text size) }
 
     // That text says a scenario.
-    ensures accepted { IsOk (reads is_built (shop_text size)) }
+    ensures accepted { IsOk (reads (shop_text size)) }
 {
     let crews = size / 10 + 1;
     let mut text = Vec::new(alloc);

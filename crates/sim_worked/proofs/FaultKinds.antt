@@ -1,16 +1,15 @@
 -- A text for each kind of fault.
-use Rattle.std.specs.Prelude.{ℕ, ◌≡◌, ◌++◌, refl, true, nat_lt, List, [], ◌∷◌, Bool, Some, length, codes, replicate}
+use Rattle.std.specs.Prelude.{ℕ, ◌≡◌, ◌++◌, refl, true, nat_lt, List, [], ◌∷◌, Some, length, codes, replicate}
 use Rattle.std.specs.Fmt.{digits}
 use Rattle.sim_types.specs.declared.fault.FaultKind.TheVariants as fault
-use Rattle.sim_language.specs.declared.form.Form.{Form}
 use Rattle.sim_language.specs.Reads.{fault_of}
 use Rattle.sim_worked.specs.Printed.{printed, bytes_of, Prints, Refuses}
 
--- more bytes than a text may have, whatever they are and whichever forms are built
+-- more bytes than a text may have, whatever they are
 too_long :
-    (built : Form → Bool) (bytes : List ℕ) → nat_lt 4194304 (length bytes) ≡ true
-    → fault_of built bytes ≡ Some (record { line = 0; kind = fault.TooLong })
-too_long built bytes long = rw long refl
+    (bytes : List ℕ) → nat_lt 4194304 (length bytes) ≡ true
+    → fault_of bytes ≡ Some (record { line = 0; kind = fault.TooLong })
+too_long bytes long = rw long refl
 
 -- a line of 201 bytes
 line_too_long :

@@ -1,4 +1,4 @@
--- Faults of the forms that the program does not take yet.
+-- Faults of many forms.
 use Rattle.std.specs.Prelude.{refl, [], ◌∷◌}
 use Rattle.std.specs.Fmt.{digits}
 use Rattle.sim_worked.specs.Printed.{Prints, Refuses}

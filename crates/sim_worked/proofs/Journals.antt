@@ -28,11 +28,3 @@ arrival_is_a_unit : Prints 1
     ("arrive 0 inn 2" ∷ "end limit 0 0" ∷ [])
 unfolding digits
 arrival_is_a_unit = refl
-
--- what posters post is no part of a run
-posters_take_no_part : Prints 1000
-    ("scenario 1" ∷ "until empty" ∷ "port inn job" ∷ "process job v" ∷ "log v" ∷ "end" ∷
-    "poster 0" ∷ "inn 1" ∷ "inn 2" ∷ [])
-    ("end empty 0 0" ∷ [])
-unfolding digits
-posters_take_no_part = refl

@@ -9,6 +9,7 @@ mod FaultsOfForms
 mod Interruptions
 mod Journals
 mod NestedConditions
+mod Posters
 mod Preemption
 mod PreemptionKeys
 mod Resources

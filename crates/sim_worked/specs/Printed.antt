@@ -1,9 +1,8 @@
--- What the definitions say that is printed for a text, whichever forms the program takes.
+-- What the definitions say that is printed for a text.
 use Rattle.std.specs.Prelude.{ℕ, ◌≡◌, List, [], ◌∷◌, ◌++◌, codes, flat_map, Result, Ok, Err}
 use Prim.Native.String.{String}
 use Rattle.sim_types.specs.Scenarios.{ScenarioOf}
 use Rattle.sim_types.specs.declared.fault.Fault.{Fault}
-use Rattle.sim_language.specs.Built.{all_forms}
 use Rattle.sim_language.specs.Reads.{reads}
 use Rattle.sim_trace.specs.Texts.{trace_text, fault_text}
 use Rattle.sim_machine.specs.RandomWords.{word_of}
@@ -20,7 +19,7 @@ printed_for limit (Err fault) = fault_text fault
 
 -- what is printed for a text
 abbrev pub printed : ℕ → List ℕ → List ℕ
-printed limit text = printed_for limit (reads all_forms text)
+printed limit text = printed_for limit (reads text)
 
 -- the bytes of these lines
 abbrev pub bytes_of : List String → List ℕ
@@ -36,7 +35,7 @@ drawn_for word (Ok s) = printed_with word 1000 s
 drawn_for word (Err fault) = []
 
 abbrev pub PrintsDrawn : (ℕ → ℕ) → List String → List String → Type 0
-PrintsDrawn word text lines = drawn_for word (reads all_forms (bytes_of text)) ≡ bytes_of lines
+PrintsDrawn word text lines = drawn_for word (reads (bytes_of text)) ≡ bytes_of lines
 
 -- the text of the header and these lines is refused so
 abbrev pub Refuses : List String → String → Type 0
