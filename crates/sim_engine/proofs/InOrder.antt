@@ -9,6 +9,7 @@ use Rattle.std.proofs.lemmas.List.Sums.{list_all-from_AllPass}
 use Rattle.sim_types.specs.Scenarios.{ScenarioOf}
 use Rattle.sim_types.specs.declared.event.EventId.{EventId}
 use Rattle.sim_types.specs.declared.event.ProcId.{ProcId}
+use Rattle.sim_types.specs.declared.setup.Arrival.{Arrival}
 use Rattle.sim_types.specs.declared.setup.Resource.{Resource}
 use Rattle.sim_machine.specs.State.{Want, Slot, Give, Take, Waiter, OpenScope, State, Deed, Granted, Released, Preempted, Deposited, Taken, Filled, Drained}
 use Rattle.sim_machine.specs.Events.{is_same, is_process}
@@ -19,7 +20,7 @@ use Rattle.sim_machine.specs.LawfulProcesses.{is_active}
 use Rattle.sim_machine.specs.LawfulWaiting.{has_scope, request_has_scope, is_scope_well}
 use Rattle.sim_machine.specs.Lawful.{Lawful}
 use Rattle.sim_machine_law.specs.LawfulRuns.{IsRunOf}
-use Rattle.sim_machine_law.specs.Courses.{Run}
+use Rattle.sim_machine_law.specs.Courses.{Run, course_after}
 use Rattle.sim_machine_law.proofs.KeptProcessesParts.{is_process-yes}
 use Rattle.sim_machine_law.proofs.ServedFronts.{level_of_amounts}
 use Rattle.sim_machine_law.proofs.WholeRuns.{run_stays_lawful}
@@ -30,10 +31,10 @@ use Rattle.sim_script_law.specs.ScriptMembers.{script_body}
 use Rattle.sim_script_law.specs.SoundScripts.{IsSoundScript}
 use Rattle.sim_script_law.proofs.ScriptLaw.{script_lawful}
 use Rattle.sim_script_law.proofs.SetupFits.{fits_code}
-use Rattle.sim_language_law.proofs.PostsOfScenarios.{posts_of_scenario}
 use Rattle.sim_machine.specs.RandomWords.{word_of}
 use Rattle.sim_script_model.specs.Scenarios.{plan_with}
-use Rattle.sim_engine.specs.RunOfScenario.{run_of, run_of_scenario}
+use Rattle.sim_engine.specs.RunOfScenario.{run_of}
+use Rattle.sim_engine.specs.Rounds.{HavePorts}
 use Rattle.sim_engine.specs.Throughout.{is_of_living, IsInOrder, IsInOrderThroughout}
 
 -- ---- what waits for a slot is of a live process
@@ -86,8 +87,8 @@ ended_test true alive h = refl
 ended_test false true h = absurd (false≢true (sym h))
 ended_test false false h = refl
 
-in_order_where_lawful : (s : ScenarioOf) (t : State Script) → Lawful (plan_with s (word_of s.seed)) script_telling (IsSoundScript s) t → IsInOrder s t
-in_order_where_lawful s t h =
+in_order_where_lawful : (s : ScenarioOf) (seed : ℕ) (t : State Script) → Lawful (plan_with s (word_of seed)) script_telling (IsSoundScript s) t → IsInOrder s t
+in_order_where_lawful s seed t h =
     record {
       few_users = h.capacities.slots;
       level_is = λ res. level_of_amounts (resource_at s.setup.resources res).opening res t.facilities.ledger;
@@ -100,13 +101,14 @@ in_order_where_lawful s t h =
           (list_all-from_AllPass _ t.scopes h.waiting.scopes);
     }
 
--- each state of the run of a scenario that is well formed
-pub in_order : (s : ScenarioOf) (limit : ℕ) → IsTrue (is_well_formed s) → IsInOrderThroughout s limit
-in_order s limit well_formed n within =
-    let r : Run Script = run_of s s.seed s.journal in
+-- each state of the runs of a scenario that is well formed
+pub in_order : (s : ScenarioOf) (seed : ℕ) (journal : List Arrival) (limit : ℕ) → IsTrue (is_well_formed s) → HavePorts s journal
+    → IsInOrderThroughout s seed journal limit
+in_order s seed journal limit well_formed ports n within =
+    let r : Run Script = run_of s seed journal in
     let is_run : IsRunOf script_body s r = record {
       plan = record { starts = refl; fits = fits_code s well_formed };
       turns = λ b time told. (refl, refl);
-      ports = (posts_of_scenario s well_formed).ports;
+      ports = ports;
     } in
-    in_order_where_lawful s (run_of_scenario s n).state (run_stays_lawful script_body s (script_lawful s) r is_run n)
+    in_order_where_lawful s seed (course_after r n).state (run_stays_lawful script_body s (script_lawful s) r is_run n)

@@ -1,3 +1,4 @@
+pub mod AddedArrivals
 pub mod InOrder
 pub mod OnlySteps
 pub mod RoundCases

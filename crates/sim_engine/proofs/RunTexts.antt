@@ -1,5 +1,5 @@
 -- The text of a run, as it grows.
-use Rattle.std.proofs.Common.{◌≡◌, ◌≤◌, ℕ, zero, suc, ◌+◌, ◌-◌, List, [], ◌∷◌, ◌++◌, refl, sym, ap, ◌∙◌, subst, arith, add-zero, append-nil}
+use Rattle.std.proofs.Common.{◌≡◌, ◌≤◌, ℕ, ℤ, zero, suc, ◌+◌, ◌-◌, List, [], ◌∷◌, ◌++◌, refl, sym, ap, ◌∙◌, subst, arith, add-zero, append-nil}
 use Rattle.std.specs.Prelude.{fold, nat_lt, Bool, true, false, if◌then◌else◌}
 use Rattle.std.proofs.lemmas.Bool.Decides.{nat_tests}
 use Rattle.std.proofs.Math.Nat.{add-suc}
@@ -90,10 +90,11 @@ module _ (s : ScenarioOf) (seed : ℕ) (journal : List Arrival) where
         ∙ ap (λ x. text_by s seed journal old.units ++ x) (one ∙ trace_one s.port_names (line.Arrive (course_after r old.units).state.processed a.value a.port) ∙ ap (λ p. line_text s.port_names (line.Arrive p a.value a.port)) (sym h.at.stands.processed))))
 
     -- the same where it came in or was refused
-    pub arrived_text : (a : Arrival) → old.units ≤ new.units → new.units ≤ old.units + 1 → next_of (turn_of old) old.parts.processed left ≡ next.Arrival a
+    pub arrived_text : (a : Arrival) (value : ℤ) → value ≡ a.value → old.units ≤ new.units → new.units ≤ old.units + 1
+        → next_of (turn_of old) old.parts.processed left ≡ next.Arrival a
         → text_by s seed journal new.units ≡ text_by s seed journal old.units
-        ++ (if nat_lt old.units new.units then line_text s.port_names (line.Arrive old.parts.processed a.value a.port) else [])
-    arrived_text a from most comes = by (nat_lt old.units new.units) refl
+        ++ (if nat_lt old.units new.units then line_text s.port_names (line.Arrive old.parts.processed value a.port) else [])
+    arrived_text a value same from most comes = rw same (by (nat_lt old.units new.units) refl)
       where
         by : (b : Bool) → nat_lt old.units new.units ≡ b
             → text_by s seed journal new.units ≡ text_by s seed journal old.units ++ (if b then line_text s.port_names (line.Arrive old.parts.processed a.value a.port) else [])

@@ -1,5 +1,5 @@
 -- A run under way, as contracts see it, and where it stands.
-use Rattle.std.specs.Prelude.{◌≡◌, ◌<◌, ℕ, zero, suc, ℤ, nat_le, Bool, true, false, if◌then◌else◌, List, length, drop, unwrap_or, Option, Some, None, IsTrue}
+use Rattle.std.specs.Prelude.{◌≡◌, ◌<◌, ℕ, zero, suc, ℤ, nat_le, nat_lt, ◌&&◌, Bool, true, false, if◌then◌else◌, List, length, drop, unwrap_or, Option, Some, None, IsTrue}
 use Rattle.sim_types.specs.Scenarios.{ScenarioOf}
 use Rattle.sim_types.specs.declared.line.End.{End}
 use Rattle.sim_types.specs.declared.line.End.TheVariants as end
@@ -67,6 +67,10 @@ is_busy _ = false
 
 abbrev pub IsSettled : SessionOf → Type 0
 IsSettled x = IsTrue (is_busy (rest_in x.parts)) → x.units ≡ x.limit
+
+-- an event is being processed, and a unit is left
+abbrev pub is_under_way : SessionOf → Bool
+is_under_way x = nat_lt x.units x.limit && is_busy (rest_in x.parts)
 
 -- ---- steps
 

@@ -1,8 +1,9 @@
 -- What holds in every state of a run (SimPy's "Shared resources" and "Process Interaction").
-use Rattle.std.specs.Prelude.{◌≡◌, Bool, true, false, ℕ, pos, ◌<◌, ◌≤◌, ◌≤ℤ◌, ◌+ℤ◌, ◌-ℤ◌, length}
+use Rattle.std.specs.Prelude.{◌≡◌, Bool, true, false, ℕ, pos, ◌<◌, ◌≤◌, ◌≤ℤ◌, ◌+ℤ◌, ◌-ℤ◌, List, length}
 use Rattle.std.specs.List.{list_all}
 use Rattle.sim_types.specs.Scenarios.{ScenarioOf}
 use Rattle.sim_types.specs.declared.event.ProcId.{ProcId}
+use Rattle.sim_types.specs.declared.setup.Arrival.{Arrival}
 use Rattle.sim_machine.specs.State.{Want, Slot, State}
 use Rattle.sim_machine.specs.Events.{is_resume_of}
 use Rattle.sim_machine.specs.Users.{resource_at, users, items}
@@ -10,9 +11,10 @@ use Rattle.sim_machine.specs.Trying.{level}
 use Rattle.sim_machine.specs.Processes.{is_alive}
 use Rattle.sim_machine.specs.Standing.{callbacks_in_all}
 use Rattle.sim_machine.specs.Runs.{total}
+use Rattle.sim_machine_law.specs.Courses.{course_after}
 use Rattle.sim_machine_law.specs.Stocks.{amounts_put, amounts_got}
 use Rattle.sim_script_model.specs.Scripts.{Script}
-use Rattle.sim_engine.specs.RunOfScenario.{run_of_scenario}
+use Rattle.sim_engine.specs.RunOfScenario.{run_of}
 
 -- whether a waiter, if it waits for a slot, is of a process that has not ended; each such request stands in a scope
 abbrev pub is_of_living : State Script → Want → Bool
@@ -36,6 +38,6 @@ pub record IsInOrder (s : ScenarioOf) (t : State Script) : Type 0 where
   -- and none of these waits through a scoped request
   pub not_waiting : list_all (λ w. is_of_living t w.want) t.facilities.waiters ≡ true
 
--- it holds of every state of the run of so many units at most
-abbrev pub IsInOrderThroughout : ScenarioOf → ℕ → Type 0
-IsInOrderThroughout s limit = (n : ℕ) → n ≤ limit → IsInOrder s (run_of_scenario s n).state
+-- it holds of every state of the scenario's run with the random words of a seed, at which this arrives, of so many units at most
+abbrev pub IsInOrderThroughout : ScenarioOf → ℕ → List Arrival → ℕ → Type 0
+IsInOrderThroughout s seed journal limit = (n : ℕ) → n ≤ limit → IsInOrder s (course_after (run_of s seed journal) n).state

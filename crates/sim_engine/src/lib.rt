@@ -8,5 +8,5 @@ mod session;
 
 pub use fault::EngineFault;
 pub use report::Report;
-pub use runs::{replicate, run};
+pub use runs::{replicate, run, write_end};
 pub use session::{Session, Turn};

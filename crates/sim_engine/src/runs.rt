@@ -111,7 +111,7 @@ fn next_of(session: &Session, left: &[Arrival]) -> Next
 }
 
 /// Writes the line on the end of a run that came to this.
-fn write_end<K: Sink>(summary: &Summary, out: &mut K) -> Result<(), EngineFault>
+pub fn write_end<K: Sink>(summary: &Summary, out: &mut K) -> Result<(), EngineFault>
     ensures writes { Writes is_write (K.tells out.old) (K.tells out.new) result
         (line_text [] (Line.Finish summary.now.time summary.now.processed summary.now.end)) }
     ensures unflushed { IsUnflushed (K.tells out.old) (K.tells out.new) }

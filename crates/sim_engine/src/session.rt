@@ -1,5 +1,5 @@
 //! A run under way: it goes on by turns and arrivals, and each line is written as its unit gives it.
-ghost use Rattle.std.specs.Prelude.{◌≡◌, ◌+◌, ◌-◌, ◌<◌, ◌≤◌, ◌==◌, [], ◌∷◌, length, pos, true, false, ◌+ℤ◌, ◌&&◌, nat_lt, if◌then◌else◌, IsTrue, IfOk, OnOk};
+ghost use Rattle.std.specs.Prelude.{◌≡◌, ◌+◌, ◌-◌, ◌<◌, ◌≤◌, ◌==◌, [], ◌∷◌, length, true, false, ◌+ℤ◌, nat_lt, if◌then◌else◌, IsTrue, IfOk, OnOk};
 ghost use Rattle.sim_types.specs.declared.line.Line.TheVariants as line;
 ghost use Rattle.sim_machine.specs.State.{State};
 ghost use Rattle.sim_machine.specs.Runs.{empty_end, opening, logged, total};
@@ -12,7 +12,7 @@ ghost use Rattle.sim_script_law.specs.ScriptMembers.{script_body};
 ghost use Rattle.sim_trace.specs.Texts.{AreNamesShort, line_text};
 ghost use Rattle.sim_engine.specs.Counting.{IsWithin};
 ghost use Rattle.sim_engine.specs.EngineFaults.{is_write};
-ghost use Rattle.sim_engine.specs.Sessions.{IsAt, GoesOn, turn_of, takes_arrivals, IsSettled, is_busy, steps_in, IsBusyBetween, text_of_steps, end_in, report_of};
+ghost use Rattle.sim_engine.specs.Sessions.{IsAt, GoesOn, turn_of, takes_arrivals, IsSettled, is_under_way, steps_in, IsBusyBetween, text_of_steps, end_in, report_of};
 
 use crate::fault::EngineFault;
 use crate::report::Report;
@@ -58,7 +58,14 @@ impl Model for Session {
 
     ghost Value = { SessionOf };
 
-    ghost view = { λ a. record { parts = a.kernel.parts; units = a.units; limit = a.limit; refused = a.refused; logs = a.logs; total = a.total } };
+    ghost view = { λ a. record {
+      parts = a.kernel.parts;
+      units = a.units;
+      limit = a.limit;
+      refused = a.refused;
+      logs = a.logs;
+      total = a.total;
+    } };
 
     ghost invariant = { λ a. CountsRightly a.kernel a.until a.units a.limit a.logs a.total };
 }
@@ -239,13 +246,15 @@ impl Session {
     }
 
     /// Whether an event is being processed and a unit may be made.
+    #[inline(always)]
     fn goes_on(&self) -> bool
-        ensures { result ≡ (nat_lt self.now.units self.now.limit && is_busy (rest_in self.now.parts)) }
+        ensures { result ≡ is_under_way self.now }
     {
         self.units < self.limit && matches!(self.kernel.rest(), Rest::Busy)
     }
 
     /// Makes one unit in which nothing arrives, and writes its line if it has one.
+    #[inline(always)]
     fn unit<K: Sink>(&mut self, scenario: &Scenario, out: &mut K) -> Result<(), EngineFault>
         requires code { scenario.now ≡ self.old.parts.code }
         requires can { CanStep self.old.parts }

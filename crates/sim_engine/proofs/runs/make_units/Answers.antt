@@ -121,10 +121,7 @@ returns-in_err-arrive-in-Arrival-clause-writes g c =
     let comes = sym c.next_of.ensures ∙ c.in-Arrival.is in
     let a = c.in-Arrival.arrival in
     let same : to_z w64 (of_z w64 a.value) ≡ a.value = search rules in
-    let text =
-    subst (λ v. text_by s seed journal new.units ≡ text_by s seed journal old.units ++ (if nat_lt old.units new.units then line_text s.port_names (line.Arrive old.parts.processed v a.port) else []))
-    (sym same) (arrived_text s seed journal left old new h.stands made.goes_on a made.never_fewer made.at_most_one comes)
-    in
+    let text = arrived_text s seed journal left old new h.stands made.goes_on a _ same made.never_fewer made.at_most_one comes in
     let within : new.units ≤ c.args.session.now.limit = omega (arith, made.within, h.limit) in
     told_err is_write _ _ _ c.from_residual-in_err-arrive-in-Arrival.result _ c.from_residual-in_err-arrive-in-Arrival.ensures.1
     (λ why is. as_failed is_write is_write _ _ _ why _ _ _ (cut_behind is_write is_write {V = Unit {0}} _ _ _ _ _ _ _ _ h.written (c.in_err-arrive-in-Arrival.ensures.writes (course_after (run_of s seed journal) old.units).state h.stands.at) text)
@@ -162,10 +159,7 @@ loop-session-preserved-then-branch g c =
     let below : old.units < old.limit = grind (arith, nat_tests, made.answer, c.if-branch.true) in
     let has : Arrival → Type 0 = λ x. x.port < length s.setup.ports in
     let same : to_z w64 (of_z w64 a.value) ≡ a.value = search rules in
-    let text =
-    subst (λ v. text_by s seed journal new.units ≡ text_by s seed journal old.units ++ (if nat_lt old.units new.units then line_text s.port_names (line.Arrive old.parts.processed v a.port) else []))
-    (sym same) (arrived_text s seed journal left old new h.stands made.goes_on a made.never_fewer made.at_most_one comes)
-    in
+    let text = arrived_text s seed journal left old new h.stands made.goes_on a _ same made.never_fewer made.at_most_one comes in
     record {
       stands =
           subst (λ ls. StandsInRun s seed journal ls new) (sym (rest_is left))
@@ -203,10 +197,7 @@ loop-session-preserved g c =
     let m = course_after (run_of s seed journal) old.units in
     let spent : old.units ≡ old.limit = grind (arith, nat_tests, made.answer, c.if-branch.false, h.within) in
     let same : to_z w64 (of_z w64 a.value) ≡ a.value = search rules in
-    let text =
-    subst (λ v. text_by s seed journal new.units ≡ text_by s seed journal old.units ++ (if nat_lt old.units new.units then line_text s.port_names (line.Arrive old.parts.processed v a.port) else []))
-    (sym same) (arrived_text s seed journal left old new h.stands made.goes_on a made.never_fewer made.at_most_one comes)
-    in
+    let text = arrived_text s seed journal left old new h.stands made.goes_on a _ same made.never_fewer made.at_most_one comes in
     record {
       stands = after_refusal s seed journal left old new h.stands made.goes_on a comes spent (made.refused spent);
       ports = h.ports;
