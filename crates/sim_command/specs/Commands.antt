@@ -1,17 +1,50 @@
 -- The words that the program is called with.
 --     command words      the command, if the words are one
-use Rattle.std.specs.Prelude.{ℕ, if◌then◌else◌, List, [], ◌∷◌, codes, Option, Some, None, option_map}
+--     live_limit words   how many units a live run may make, if the words ask for one
+use Rattle.std.specs.Prelude.{ℕ, Bool, true, false, if◌then◌else◌, List, [], ◌∷◌, codes, Option, Some, None, option_map}
 use Rattle.sim_command.specs.declared.commands.Command.{Command}
-use Rattle.sim_command.specs.declared.commands.Command.TheVariants.{Check, Run}
+use Rattle.sim_command.specs.declared.commands.Command.TheVariants.{Check, Run, Batch, Load}
 use Rattle.sim_language.specs.Lines.{Word, same}
 use Rattle.sim_language.specs.Numbers.{decimal_within}
 
--- how many units a run may make
-abbrev pub limit : Word → Option ℕ
-limit w = decimal_within 1 10000000 w
+-- how many units a run may make, at most
+unfoldable pub most_units : ℕ
+most_units = 10000000
 
--- `check`, or `run LIMIT`
+-- how many runs a batch may have, at most
+abbrev pub most_runs : ℕ
+most_runs = 10000
+
+-- how many machines a generated shop may have, at most
+abbrev pub most_machines : ℕ
+most_machines = 2000
+
+-- `COUNT LIMIT`
+abbrev pub batch_of : Option ℕ → Option ℕ → Option Command
+batch_of (Some count) (Some limit) = Some (Batch count limit)
+batch_of count limit = None
+
+-- a command with one number
+abbrev pub command_with_number : Word → Word → Option Command
+command_with_number name number =
+    if same name (codes "run") then option_map Run (decimal_within 1 most_units number)
+    else if same name (codes "load") then option_map Load (decimal_within 1 most_machines number)
+    else None
+
+-- `check`, `run LIMIT`, `load SIZE`, or `batch COUNT LIMIT`
 abbrev pub command : List Word → Option Command
 command (name ∷ []) = if same name (codes "check") then Some Check else None
-command (name ∷ number ∷ []) = if same name (codes "run") then option_map Run (limit number) else None
+command (name ∷ number ∷ []) = command_with_number name number
+command (name ∷ runs ∷ units ∷ []) =
+    if same name (codes "batch") then batch_of (decimal_within 1 most_runs runs) (decimal_within 1 most_units units) else None
 command words = None
+
+-- whether a text is read for it
+abbrev pub is_on_text : Command → Bool
+is_on_text (Load size) = false
+is_on_text _ = true
+
+-- `live LIMIT`, which is no command: a call of its own carries it out
+abbrev pub live_limit : List Word → Option ℕ
+live_limit (name ∷ number ∷ []) = if same name (codes "live") then decimal_within 1 most_units number else None
+live_limit words = None

@@ -7,4 +7,8 @@ pub enum Command {
     Check,
     /// The trace of the text's run, of so many units at most.
     Run(u32),
+    /// What so many runs of the text come to, each of so many units at most.
+    Batch { count: u32, limit: u32 },
+    /// What the run of a machine shop with so many machines comes to. No text is read.
+    Load(u32),
 }

@@ -7,6 +7,6 @@ mod status;
 mod word;
 
 pub use commands::Command;
-pub use reading::command;
+pub use reading::{command, live_limit, most_units};
 pub use status::Status;
 pub use word::Word;

@@ -1,13 +1,25 @@
 //! Which command the words say.
 ghost use Rattle.std.specs.Prelude.{◌≡◌};
-ghost use Rattle.sim_command.specs.Commands.{command, limit};
+ghost use Rattle.sim_command.specs.Commands.{command, is_on_text, live_limit, most_units};
+ghost use Rattle.sim_language.specs.Numbers.{decimal_within};
 
 use crate::commands::Command;
 use crate::word::Word;
 use sim_lines::decimal_within;
 
+/// How many runs a batch may have, at most.
+const MOST_RUNS: u32 = 10_000;
+
+/// How many machines a generated shop may have, at most.
+const MOST_MACHINES: u32 = 2_000;
+
 /// How many units a run may make, at most.
-const MOST_UNITS: u64 = 10_000_000;
+#[tactic(auto, unfolding(crate::specs::Commands::most_units))]
+pub fn most_units() -> u32
+    ensures { result ≡ most_units }
+{
+    10_000_000
+}
 
 /// The command that the words say, if they say one.
 pub fn command(words: &[Word]) -> Option<Command>
@@ -16,17 +28,47 @@ pub fn command(words: &[Word]) -> Option<Command>
     match words {
         [name] if name.bytes() == b"check".as_slice() => Some(Command::Check),
         [name, number] if name.bytes() == b"run".as_slice() => {
-            let limit = limit(number.bytes())?;
+            let limit = number_within(most_units(), number)?;
             Some(Command::Run(limit))
+        }
+        [name, number] if name.bytes() == b"load".as_slice() => {
+            let size = number_within(MOST_MACHINES, number)?;
+            Some(Command::Load(size))
+        }
+        [name, runs, units] if name.bytes() == b"batch".as_slice() => {
+            let count = number_within(MOST_RUNS, runs)?;
+            let limit = number_within(most_units(), units)?;
+            Some(Command::Batch { count, limit })
         }
         _ => None,
     }
 }
 
-/// The number of units that the word gives.
-fn limit(word: &[u8]) -> Option<u32>
-    ensures { result ≡ limit word.now }
+/// How many units a live run may make, if the words ask for one.
+pub fn live_limit(words: &[Word]) -> Option<u32>
+    ensures { result ≡ live_limit words.now }
 {
-    let units = decimal_within(1, MOST_UNITS, word)?;
-    Some(units as u32)
+    match words {
+        [name, number] if name.bytes() == b"live".as_slice() => {
+            number_within(most_units(), number)
+        }
+        _ => None,
+    }
+}
+
+impl Command {
+    /// Whether a text is read for it.
+    pub fn is_on_text(&self) -> bool
+        ensures { result ≡ is_on_text self.now }
+    {
+        !matches!(self, Command::Load(_))
+    }
+}
+
+/// The number that the word gives, from 1 to this one.
+fn number_within(most: u32, word: &Word) -> Option<u32>
+    ensures { result ≡ decimal_within 1 most word.now }
+{
+    let number = decimal_within(1, u64::from(most), word.bytes())?;
+    Some(number as u32)
 }
