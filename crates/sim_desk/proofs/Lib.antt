@@ -1,2 +1,4 @@
 pub mod Arriving
+pub mod Replicating
+pub mod Summing
 pub mod Telling

@@ -1,102 +1,118 @@
 -- What a call on a text has written and answers.
-use Rattle.std.proofs.Common.{◌≡◌, ℕ, ◌+◌, ◌<◌, Bool, true, false, List, [], length, take, refl, sym, subst, ap, ◌∙◌, Option, None, Some, Result, Ok, Err, arith}
-use Rattle.std.specs.Prelude.{nat_le, if◌then◌else◌, IfSome, IsTrue}
+use Rattle.std.proofs.Common.{◌≡◌, ℕ, ◌+◌, ◌^◌, ◌<◌, Bool, true, false, List, [], length, take, refl, sym, subst, ap, ◌∙◌, Option, None, Some, Result, Ok, Err, arith}
+use Rattle.std.specs.Prelude.{nat_le, if◌then◌else◌, IfSome, IsOk, IsTrue}
 use Rattle.std.specs.Io.KnownBytes.{Appends}
 use Rattle.std.proofs.KnownBytes.{Appends-nil}
 use Rattle.std.proofs.lemmas.Bool.{false≢true}
-use Rattle.std.proofs.lemmas.Bool.Decides.{nat_tests}
-use Rattle.std.proofs.lemmas.List.{take_all, length-take-le}
 use Rattle.sim_types.specs.Limits.{most_bytes}
 use Rattle.sim_types.specs.Scenarios.{ScenarioOf}
 use Rattle.sim_command.specs.declared.commands.Command.{Command}
 use Rattle.sim_command.specs.declared.commands.Command.TheVariants as command
+use Rattle.sim_command.specs.Commands.{most_units, is_on_text}
 use Rattle.sim_types.specs.declared.fault.Fault.{Fault}
-use Rattle.sim_types.specs.declared.fault.FaultKind.TheVariants as fault
-use Rattle.sim_types.specs.declared.line.End.{End}
-use Rattle.sim_types.specs.declared.line.End.TheVariants as end
 use Rattle.sim_command.specs.declared.status.Status.{Status}
-use Rattle.sim_language.specs.Built.{is_built}
-use Rattle.sim_language.specs.Lines.{lines}
-use Rattle.sim_language.specs.AnywhereInText.{whole_text}
-use Rattle.sim_language.specs.Reads.{is_too_long, reads_text}
+use Rattle.sim_command.specs.declared.status.Status.TheVariants as status
+use Rattle.sim_shop.specs.Shop.{shop_text}
+use Rattle.sim_shop.proofs.ShopIsRead.{shop_is_read}
 use Rattle.sim_outside.specs.Reads.{TakesFirst}
 use Rattle.sim_outside.specs.Writes.{AppendsPrefix, SinkOf}
 use Rattle.sim_language_law.proofs.WellFormedTexts.{read_well_formed}
+use Rattle.sim_engine.specs.Throughout.{IsInOrderThroughout}
 use Rattle.sim_engine.proofs.InOrder.{in_order}
-use Rattle.sim_desk.specs.Answers.{IsInOrderFor, is_whole, AnswersWhole, AnswersPrefix}
+use Rattle.sim_answers.specs.Endings.{is_whole}
+use Rattle.sim_answers.specs.Readings.{read_of}
+use Rattle.sim_answers.proofs.Endings.{end_whole}
+use Rattle.sim_answers.proofs.TakenTexts.{text_of, text_told, same_reading}
+use Rattle.sim_desk.specs.Answers.{IsInOrderFor, AnswersWhole, AnswersPrefix}
 use Rattle.sim_engine.specs.RunOfScenario.{end_of_scenario}
-use Rattle.sim_desk.specs.Headline.{read_of, answer_to, answer_of, status_of_end, status_to, status_of}
-
--- ---- a text that is too long
-
-abbrev too_long : Fault
-too_long = record { line = 0; kind = fault.TooLong }
-
--- its first fault is its length
-long_refused : (text : List ℕ) → most_bytes < length text → read_of text ≡ Err too_long
-long_refused text long = by (is_too_long text) (grind (arith, nat_tests))
-  where
-    by : (b : Bool) → b ≡ true → (if b then Err too_long else reads_text is_built (whole_text is_built (lines text)) (lines text)) ≡ Err too_long
-    by true e = refl
-    by false e = absurd (false≢true e)
-
--- so one byte more than is allowed says as much as the whole text
-read_of_front : (text : List ℕ) → read_of (take (most_bytes + 1) text) ≡ read_of text
-read_of_front text = by (nat_le (length text) (most_bytes + 1)) refl
-  where
-    by : (b : Bool) → nat_le (length text) (most_bytes + 1) ≡ b → read_of (take (most_bytes + 1) text) ≡ read_of text
-    by true short = ap read_of (take_all (most_bytes + 1) text (grind (arith, nat_tests)))
-    by false long =
-        long_refused (take (most_bytes + 1) text) (grind (arith, nat_tests, length-take-le (most_bytes + 1) text (grind (arith, nat_tests))))
-        ∙ sym (long_refused text (grind (arith, nat_tests)))
+use Rattle.sim_desk.specs.Headline.{text_for, answer_to, answer_of, status_to, status_of}
+use Rattle.sim_desk.proofs.Arriving.{has_ports}
 
 -- ---- the text that was read
 
--- the text: what the source told, or else the bytes taken
-text_of : Option (List ℕ) → List ℕ → List ℕ
-text_of None bytes = bytes
-text_of (Some left) bytes = left
+-- the text that a command is on says as much by the bytes taken as by the text
+same_for : (asked : Command) (left rest : Option (List ℕ)) (text bytes : List ℕ) → TakesFirst (most_bytes + 1) left rest bytes → text ≡ bytes
+    → read_of (text_for asked text) ≡ read_of (text_for asked (text_of left bytes))
+same_for command.Check left rest text bytes takes held = ap read_of held ∙ same_reading left rest bytes takes
+same_for (command.Run limit) left rest text bytes takes held = ap read_of held ∙ same_reading left rest bytes takes
+same_for (command.Batch count limit) left rest text bytes takes held = ap read_of held ∙ same_reading left rest bytes takes
+same_for (command.Load size) left rest text bytes takes held = refl
 
-text_told : (left : Option (List ℕ)) (bytes : List ℕ) → IfSome left (λ told. text_of left bytes ≡ told)
-unfolding text_of
-text_told None bytes = tt
-text_told (Some left) bytes = refl
+-- a command that is on no text is on the same whatever is read
+unread_for : (asked : Command) (text other : List ℕ) → is_on_text asked ≡ false → read_of (text_for asked text) ≡ read_of (text_for asked other)
+unread_for command.Check text other unread = absurd (false≢true (sym unread))
+unread_for (command.Run limit) text other unread = absurd (false≢true (sym unread))
+unread_for (command.Batch count limit) text other unread = absurd (false≢true (sym unread))
+unread_for (command.Load size) text other unread = refl
 
-same_reading : (left rest : Option (List ℕ)) (bytes : List ℕ) → TakesFirst (most_bytes + 1) left rest bytes → read_of bytes ≡ read_of (text_of left bytes)
-unfolding text_of
-same_reading None rest bytes takes = refl
-same_reading (Some left) rest bytes takes = ap read_of takes.0 ∙ read_of_front left
+-- `load` is on the text of the machine shop
+module _ (asked : Command) (size : ℕ) (shop text : List ℕ) (is : asked ≡ command.Load size) (same : shop ≡ shop_text size) where
+  pub shop_answer : answer_to (command.Load size) (read_of shop) ≡ answer_of asked text
+  shop_answer = rw (is, same) refl
+
+  pub shop_status : status_to (command.Load size) (read_of shop) ≡ status_of asked text
+  shop_status = rw (is, same) refl
+
+-- ---- what was written
 
 -- every state of the run of a text is in order
+in_order_of : (s : ScenarioOf) (seed limit : ℕ) (text : List ℕ) → read_of text ≡ Ok s → IsInOrderThroughout s seed s.journal limit
+in_order_of s seed limit text is = let well = read_well_formed text s is in in_order s seed s.journal limit well (has_ports s well)
+
 in_order_for : (asked : Command) (text : List ℕ) (read : Result ScenarioOf Fault) → read_of text ≡ read → IsInOrderFor asked read
 in_order_for command.Check text read is = tt
 in_order_for (command.Run limit) text (Err fault) is = tt
-in_order_for (command.Run limit) text (Ok s) is = in_order s limit (read_well_formed is_built text s is)
+in_order_for (command.Run limit) text (Ok s) is = in_order_of s s.seed limit text is
+in_order_for (command.Batch count limit) text (Err fault) is = tt
+in_order_for (command.Batch count limit) text (Ok s) is = λ seed. in_order_of s seed limit text is
+in_order_for (command.Load size) text (Err fault) is = tt
+in_order_for (command.Load size) text (Ok s) is = in_order_of s s.seed most_units text is
+
+module _ (asked : Command) (left : Option (List ℕ)) (text bytes : List ℕ) (old new : SinkOf)
+    (same : read_of (text_for asked text) ≡ read_of (text_for asked (text_of left bytes))) where
+  -- the answer to a text that says the same
+  answer_by : (answer : Status) → Appends old.taken new.taken (answer_of asked text) → answer ≡ status_of asked text
+      → AnswersWhole asked left old new answer
+  answer_by answer written is =
+      record {
+        text = text_of left bytes;
+        told = text_told left bytes;
+        written = subst (λ r. Appends old.taken new.taken (answer_to asked r)) same written;
+        status = is ∙ ap (λ r. status_to asked r) same;
+        throughout = in_order_for asked (text_for asked (text_of left bytes)) (read_of (text_for asked (text_of left bytes))) refl;
+      }
+
+  prefix_by : AppendsPrefix old.taken new.taken (answer_of asked text) → AnswersPrefix asked left old new
+  prefix_by written =
+      record {
+        text = text_of left bytes;
+        told = text_told left bytes;
+        written = subst (λ r. AppendsPrefix old.taken new.taken (answer_to asked r)) same written;
+      }
 
 -- an answer to the bytes taken, which the text holds, is one to the text that was read
 pub whole_answer : (asked : Command) (left rest : Option (List ℕ)) (text bytes : List ℕ) (old new : SinkOf) (answer : Status)
     → TakesFirst (most_bytes + 1) left rest bytes → text ≡ bytes → Appends old.taken new.taken (answer_of asked text)
     → answer ≡ status_of asked text → AnswersWhole asked left old new answer
 whole_answer asked left rest text bytes old new answer takes held written is =
-    let same = ap read_of held ∙ same_reading left rest bytes takes in
-    record {
-      text = text_of left bytes;
-      told = text_told left bytes;
-      written = subst (λ r. Appends old.taken new.taken (answer_to asked r)) same written;
-      status = is ∙ ap (λ r. status_to asked r) same;
-      throughout = in_order_for asked (text_of left bytes) (read_of (text_of left bytes)) refl;
-    }
+    answer_by asked left text bytes old new (same_for asked left rest text bytes takes held) answer written is
 
 pub prefix_answer : (asked : Command) (left rest : Option (List ℕ)) (text bytes : List ℕ) (old new : SinkOf)
     → TakesFirst (most_bytes + 1) left rest bytes → text ≡ bytes
     → AppendsPrefix old.taken new.taken (answer_of asked text) → AnswersPrefix asked left old new
 prefix_answer asked left rest text bytes old new takes held written =
-    let same = ap read_of held ∙ same_reading left rest bytes takes in
-    record {
-      text = text_of left bytes;
-      told = text_told left bytes;
-      written = subst (λ r. AppendsPrefix old.taken new.taken (answer_to asked r)) same written;
-    }
+    prefix_by asked left text bytes old new (same_for asked left rest text bytes takes held) written
+
+-- where none is read, it is one to whatever there was
+pub unread_answer : (asked : Command) (left : Option (List ℕ)) (text : List ℕ) (old new : SinkOf) (answer : Status) → is_on_text asked ≡ false
+    → Appends old.taken new.taken (answer_of asked text) → answer ≡ status_of asked text → AnswersWhole asked left old new answer
+unread_answer asked left text old new answer unread written is =
+    answer_by asked left text [] old new (unread_for asked text (text_of left []) unread) answer written is
+
+pub unread_prefix : (asked : Command) (left : Option (List ℕ)) (text : List ℕ) (old new : SinkOf) → is_on_text asked ≡ false
+    → AppendsPrefix old.taken new.taken (answer_of asked text) → AnswersPrefix asked left old new
+unread_prefix asked left text old new unread written =
+    prefix_by asked left text [] old new (unread_for asked text (text_of left []) unread) written
 
 -- nothing written is a prefix of each answer
 pub none_answered : (asked : Command) (left : Option (List ℕ)) (old : SinkOf) → AnswersPrefix asked left old old
@@ -109,25 +125,28 @@ none_answered asked left old =
     }
 
 -- what is asked of an answer that was told: whole, cut off, or none
-pub ruleset answers = (whole_answer, prefix_answer, none_answered)
+pub ruleset answers = (whole_answer, prefix_answer, unread_answer, unread_prefix, none_answered)
 
 -- ---- the status
-
-end_whole : (how : End) → is_whole (status_of_end how) ≡ true
-end_whole end.Empty = refl
-end_whole end.Until = refl
-end_whole end.Crash = refl
-end_whole end.Limit = refl
-end_whole end.Starved = refl
 
 reading_whole : (asked : Command) (read : Result ScenarioOf Fault) → is_whole (status_to asked read) ≡ true
 reading_whole asked (Err fault) = refl
 reading_whole command.Check (Ok s) = refl
 reading_whole (command.Run limit) (Ok s) = end_whole (end_of_scenario s limit)
+reading_whole (command.Batch count limit) (Ok s) = refl
+reading_whole (command.Load size) (Ok s) = refl
 
 -- where nothing fails, the answer is whole
 pub status_whole : (asked : Command) (text : List ℕ) → IsTrue (is_whole (status_of asked text))
-status_whole asked text = reading_whole asked (read_of text)
+status_whole asked text = reading_whole asked (read_of (text_for asked text))
+
+-- the text of each machine shop says a scenario
+pub load_ended : (asked : Command) (size : ℕ) (text : List ℕ) → asked ≡ command.Load size → size < 2 ^ 32 → status_of asked text ≡ status.Ended
+load_ended asked size text is small = rw is (by (read_of (shop_text size)) (shop_is_read size small))
+  where
+    by : (read : Result ScenarioOf Fault) → IsOk read → status_to (command.Load size) read ≡ status.Ended
+    by (Ok s) accepted = refl
+    by (Err fault) accepted = absurd (false≢true accepted)
 
 -- ---- the command
 

@@ -2,44 +2,46 @@
 use Rattle.std.specs.Prelude.{ℕ, List, Result, Ok, Err}
 use Rattle.sim_types.specs.Scenarios.{ScenarioOf}
 use Rattle.sim_types.specs.declared.fault.Fault.{Fault}
-use Rattle.sim_types.specs.declared.line.End.{End}
-use Rattle.sim_types.specs.declared.line.End.TheVariants as end
 use Rattle.sim_command.specs.declared.commands.Command.{Command}
-use Rattle.sim_command.specs.declared.commands.Command.TheVariants.{Check, Run}
+use Rattle.sim_command.specs.declared.commands.Command.TheVariants.{Check, Run, Batch, Load}
+use Rattle.sim_command.specs.Commands.{most_units}
 use Rattle.sim_command.specs.declared.status.Status.{Status}
 use Rattle.sim_command.specs.declared.status.Status.TheVariants as status
-use Rattle.sim_language.specs.Built.{is_built}
-use Rattle.sim_language.specs.Reads.{reads}
+use Rattle.sim_script_model.specs.Scenarios.{summary, replications}
+use Rattle.sim_shop.specs.Shop.{shop_text}
 use Rattle.sim_trace.specs.Texts.{fault_text, ok_text}
+use Rattle.sim_trace.specs.SummaryTexts.{load_text, batch_answer}
 use Rattle.sim_engine.specs.RunOfScenario.{printed_trace, end_of_scenario}
+use Rattle.sim_answers.specs.Endings.{status_of_end}
+use Rattle.sim_answers.specs.Readings.{read_of}
 
--- what a text says: a scenario, or else its first fault
-abbrev pub read_of : List ℕ → Result ScenarioOf Fault
-read_of text = reads is_built text
+-- the text that a command is on: the one that is read, or for `load` that of the machine shop
+abbrev pub text_for : Command → List ℕ → List ℕ
+text_for (Load size) text = shop_text size
+text_for command text = text
 
--- what is written for a text that says so
+-- ---- what is written
+
+-- for a text that says so; a batch has the runs 0, 1, .. below its count
 abbrev pub answer_to : Command → Result ScenarioOf Fault → List ℕ
 answer_to command (Err fault) = fault_text fault
 answer_to Check (Ok s) = ok_text
 answer_to (Run limit) (Ok s) = printed_trace s limit
+answer_to (Batch count limit) (Ok s) = batch_answer (replications s limit 0 count)
+answer_to (Load size) (Ok s) = load_text size (summary s s.seed s.journal most_units)
 
--- what is written for these bytes
+-- where these bytes are read
 abbrev pub answer_of : Command → List ℕ → List ℕ
-answer_of command text = answer_to command (read_of text)
+answer_of command text = answer_to command (read_of (text_for command text))
 
--- how a call ends whose run ended so
-abbrev pub status_of_end : End → Status
-status_of_end end.Empty = status.Ended
-status_of_end end.Until = status.Ended
-status_of_end end.Crash = status.Crash
-status_of_end end.Starved = status.Crash
-status_of_end end.Limit = status.Limit
+-- ---- how a call ends
 
+-- on a text that says so; how the runs of a batch or of a machine shop end is told in what is written
 abbrev pub status_to : Command → Result ScenarioOf Fault → Status
 status_to command (Err fault) = status.Refused
-status_to Check (Ok s) = status.Ended
 status_to (Run limit) (Ok s) = status_of_end (end_of_scenario s limit)
+status_to command (Ok s) = status.Ended
 
--- how a call on these bytes ends, if nothing fails
+-- where these bytes are read, if nothing fails
 abbrev pub status_of : Command → List ℕ → Status
-status_of command text = status_to command (read_of text)
+status_of command text = status_to command (read_of (text_for command text))

@@ -1,8 +1,10 @@
 //! The call that the program makes.
 #![tactic(auto)]
 
-mod fault;
+mod answer;
 mod gathered;
+mod replications;
+mod sums;
 mod top;
 
 pub use top::desk;

@@ -1,39 +1,40 @@
 //! The top call.
-ghost use Rattle.std.specs.Prelude.{◌≡◌, ◌≢◌, ◌↔◌, None, Ok, true, false, IsTrue, IfOk, IfSome, OnOk, OnErr};
+ghost use Rattle.std.specs.Prelude.{◌≡◌, ◌≢◌, ◌↔◌, ℕ, None, Some, true, false, IsTrue, IfSome};
 ghost use Rattle.sim_outside.specs.Causes.{Rose};
-ghost use Rattle.sim_outside.specs.Writes.{IsUnflushed, IsFlushedOnce, Writes};
-ghost use Rattle.sim_command.specs.Commands.{command};
-ghost use Rattle.sim_trace.specs.Texts.{fault_text, ok_text};
-ghost use Rattle.sim_engine.specs.EngineFaults.{is_write};
-ghost use Rattle.sim_desk.specs.Headline.{answer_to, answer_of, status_of_end, status_to, status_of};
-ghost use Rattle.sim_desk.specs.Answers.{is_whole, ReadsWhole, AnswersWhole, AnswersPrefix, IsWholeOrWanting};
+ghost use Rattle.sim_outside.specs.Writes.{IsUnflushed, IsFlushedOnce};
+ghost use Rattle.sim_command.specs.declared.commands.Command.TheVariants.{Load};
+ghost use Rattle.sim_command.specs.Commands.{command, is_on_text};
+ghost use Rattle.sim_answers.specs.Endings.{is_whole, IsWholeOrWanting};
+ghost use Rattle.sim_answers.specs.Readings.{ReadsWhole};
+ghost use Rattle.sim_desk.specs.Answers.{AnswersWhole, AnswersPrefix};
 
-use crate::fault::fault_line;
-use crate::gathered::run_gathered;
-use sim_code::{ReadError, read};
+use crate::gathered::answer_gathered;
+use sim_batch::Gate;
 use sim_command::{Command, Status, Word, command};
 use sim_engine::EngineFault;
-use sim_outside::{Failed, Sink, Source, TakeFault, take_all, write_all};
-use sim_scenario::Scenario;
-use sim_types::{End, Fault, MOST_BYTES};
+use sim_outside::{Sink, Source, TakeFault, take_all};
+use sim_types::{List, MOST_BYTES};
 use std::alloc::Global;
 use std::thread::Threads;
 
-/// Carries out the command that the words say: reads from the source, and writes to the sink. The answer says how it
-/// ended. Lines of a trace are written many at a time, so where memory is wanting the last of them may not be written.
-/// The first argument lends threads to commands that run on several; no command that is built needs them.
+/// Carries out the command that the words say: reads from the source, if the command is on a text, and writes to the sink.
+/// The answer says how it ended. What is written goes to the sink many lines at a time, so where memory is wanting the last
+/// of them may not be written. The first argument lends threads to the runs of a batch; each of these passes the gate once,
+/// by its index.
 #[tactic(auto, using(crate::proofs::Telling::answers))]
-pub fn desk<S: Source, K: Sink, R: Threads + Sync>(
-    _rt: &R,
+pub fn desk<S: Source, K: Sink, R: Threads + Sync, G: Gate + Sync>(
+    rt: &R,
     alloc: Global,
+    gate: &G,
     words: &[Word],
     source: &mut S,
     out: &mut K,
 ) -> Status
     // What is printed is the answer to the command on the text, and the status is that of it: for `run LIMIT` the trace of
-    // the machine on the scenario that the text says, for `check` that it says one, and else its first fault. Throughout
-    // that run no capacity is exceeded, levels are openings plus puts minus gets, and no process that has ended is resumed
-    // or waits for a request.
+    // the machine on the scenario that the text says, for `batch COUNT LIMIT` what so many runs of it come to, each with a
+    // seed of its own, and their sums, for `check` that it says one, and else its first fault; for `load SIZE` what the run of
+    // the machine shop of this size comes to. Throughout a run, and throughout that of the shop, no capacity is exceeded,
+    // levels are openings plus puts minus gets, and no process that has ended is resumed or waits for a request.
     ensures headline { IfSome (command words.now) (λ asked. IsTrue (is_whole result)
         → AnswersWhole asked (S.left source.old) (K.tells out.old) (K.tells out.new) result) }
 
@@ -50,6 +51,12 @@ pub fn desk<S: Source, K: Sink, R: Threads + Sync>(
     ensures not_read { result ≡ Status.Usage → source.new ≡ source.old }
     ensures not_written { result ≡ Status.Usage → out.new ≡ out.old }
 
+    // A shop is no text that is read, so nothing is refused or stopped there.
+    ensures load_reads_nothing { (size : ℕ) → command words.now ≡ Some (Load size)
+        → source.new ≡ source.old }
+    ensures load_ends { (size : ℕ) → command words.now ≡ Some (Load size)
+        → IsTrue (is_whole result) → result ≡ Status.Ended }
+
     // A failed read: only where the source's count rose, and then nothing is written.
     ensures read_fault { result ≡ Status.ReadFault
         → Rose (S.faults source.old) (S.faults source.new) }
@@ -64,9 +71,10 @@ pub fn desk<S: Source, K: Sink, R: Threads + Sync>(
     ensures wrote_well { result ≢ Status.WriteFault
         → (K.tells out.new).faults ≡ (K.tells out.old).faults }
 
-    // After a whole answer the source was read to its end, or one byte more than a text may have was taken.
-    ensures read_whole { IsTrue (is_whole result)
-        → ReadsWhole (S.left source.old) (S.left source.new) }
+    // After a whole answer to a command on a text the source was read to its end, or one byte more than a text may have was
+    // taken.
+    ensures read_whole { IfSome (command words.now) (λ asked. IsTrue (is_on_text asked)
+        → IsTrue (is_whole result) → ReadsWhole (S.left source.old) (S.left source.new)) }
 
     // Where the words are a command and neither count rises, the whole answer is written, unless memory is wanting.
     ensures complete { command words.now ≢ None → ¬ Rose (S.faults source.old) (S.faults source.new)
@@ -75,97 +83,18 @@ pub fn desk<S: Source, K: Sink, R: Threads + Sync>(
     let Some(asked) = command(words) else {
         return Status::Usage;
     };
-    let text = match take_all(alloc, source, MOST_BYTES) {
-        Ok(text) => text,
-        Err(TakeFault::Read) => return Status::ReadFault,
-        Err(TakeFault::Memory) => return Status::Memory,
+    let text = if asked.is_on_text() {
+        match take_all(alloc, source, MOST_BYTES) {
+            Ok(text) => text,
+            Err(TakeFault::Read) => return Status::ReadFault,
+            Err(TakeFault::Memory) => return Status::Memory,
+        }
+    } else {
+        List::new(alloc)
     };
-    match answer(alloc, asked, text.as_slice(), out) {
+    match answer_gathered(rt, alloc, gate, asked, text.as_slice(), out) {
         Ok(status) => status,
         Err(EngineFault::Write) => Status::WriteFault,
         Err(EngineFault::Memory) => Status::Memory,
-    }
-}
-
-/// Writes the answer to the command on a text and flushes the sink, and says how the call ends.
-#[tactic(auto, using(crate::proofs::Telling::status_whole))]
-fn answer<K: Sink>(
-    alloc: Global,
-    asked: Command,
-    text: &[u8],
-    out: &mut K,
-) -> Result<Status, EngineFault>
-    ensures status { IfOk result (λ status. status ≡ status_of asked text.now) }
-    ensures whole_status { IfOk result (λ status. IsTrue (is_whole status)) }
-    ensures writes { Writes is_write (K.tells out.old) (K.tells out.new) result
-        (answer_of asked text.now) }
-    ensures flushed { OnOk result (IsFlushedOnce (K.tells out.old) (K.tells out.new)) }
-    ensures unflushed { OnErr result (IsUnflushed (K.tells out.old) (K.tells out.new)) }
-{
-    match read(alloc, text) {
-        Ok(scenario) => carry_out(alloc, asked, &scenario, out),
-        Err(ReadError::Fault(fault)) => {
-            refuse(alloc, &fault, out)?;
-            Ok(Status::Refused)
-        }
-        Err(ReadError::Memory) => Err(EngineFault::Memory),
-    }
-}
-
-/// Carries out the command on a scenario, and says how the call ends.
-fn carry_out<K: Sink>(
-    alloc: Global,
-    asked: Command,
-    scenario: &Scenario,
-    out: &mut K,
-) -> Result<Status, EngineFault>
-    ensures status { IfOk result (λ status. status ≡ status_to asked (Ok scenario.now)) }
-    ensures writes { Writes is_write (K.tells out.old) (K.tells out.new) result
-        (answer_to asked (Ok scenario.now)) }
-    ensures flushed { OnOk result (IsFlushedOnce (K.tells out.old) (K.tells out.new)) }
-    ensures unflushed { OnErr result (IsUnflushed (K.tells out.old) (K.tells out.new)) }
-{
-    match asked {
-        Command::Check => {
-            write_answer(b"ok\n", out)?;
-            Ok(Status::Ended)
-        }
-        Command::Run(limit) => {
-            let end = run_gathered(alloc, scenario, limit, out)?;
-            Ok(status_of_end(end))
-        }
-    }
-}
-
-/// Writes why a text is no scenario.
-fn refuse<K: Sink>(alloc: Global, fault: &Fault, out: &mut K) -> Result<(), EngineFault>
-    ensures writes { Writes is_write (K.tells out.old) (K.tells out.new) result
-        (fault_text fault.now) }
-    ensures flushed { OnOk result (IsFlushedOnce (K.tells out.old) (K.tells out.new)) }
-    ensures unflushed { OnErr result (IsUnflushed (K.tells out.old) (K.tells out.new)) }
-{
-    let line = fault_line(alloc, fault)?;
-    write_answer(line.as_slice(), out)?;
-    Ok(())
-}
-
-/// Writes a whole answer, and flushes the sink.
-fn write_answer<K: Sink>(answer: &[u8], out: &mut K) -> Result<(), Failed>
-    ensures writes { Writes (λ _. true) (K.tells out.old) (K.tells out.new) result answer.now }
-    ensures flushed { OnOk result (IsFlushedOnce (K.tells out.old) (K.tells out.new)) }
-    ensures unflushed { OnErr result (IsUnflushed (K.tells out.old) (K.tells out.new)) }
-{
-    write_all(out, answer)?;
-    out.flush()
-}
-
-/// How a call ends whose run ended so.
-fn status_of_end(end: End) -> Status
-    ensures { result ≡ status_of_end end }
-{
-    match end {
-        End::Empty | End::Until => Status::Ended,
-        End::Crash | End::Starved => Status::Crash,
-        End::Limit => Status::Limit,
     }
 }

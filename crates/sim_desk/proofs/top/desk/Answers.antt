@@ -1,7 +1,30 @@
-use Rattle.sim_desk.proofs.Telling.{if_some, whole_answer}
+use Rattle.std.proofs.Common.{rules, ◌≡◌, ◌<◌, ◌^◌, true, inl, ap, sym, ◌∙◌, Some, Fits, w32}
+use Rattle.std.proofs.lemmas.Bool.{false≢true}
+use Rattle.sim_command.specs.declared.commands.Command.TheVariants.{Load}
+use Rattle.sim_answers.specs.Endings.{is_whole}
+use Rattle.sim_desk.proofs.Telling.{if_some, whole_answer, unread_answer, status_whole, load_ended}
 use Rattle.sim_desk.proofs.top.desk.Goals as goal
+use Rattle.sim_desk.proofs.top.desk.Goals.{then-is_on_text+in-Ok, else-is_on_text}
 
-pub returns-in-Ok-answer-clause-headline : goal.returns-in-Ok-answer-clause-headline
-returns-in-Ok-answer-clause-headline g c =
+pub returns-in-Ok-answer_gathered-clause-headline : goal.returns-in-Ok-answer_gathered-clause-headline
+returns-in-Ok-answer_gathered-clause-headline g c =
+    let told = c.in-Ok-answer_gathered.ensures in
     if_some _ _ _ c.in-Some.ensures
-    (λ whole. whole_answer c.in-Some.asked _ _ _ c.in-Ok.text _ _ _ c.in-Ok.ensures.bytes c.as_slice.ensures c.in-Ok-answer.ensures.writes.whole c.in-Ok-answer.ensures.status)
+    (λ whole. elim c.if-is_on_text.branch [
+      | then-is_on_text+in-Ok w ↦ whole_answer c.in-Some.asked _ _ _ _ _ _ _ w.in-Ok.ensures.bytes (c.as_slice.ensures ∙ w.text-is) told.writes.whole told.status
+      | else-is_on_text w ↦ unread_answer c.in-Some.asked _ _ _ _ _ (sym c.is_on_text.ensures ∙ w.if-is_on_text.false) told.writes.whole told.status
+    ])
+
+pub returns-in-Ok-answer_gathered-clause-unflushed : goal.returns-in-Ok-answer_gathered-clause-unflushed
+returns-in-Ok-answer_gathered-clause-unflushed g c not_whole =
+    absurd (false≢true (sym not_whole ∙ (ap is_whole c.in-Ok-answer_gathered.ensures.status ∙ status_whole c.in-Some.asked _)))
+
+pub returns-in-Ok-answer_gathered-clause-load_ends : goal.returns-in-Ok-answer_gathered-clause-load_ends
+returns-in-Ok-answer_gathered-clause-load_ends g c size is whole =
+    let same : c.in-Some.asked ≡ Load size = cc in
+    let small : Fits w32 size = search rules in
+    c.in-Ok-answer_gathered.ensures.status ∙ load_ended c.in-Some.asked size _ same small.fits
+
+pub returns-in-Ok-answer_gathered-clause-complete : goal.returns-in-Ok-answer_gathered-clause-complete
+returns-in-Ok-answer_gathered-clause-complete g c asked_for read wrote =
+    inl (ap is_whole c.in-Ok-answer_gathered.ensures.status ∙ status_whole c.in-Some.asked _)

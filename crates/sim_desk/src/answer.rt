@@ -1,0 +1,159 @@
+//! The answer to a command on a text.
+ghost use Rattle.std.specs.Prelude.{◌≡◌, Ok, true, IfOk, OnOk, OnErr};
+ghost use Rattle.sim_outside.specs.Writes.{IsUnflushed, IsFlushedOnce, Writes};
+ghost use Rattle.sim_command.specs.Commands.{most_units};
+ghost use Rattle.sim_script_model.specs.Scenarios.{summary};
+ghost use Rattle.sim_trace.specs.SummaryTexts.{load_text};
+ghost use Rattle.sim_engine.specs.EngineFaults.{is_write};
+ghost use Rattle.sim_engine.specs.RunOfScenario.{end_of_scenario, printed_trace};
+ghost use Rattle.sim_answers.specs.Readings.{read_of};
+ghost use Rattle.sim_desk.specs.Headline.{answer_to, answer_of, status_to, status_of};
+
+use crate::replications::write_batch;
+use sim_answers::{refuse, status_of_end};
+use sim_batch::Gate;
+use sim_code::{ReadError, read};
+use sim_command::{Command, Status, most_units};
+use sim_engine::{EngineFault, replicate, run};
+use sim_outside::{Sink, write_all};
+use sim_scenario::Scenario;
+use sim_shop::shop_text;
+use sim_trace::{LineBuf, render_load};
+use sim_types::End;
+use std::alloc::Global;
+use std::thread::Threads;
+
+/// Writes the answer to the command on a text and flushes the sink, and says how the call ends. For `load` the text is that of
+/// the machine shop, and none is read.
+pub(crate) fn answer<K: Sink, R: Threads + Sync, G: Gate + Sync>(
+    rt: &R,
+    alloc: Global,
+    gate: &G,
+    asked: Command,
+    text: &[u8],
+    out: &mut K,
+) -> Result<Status, EngineFault>
+    ensures status { IfOk result (λ status. status ≡ status_of asked text.now) }
+    ensures writes { Writes is_write (K.tells out.old) (K.tells out.new) result
+        (answer_of asked text.now) }
+    ensures flushed { OnOk result (IsFlushedOnce (K.tells out.old) (K.tells out.new)) }
+    ensures unflushed { OnErr result (IsUnflushed (K.tells out.old) (K.tells out.new)) }
+{
+    let status = answer_for(rt, alloc, gate, asked, text, out)?;
+    out.flush()?;
+    Ok(status)
+}
+
+/// Writes the answer to the command on its text.
+fn answer_for<K: Sink, R: Threads + Sync, G: Gate + Sync>(
+    rt: &R,
+    alloc: Global,
+    gate: &G,
+    asked: Command,
+    text: &[u8],
+    out: &mut K,
+) -> Result<Status, EngineFault>
+    ensures status { IfOk result (λ status. status ≡ status_of asked text.now) }
+    ensures writes { Writes is_write (K.tells out.old) (K.tells out.new) result
+        (answer_of asked text.now) }
+    ensures unflushed { IsUnflushed (K.tells out.old) (K.tells out.new) }
+{
+    match asked {
+        Command::Load(size) => {
+            let shop = shop_text(alloc, size)?;
+            answer_on(rt, alloc, gate, asked, shop.as_slice(), out)
+        }
+        _ => answer_on(rt, alloc, gate, asked, text, out),
+    }
+}
+
+/// Writes what a text says to the command.
+fn answer_on<K: Sink, R: Threads + Sync, G: Gate + Sync>(
+    rt: &R,
+    alloc: Global,
+    gate: &G,
+    asked: Command,
+    text: &[u8],
+    out: &mut K,
+) -> Result<Status, EngineFault>
+    ensures status { IfOk result (λ status. status ≡ status_to asked (read_of text.now)) }
+    ensures writes { Writes is_write (K.tells out.old) (K.tells out.new) result
+        (answer_to asked (read_of text.now)) }
+    ensures unflushed { IsUnflushed (K.tells out.old) (K.tells out.new) }
+{
+    match read(alloc, text) {
+        Ok(scenario) => carry_out(rt, alloc, gate, asked, &scenario, out),
+        Err(ReadError::Fault(fault)) => {
+            refuse(alloc, &fault, out)?;
+            Ok(Status::Refused)
+        }
+        Err(ReadError::Memory) => Err(EngineFault::Memory),
+    }
+}
+
+/// Carries out the command on a scenario, and says how the call ends.
+fn carry_out<K: Sink, R: Threads + Sync, G: Gate + Sync>(
+    rt: &R,
+    alloc: Global,
+    gate: &G,
+    asked: Command,
+    scenario: &Scenario,
+    out: &mut K,
+) -> Result<Status, EngineFault>
+    ensures status { IfOk result (λ status. status ≡ status_to asked (Ok scenario.now)) }
+    ensures writes { Writes is_write (K.tells out.old) (K.tells out.new) result
+        (answer_to asked (Ok scenario.now)) }
+    ensures unflushed { IsUnflushed (K.tells out.old) (K.tells out.new) }
+{
+    match asked {
+        Command::Check => write_all(out, b"ok\n")?,
+        Command::Run(limit) => {
+            let end = write_run(alloc, scenario, limit, out)?;
+            return Ok(status_of_end(end));
+        }
+        Command::Batch { count, limit } => write_batch(
+            rt, alloc, gate, scenario, count, limit, out,
+        )?,
+        Command::Load(size) => write_load(alloc, scenario, size, out)?,
+    }
+    Ok(Status::Ended)
+}
+
+/// Runs the scenario with its own seed on its own journal, at most so many units, and writes the trace. The answer is how the
+/// run ended.
+#[tactic(auto, using(crate::proofs::Arriving::has_ports))]
+fn write_run<K: Sink>(
+    alloc: Global,
+    scenario: &Scenario,
+    limit: u32,
+    out: &mut K,
+) -> Result<End, EngineFault>
+    ensures end { IfOk result (λ end. end ≡ end_of_scenario scenario.now limit) }
+    ensures writes { Writes is_write (K.tells out.old) (K.tells out.new) result
+        (printed_trace scenario.now limit) }
+    ensures unflushed { IsUnflushed (K.tells out.old) (K.tells out.new) }
+{
+    let (seed, journal) = (scenario.seed(), scenario.journal());
+    let report = run(alloc, scenario, seed, journal, limit, out)?;
+    Ok(report.summary.end)
+}
+
+/// Writes what the run of a machine shop of this size comes to, which the scenario says.
+#[tactic(auto, using(crate::proofs::Arriving::has_ports))]
+fn write_load<K: Sink>(
+    alloc: Global,
+    scenario: &Scenario,
+    size: u32,
+    out: &mut K,
+) -> Result<(), EngineFault>
+    ensures writes { Writes is_write (K.tells out.old) (K.tells out.new) result
+        (load_text size (summary scenario.now scenario.now.seed scenario.now.journal most_units)) }
+    ensures unflushed { IsUnflushed (K.tells out.old) (K.tells out.new) }
+{
+    let (seed, journal) = (scenario.seed(), scenario.journal());
+    let summary = replicate(alloc, scenario, seed, journal, most_units())?;
+    let mut line = LineBuf::new();
+    render_load(size, &summary, &mut line);
+    write_all(out, line.bytes())?;
+    Ok(())
+}
