@@ -4,6 +4,7 @@ ghost use Rattle.sim_command.specs.Commands.{command};
 ghost use Rattle.sim_rows.specs.Meant.{IsMeant};
 
 use crate::row::{Answer, Row};
+use sim_batch::FreeGate;
 use sim_command::Word;
 use sim_desk::desk;
 use sim_outside::{MemSink, SteadySource};
@@ -39,7 +40,7 @@ fn answer_to<R: Threads + Sync>(
 {
     let mut source = SteadySource::new(text);
     let mut sink = MemSink::new(alloc, ROOM)?;
-    let status = desk(rt, alloc, words, &mut source, &mut sink);
+    let status = desk(rt, alloc, &FreeGate, words, &mut source, &mut sink);
     let bytes = Vec::from_slice(alloc, sink.bytes())?;
     Ok(Answer { status, bytes })
 }

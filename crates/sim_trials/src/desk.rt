@@ -1,16 +1,18 @@
 //! Whole answers by the top call, however the text comes in and however little room there is.
 ghost use Rattle.std.specs.Prelude.{◌<◌};
 
+use sim_batch::{FreeGate, Gate};
 use sim_command::Word;
 use sim_desk::desk;
 use sim_outside::{MemSink, MemSource};
 use sim_types::List;
 use std::alloc::{AllocError, Global};
+use std::sync::atomic::{AtomicBool, AtomicU64, Ordering};
 use std::test::Fail;
 use std::thread::Threads;
 
 /// Room for each whole answer of these tests.
-const ENOUGH: usize = 1000;
+const ENOUGH: usize = 20_000;
 
 const ONE_TIMEOUT: &str = "scenario 1\nuntil empty\nprocess p\ntimeout 5\nlog now\nend\nstart p\n";
 
@@ -39,6 +41,11 @@ struct Answer<'t> {
     bytes: &'t [u8],
 }
 
+const TWO_RUNS: Answer<'static> = Answer {
+    code: 0,
+    bytes: b"rep 0 empty 5 3 1 5\nrep 1 empty 5 3 1 5\nbatch 2 2 10\n",
+};
+
 const ONE_TIMEOUT_TRACE: Answer<'static> = Answer {
     code: 0,
     bytes: b"@0 0 0 init 2 ok 0\n@5 1 1 timeout 3 ok 0\nlog 5 1 5\n@5 1 2 process 1 ok 0\nend empty 5 3\n",
@@ -55,7 +62,7 @@ fn answers<R: Threads + Sync>(
 ) -> bool {
     match MemSink::new(alloc, room as u64) {
         Ok(mut sink) => {
-            let status = desk(rt, alloc, words, source, &mut sink);
+            let status = desk(rt, alloc, &FreeGate, words, source, &mut sink);
             status.code() == want.code && sink.bytes() == want.bytes
         }
         Err(AllocError) => false,
@@ -76,6 +83,32 @@ fn reads<R: Threads + Sync>(
     match source_of(alloc, ONE_TIMEOUT, piece, &[number]) {
         Ok(mut source) => answers(rt, alloc, words, &mut source, ENOUGH, want),
         Err(AllocError) => false,
+    }
+}
+
+/// How often a pass looks whether the other has come.
+const MOST_TURNS: u32 = 200_000_000;
+
+/// A gate where the runs 0 and 1 wait for each other.
+#[derive(Drop)]
+struct Meeting {
+    came: [AtomicBool; 2],
+    met: AtomicU64,
+}
+
+impl Gate for Meeting {
+    fn pass(&self, index: u32) {
+        let (own, other) = match index {
+            0 => (&self.came[0], &self.came[1]),
+            _ => (&self.came[1], &self.came[0]),
+        };
+        own.store(true, Ordering::SeqCst);
+        for _ in 0..MOST_TURNS {
+            if other.load(Ordering::SeqCst) {
+                self.met.fetch_add(1, Ordering::SeqCst);
+                return;
+            }
+        }
     }
 }
 
@@ -172,6 +205,65 @@ fn writes_what_fits(rt: HostRuntime) {
     };
     assert!(rt; writes_fronts_for(&rt, alloc, "run 1000", ONE_TIMEOUT, ONE_TIMEOUT_TRACE));
     assert!(rt; writes_fronts_for(&rt, alloc, "run 1000", "scenario 3\n", bad_header));
+    assert!(rt; writes_fronts_for(&rt, alloc, "batch 2 1000", ONE_TIMEOUT, TWO_RUNS));
     assert!(rt; writes_fronts_for(&rt, alloc, "check", ONE_TIMEOUT, ok));
     assert!(rt; writes_fronts_for(&rt, alloc, "check", "scenario 3\n", bad_header));
+}
+
+/// The runs of a batch are made at once: each sees the other pass the gate.
+#[test]
+fn runs_of_a_batch_meet(rt: HostRuntime) -> Result<(), Fail> {
+    let alloc = rt.alloc();
+    let gate = Meeting {
+        came: [AtomicBool::new(false), AtomicBool::new(false)],
+        met: AtomicU64::new(0),
+    };
+    let words = words_of(alloc, "batch 2 1000")?;
+    let mut source = source_of(alloc, ONE_TIMEOUT, 8192, &[])?;
+    let mut sink = MemSink::new(alloc, ENOUGH as u64)?;
+    let status = desk(&rt, alloc, &gate, words.as_slice(), &mut source, &mut sink);
+    assert_eq!(rt; status.code(), TWO_RUNS.code);
+    assert_eq!(rt; sink.bytes(), TWO_RUNS.bytes);
+    assert_eq!(rt;
+        gate.met.load(Ordering::SeqCst),
+        2,
+        "each saw the other come"
+    );
+    Ok(())
+}
+
+/// How often the process of a long trace sleeps.
+const SLEEPS: u32 = 350;
+
+/// The trace of a process that sleeps 1 and logs the time, again and again: longer than the room in which lines are gathered.
+fn long_trace(alloc: Global) -> Result<String, AllocError> {
+    let mut trace = String::new(alloc);
+    trace.push_str("@0 0 0 init 2 ok 0\n")?;
+    for time in 1..=SLEEPS {
+        let event = time + 2;
+        trace.push_str(format!(in alloc; "@{time} 1 {time} timeout {event} ok 0\n")?.as_str())?;
+        trace.push_str(format!(in alloc; "log {time} 1 {time}\n")?.as_str())?;
+    }
+    let number = SLEEPS + 1;
+    let processed = SLEEPS + 2;
+    trace.push_str(format!(in alloc; "@{SLEEPS} 1 {number} process 1 ok 0\n")?.as_str())?;
+    trace.push_str(format!(in alloc; "end empty {SLEEPS} {processed}\n")?.as_str())?;
+    Ok(trace)
+}
+
+/// A sink that fails at any byte of a long trace holds the front of it.
+#[test]
+fn writes_what_fits_of_a_long_trace(rt: HostRuntime) -> Result<(), Fail> {
+    let alloc = rt.alloc();
+    let text = format!(in alloc;
+        "scenario 1\nuntil empty\nprocess p\nrepeat {SLEEPS}\ntimeout 1\nlog now\nend\nend\nstart p\n"
+    )?;
+    let trace = long_trace(alloc)?;
+    assert!(rt; trace.len() > 9000);
+    let whole = Answer {
+        code: 0,
+        bytes: trace.as_bytes(),
+    };
+    assert!(rt; writes_fronts_for(&rt, alloc, "run 100000", text.as_str(), whole));
+    Ok(())
 }
