@@ -1,0 +1,4 @@
+pub mod Closing
+pub mod Delivery
+pub mod Lists
+pub mod QueueEnds
