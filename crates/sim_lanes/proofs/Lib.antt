@@ -1,0 +1,9 @@
+pub mod OneLanes
+pub mod AllLanes
+pub mod Allowed
+pub mod Posting
+pub mod Taking
+pub mod Draining
+pub mod Seats
+pub mod Joining
+pub mod Laying

@@ -1,0 +1,10 @@
+pub mod Places
+pub mod Views
+pub mod Steps
+pub mod LaneRule
+pub mod LanesRule
+pub mod Plays
+pub mod Ends
+pub mod Takes
+pub mod Closing
+pub mod Opening
