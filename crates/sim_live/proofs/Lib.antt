@@ -1,0 +1,11 @@
+pub mod AnsweredTexts
+pub mod Finishing
+pub mod Fronts
+pub mod JournalTexts
+pub mod Journals
+pub mod LeftPosts
+pub mod LiveEnds
+pub mod LiveRuns
+pub mod Sections
+pub mod ToldRuns
+pub mod WrittenOn
