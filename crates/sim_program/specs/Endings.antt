@@ -10,5 +10,5 @@ exit_after answer = status_code (unwrap_or answer status.Memory)
 
 -- what is told on standard error: the commands, where the words were none, and else nothing
 abbrev pub usage_after : Option Status → List ℕ
-usage_after (Some status.Usage) = codes "usage: simq check | run LIMIT | batch COUNT LIMIT | load SIZE"
+usage_after (Some status.Usage) = codes "usage: simq check | run LIMIT | batch COUNT LIMIT | load SIZE | live LIMIT"
 usage_after answer = []

@@ -16,7 +16,8 @@ pub fn usage_of(answer: Option<Status>) -> &'static str
     ensures { result.now ≡ usage_after answer }
 {
     match answer {
-        Some(Status::Usage) => "usage: simq check | run LIMIT | batch COUNT LIMIT | load SIZE",
+        Some(Status::Usage) =>
+            "usage: simq check | run LIMIT | batch COUNT LIMIT | load SIZE | live LIMIT",
         _ => "",
     }
 }
