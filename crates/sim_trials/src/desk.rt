@@ -1,13 +1,12 @@
 //! Whole answers by the top call, however the text comes in and however little room there is.
 ghost use Rattle.std.specs.Prelude.{◌<◌};
 
-use sim_batch::{FreeGate, Gate};
+use crate::calls::{Meeting, source_of, words_of};
+use sim_batch::FreeGate;
 use sim_command::Word;
 use sim_desk::desk;
 use sim_outside::{MemSink, MemSource};
-use sim_types::List;
 use std::alloc::{AllocError, Global};
-use std::sync::atomic::{AtomicBool, AtomicU64, Ordering};
 use std::test::Fail;
 use std::thread::Threads;
 
@@ -15,24 +14,6 @@ use std::thread::Threads;
 const ENOUGH: usize = 20_000;
 
 const ONE_TIMEOUT: &str = "scenario 1\nuntil empty\nprocess p\ntimeout 5\nlog now\nend\nstart p\n";
-
-/// The words of a line.
-fn words_of(alloc: Global, line: &str) -> Result<Vec<Word>, AllocError> {
-    let mut words = Vec::new(alloc);
-    for word in line.split_whitespace() {
-        words.push(Word::new(alloc, word.as_bytes())?)?;
-    }
-    Ok(words)
-}
-
-/// A source of the text that gives at most `piece` bytes a read, and whose reads with these numbers fail.
-fn source_of(alloc: Global, text: &str, piece: u32, fails: &[u64]) -> Result<MemSource, AllocError>
-    requires { 0 < piece }
-{
-    let bytes = text.as_bytes().to_vec(alloc)?;
-    let fails = fails.to_vec(alloc)?;
-    Ok(MemSource::new(List::from_vec(bytes), piece, List::from_vec(fails)))
-}
 
 /// An exit status and what was written.
 #[derive(Clone, Copy)]
@@ -83,32 +64,6 @@ fn reads<R: Threads + Sync>(
     match source_of(alloc, ONE_TIMEOUT, piece, &[number]) {
         Ok(mut source) => answers(rt, alloc, words, &mut source, ENOUGH, want),
         Err(AllocError) => false,
-    }
-}
-
-/// How often a pass looks whether the other has come.
-const MOST_TURNS: u32 = 200_000_000;
-
-/// A gate where the runs 0 and 1 wait for each other.
-#[derive(Drop)]
-struct Meeting {
-    came: [AtomicBool; 2],
-    met: AtomicU64,
-}
-
-impl Gate for Meeting {
-    fn pass(&self, index: u32) {
-        let (own, other) = match index {
-            0 => (&self.came[0], &self.came[1]),
-            _ => (&self.came[1], &self.came[0]),
-        };
-        own.store(true, Ordering::SeqCst);
-        for _ in 0..MOST_TURNS {
-            if other.load(Ordering::SeqCst) {
-                self.met.fetch_add(1, Ordering::SeqCst);
-                return;
-            }
-        }
     }
 }
 
@@ -214,21 +169,14 @@ fn writes_what_fits(rt: HostRuntime) {
 #[test]
 fn runs_of_a_batch_meet(rt: HostRuntime) -> Result<(), Fail> {
     let alloc = rt.alloc();
-    let gate = Meeting {
-        came: [AtomicBool::new(false), AtomicBool::new(false)],
-        met: AtomicU64::new(0),
-    };
+    let gate = Meeting::new();
     let words = words_of(alloc, "batch 2 1000")?;
     let mut source = source_of(alloc, ONE_TIMEOUT, 8192, &[])?;
     let mut sink = MemSink::new(alloc, ENOUGH as u64)?;
     let status = desk(&rt, alloc, &gate, words.as_slice(), &mut source, &mut sink);
     assert_eq!(rt; status.code(), TWO_RUNS.code);
     assert_eq!(rt; sink.bytes(), TWO_RUNS.bytes);
-    assert_eq!(rt;
-        gate.met.load(Ordering::SeqCst),
-        2,
-        "each saw the other come"
-    );
+    assert_eq!(rt; gate.met(), 2, "each saw the other come");
     Ok(())
 }
 

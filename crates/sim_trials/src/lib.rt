@@ -1,10 +1,12 @@
 //! Public calls, tried where memory is ample: that they succeed there, and that devices really read, write, flush and
-//! fail, is in no clause. A file has the trials of one crate, or of a part of it. What a text and its answer can show is
-//! a row of `sim_rows`, and no trial.
+//! fail, is in no clause. A file has the trials of one crate, or of a part of it, or what they share. What a text and its
+//! answer can show is a row of `sim_rows`, and no trial.
 #![tactic(auto)]
 
 #[cfg(test)]
 mod agenda;
+#[cfg(test)]
+mod calls;
 #[cfg(test)]
 mod desk;
 #[cfg(test)]
@@ -13,6 +15,8 @@ mod devices;
 mod events;
 #[cfg(test)]
 mod happen;
+#[cfg(test)]
+mod live;
 #[cfg(test)]
 mod records;
 #[cfg(test)]
