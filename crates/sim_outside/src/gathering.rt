@@ -1,5 +1,6 @@
 //! A sink that gathers what it takes, so that the sink behind it is written to seldom.
 ghost use Rattle.std.specs.Prelude.{◌≡◌, [], length, OnOk};
+ghost use Rattle.std.specs.Io.KnownBytes.{Keeps};
 ghost use Rattle.sim_outside.specs.Causes.{HasCause};
 ghost use Rattle.sim_outside.specs.Gathering.{StaysInFront, GathersFor, gathered};
 ghost use Rattle.sim_outside.specs.Writes.{AppendsFront, IsUnflushed, taking};
@@ -100,20 +101,38 @@ impl<'a, K: Sink, L: Loan> Sink for Gathering<'a, K, L> {
         if count > 0 || piece.is_empty() {
             return Ok(count);
         }
-        pass_on(self.inner, &mut self.held)?;
+        write_held(self.inner, &mut self.held)?;
         Ok(self.held.add(piece))
     }
 
     #[tactic(auto, using(crate::proofs::HeldBack::gathering))]
+    fn pass_on(&mut self) -> Result<(), Failed>
+        ensures passed { OnOk result (self.new.held ≡ []) }
+
+        // As every sink.
+        ensures bytes { Keeps (gathered (K.tells self.old.inner.now) self.old.held).taken
+            (gathered (K.tells self.new.inner.now) self.new.held).taken }
+        ensures cause { HasCause (K.tells self.old.inner.now).faults
+            (K.tells self.new.inner.now).faults result }
+        ensures held_back { OnOk result
+            ((gathered (K.tells self.new.inner.now) self.new.held).flushing
+            ≡ (gathered (K.tells self.old.inner.now) self.old.held).flushing) }
+        ensures unflushed { IsUnflushed (K.tells self.old.inner.now)
+            (K.tells self.new.inner.now) }
+    {
+        write_held(self.inner, &mut self.held)
+    }
+
+    #[tactic(auto, using(crate::proofs::HeldBack::gathering))]
     fn flush(&mut self) -> Result<(), Failed> {
-        pass_on(self.inner, &mut self.held)?;
+        write_held(self.inner, &mut self.held)?;
         self.inner.flush()
     }
 }
 
 /// Writes all that is held. What the sink does not take stays held.
 #[tactic(auto, using(crate::proofs::HeldBack::passing))]
-fn pass_on<K: Sink>(inner: &mut K, held: &mut HeldBytes) -> Result<(), Failed>
+fn write_held<K: Sink>(inner: &mut K, held: &mut HeldBytes) -> Result<(), Failed>
     ensures whole { OnOk result (held.new ≡ []) }
     ensures bytes { AppendsFront (K.tells inner.old).taken (K.tells inner.new).taken
         held.old held.new }

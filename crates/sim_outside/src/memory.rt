@@ -215,6 +215,13 @@ impl Sink for MemSink {
         Ok(count)
     }
 
+    fn pass_on(&mut self) -> Result<(), Failed>
+        ensures ok { IsOk result }
+        ensures same { self.new ≡ self.old }
+    {
+        Ok(())
+    }
+
     fn flush(&mut self) -> Result<(), Failed>
         ensures ok { IsOk result }
         ensures flushed { self.new ≡ record self.old { flushing = flushed self.old.flushing } }

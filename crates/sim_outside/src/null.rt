@@ -53,6 +53,13 @@ impl Sink for NullSink {
         Ok(piece.len())
     }
 
+    fn pass_on(&mut self) -> Result<(), Failed>
+        ensures ok { IsOk result }
+        ensures same { self.new ≡ self.old }
+    {
+        Ok(())
+    }
+
     fn flush(&mut self) -> Result<(), Failed>
         ensures ok { IsOk result }
         ensures flushed { self.new ≡ flushed self.old }

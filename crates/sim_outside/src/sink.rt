@@ -34,6 +34,15 @@ pub trait Sink {
             (tells self.new).flushing ≡ taking n (tells self.old).flushing) }
         ensures unflushed { IsUnflushed (tells self.old) (tells self.new) };
 
+    /// Passes on what the sink still holds to the one behind it, which is not flushed. The bytes taken stay as they are. A
+    /// sink with none behind it has nothing to do.
+    fn pass_on(&mut self) -> Result<(), Failed>
+        ensures bytes { Keeps (tells self.old).taken (tells self.new).taken }
+        ensures cause { HasCause (tells self.old).faults (tells self.new).faults result }
+        ensures held_back { OnOk result
+            ((tells self.new).flushing ≡ (tells self.old).flushing) }
+        ensures unflushed { IsUnflushed (tells self.old) (tells self.new) };
+
     /// Hands on what the sink holds back. The bytes taken stay as they are.
     fn flush(&mut self) -> Result<(), Failed>
         ensures bytes { Keeps (tells self.old).taken (tells self.new).taken }

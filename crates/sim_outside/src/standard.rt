@@ -1,5 +1,5 @@
 //! Standard input and output. What they carry is known to no contract, so of them no bytes are told.
-ghost use Rattle.std.specs.Prelude.{◌≡◌};
+ghost use Rattle.std.specs.Prelude.{◌≡◌, IsOk};
 ghost use Rattle.sim_outside.specs.Writes.{no_flush};
 
 use crate::fault::Failed;
@@ -110,6 +110,13 @@ impl<W: Write> Sink for StdSink<W> {
             }
             Err(_) => Err(self.faults.fail()),
         }
+    }
+
+    fn pass_on(&mut self) -> Result<(), Failed>
+        ensures ok { IsOk result }
+        ensures same { self.new ≡ self.old }
+    {
+        Ok(())
     }
 
     fn flush(&mut self) -> Result<(), Failed> {

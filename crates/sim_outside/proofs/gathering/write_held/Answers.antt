@@ -1,6 +1,6 @@
 use Rattle.std.proofs.Common.{◌∙◌, length}
 use Rattle.sim_outside.proofs.HeldBack.{front_passed, back_passed}
-use Rattle.sim_outside.proofs.gathering.pass_on.Goals as goal
+use Rattle.sim_outside.proofs.gathering.write_held.Goals as goal
 
 pub loop-inner-preserved : goal.loop-inner-preserved
 loop-inner-preserved g c =

@@ -1,6 +1,6 @@
 use Rattle.std.proofs.Common.{◌≡◌, length}
 use Rattle.sim_outside.specs.Writes.{AppendsFront, IsUnflushed, taking}
-use Rattle.sim_outside.proofs.gathering.pass_on.Given as goal
+use Rattle.sim_outside.proofs.gathering.write_held.Given as goal
 
 abbrev pub invariant-loop-inner : goal.invariant-loop-inner
 invariant-loop-inner g l =
