@@ -15,7 +15,7 @@ use sim_inbox::Taken;
 
 impl LanePoster {
     /// How many posts it posted.
-    pub(crate) fn posted_count(&self) -> u64
+    pub fn posted_count(&self) -> u64
         ensures count { result ≡ length (posted_of self.now) }
         ensures few { result < 2 ^ 32 }
     {
