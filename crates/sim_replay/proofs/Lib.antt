@@ -1,0 +1,4 @@
+pub mod OverBodies
+pub mod OverOperations
+pub mod OverScripts
+pub mod ReplayedRuns
