@@ -37,6 +37,7 @@ use Rattle.sim_live.specs.Journals.{KeepsFronts, KeepsSections, post_of}
 use Rattle.sim_live.specs.LiveAnswers.{Answers, AnswersPrefix, AnswersText, AnswersWhole, BeginsText}
 use Rattle.sim_live.specs.LiveTexts.{live_text, end_on}
 use Rattle.sim_live.proofs.Finishing.{left_port}
+use Rattle.sim_live.proofs.Replays.{says_again}
 
 -- ---- what was written
 
@@ -45,7 +46,7 @@ no_fronts s = record { posts = λ p. refl; falls = refl }
 
 pub answers_none : (read : Result ScenarioOf Fault) (limit : ℕ) (a : SinkOf) (why : EngineFault) → is_write why ≡ false → Answers read limit a a (Err why)
 answers_none (Ok s) limit a why free =
-    record { journal = []; writes = none_written is_write a why (live_text s limit []) free; fronts = no_fronts s; sections = tt; status = tt }
+    record { journal = []; writes = none_written is_write a why (live_text s limit []) free; fronts = no_fronts s; sections = tt; can_be = tt; status = tt }
 answers_none (Err fault) limit a why free = record { writes = none_written is_write a why (fault_text fault) free; status = tt }
 
 module _ (read : Result ScenarioOf Fault) (limit : ℕ) (a m b : SinkOf) (told : Status) where
@@ -59,6 +60,7 @@ module _ (read : Result ScenarioOf Fault) (limit : ℕ) (a m b : SinkOf) (told :
             writes = then_flushed is_write is_write a m b told told (live_text s limit k.journal) k.writes kept same;
             fronts = k.fronts;
             sections = k.sections;
+            can_be = k.can_be;
             status = k.status;
           }
       by (Err fault) k = record { writes = then_flushed is_write is_write a m b told told (fault_text fault) k.writes kept same; status = k.status }
@@ -74,6 +76,7 @@ module _ (read : Result ScenarioOf Fault) (limit : ℕ) (a m b : SinkOf) (told :
             writes = then_unflushed is_write is_write {V = V} a m b told why (live_text s limit k.journal) k.writes kept cause is;
             fronts = k.fronts;
             sections = tt;
+            can_be = tt;
             status = tt;
           }
       by (Err fault) k = record { writes = then_unflushed is_write is_write {V = V} a m b told why (fault_text fault) k.writes kept cause is; status = tt }
@@ -97,7 +100,7 @@ ports_of s journal well h =
     none = record { after = 0; poster = 0; serial = 0; port = 0; value = pos 0 }
 
 whole_by : (text : List ℕ) (read : Result ScenarioOf Fault) (limit : ℕ) (a b : SinkOf) (told : Status) → read_of text ≡ read → Answers read limit a b (Ok told)
-    → AnswersText read limit a b told
+    → AnswersText text read limit a b told
 whole_by text (Ok s) limit a b told is h =
     let well = read_well_formed text s is in
     record {
@@ -106,6 +109,7 @@ whole_by text (Ok s) limit a b told is h =
       written = h.writes.whole;
       status = h.status;
       throughout = in_order s s.seed h.journal limit well (ports_of s h.journal well h.sections);
+      again = says_again text s limit h.journal is h.can_be;
     }
 whole_by text (Err fault) limit a b told is h = (h.writes.whole, h.status)
 

@@ -1,9 +1,10 @@
 -- What was left comes in, one post after another.
---     left_port         each by a port that there is
+--     left_posted       each is a post of its poster, with its serial
+--     left_port         by a port that there is
 --     next_left         the journal with the next one
 --     fronts_at         what has come in by now are fronts of the sections
 --     sections_at       all of it has come in
-use Rattle.std.proofs.Common.{◌≡◌, ◌⊎◌, inl, inr, ℕ, suc, ◌+◌, ◌<◌, ◌≤◌, List, [], ◌∷◌, ◌++◌, length, map, take, drop, refl, sym, ap, ◌∙◌, subst, append_assoc, append-nil}
+use Rattle.std.proofs.Common.{◌≡◌, ◌⊎◌, inl, inr, ℕ, suc, ◌+◌, ◌<◌, ◌≤◌, List, [], ◌∷◌, ◌++◌, length, map, take, drop, Some, refl, sym, ap, ◌∙◌, subst, append_assoc, append-nil}
 use Rattle.std.specs.Prelude.{slice_get, slice_index_or, IsTrue}
 use Rattle.std.proofs.lemmas.List.{map-append, take_all, take_more, take-append-drop}
 use Rattle.std.proofs.lemmas.Option.{slice_get-get_or}
@@ -27,14 +28,16 @@ sections_are_fronts s journal h =
 
 module _ (s : ScenarioOf) (before : List Arrival) (left : List Taken)
     (completes : (p : ℕ) → posts_by p before ++ entries_by p left ≡ numbered p 0 (section s p)) where
-  pub left_port : (i : ℕ) (d : Taken) → i < length left → IsTrue (is_well_formed s) → (slice_index_or left i d).item.port < length s.setup.ports
-  left_port i d below well =
+  pub left_posted : (i : ℕ) (d : Taken) → i < length left
+      → let t = slice_index_or left i d in slice_get (section s t.poster) t.serial ≡ Some t.item
+  left_posted i d below =
       let t = slice_index_or left i d in
       let whole : take i left ++ t ∷ drop (suc i) left ≡ left =
       ap (λ l. take i left ++ l) (sym (item_parts left i t (slice_get-get_or left i d below))) ∙ take-append-drop i left in
-      let there = left_is_posted s before (take i left) (drop (suc i) left) t
-      (λ p. ap (λ l. posts_by p before ++ entries_by p l) whole ∙ completes p) in
-      port_to_post s t.poster there.0 t.item well there.1
+      left_is_posted s before (take i left) (drop (suc i) left) t (λ p. ap (λ l. posts_by p before ++ entries_by p l) whole ∙ completes p)
+
+  pub left_port : (i : ℕ) (d : Taken) → i < length left → IsTrue (is_well_formed s) → (slice_index_or left i d).item.port < length s.setup.ports
+  left_port i d below well = let t = slice_index_or left i d in port_to_post s t.poster t.serial t.item well (left_posted i d below)
 
   -- the journal after so many of them
   abbrev pub IsAfter : ℕ → List Arrival → Type 0

@@ -22,3 +22,8 @@ module _ (ports : List (List ℕ)) where
   pub journal_parted : (n : ℕ) (journal : List Arrival)
       → journal_text ports journal ≡ journal_text ports (take n journal) ++ flat_map (arrival_text ports) (drop n journal)
   journal_parted n journal = ap (journal_text ports) (sym (take-append-drop n journal)) ∙ entries_behind (take n journal) (drop n journal)
+
+-- the same by names and entries that are the same
+pub journal_entries : (ports names : List (List ℕ)) (entries journal : List Arrival) → ports ≡ names → entries ≡ journal
+    → journal_text ports entries ≡ journal_text names journal
+journal_entries ports names entries journal same is = ap (λ l. journal_text l entries) same ∙ ap (journal_text names) is

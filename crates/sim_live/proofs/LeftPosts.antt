@@ -1,6 +1,6 @@
 -- What is left once all posters have ended.
 --     left_completes       with what was taken of a poster it is all that it posts
---     left_is_posted       each is a post of the section of its poster
+--     left_is_posted       each is a post of the section of its poster, with its serial
 use Rattle.std.proofs.Common.{◌≡◌, ◌≢◌, ℕ, zero, suc, ◌+◌, ◌<◌, ◌≤◌, List, [], ◌∷◌, ◌++◌, length, map, take, drop, Some, refl, sym, ap, ◌∙◌, subst, arith, append_assoc}
 use Rattle.std.specs.Prelude.{slice_get, slice_index_or}
 use Rattle.std.proofs.Math.Seq.{drop-nil}
@@ -48,7 +48,14 @@ module _ (taken : ℕ → List Post) where
       ∙ (ap (λ k. numbered p 0 (taken p) ++ numbered p k (drop (length (taken p)) (section s p))) n
       ∙ (sym (numbered_append p 0 (taken p) (drop (length (taken p)) (section s p))) ∙ ap (numbered p 0) (begins p)))
 
--- ---- each is a post of a section
+-- ---- each is a post of a section, with its serial
+
+numbered_serial : (p n : ℕ) (before after : List Taken) (t : Taken) (items : List Post) → before ++ t ∷ after ≡ numbered p n items
+    → t.serial ≡ n + length before
+numbered_serial p n [] after t [] is = absurd (omega (arith, ap length is))
+numbered_serial p n [] after t (x ∷ items) is = omega (arith, ap (λ l. slice_index_or (map (λ u. u.serial) l) 0 0) is)
+numbered_serial p n (b ∷ before) after t [] is = absurd (omega (arith, ap length is))
+numbered_serial p n (b ∷ before) after t (x ∷ items) is = omega (arith, numbered_serial p (suc n) before after t items (ap (drop 1) is))
 
 numbered_item : (p n : ℕ) (before after : List Taken) (t : Taken) (items : List Post) → before ++ t ∷ after ≡ numbered p n items
     → slice_get items (length before) ≡ Some t.item
@@ -59,7 +66,7 @@ numbered_item p n (b ∷ before) after t (x ∷ items) is = numbered_item p (suc
 
 pub left_is_posted : (s : ScenarioOf) (journal : List Arrival) (before after : List Taken) (t : Taken)
     → ((p : ℕ) → posts_by p journal ++ entries_by p (before ++ t ∷ after) ≡ numbered p 0 (section s p))
-    → (i : ℕ) × (slice_get (section s t.poster) i ≡ Some t.item)
+    → slice_get (section s t.poster) t.serial ≡ Some t.item
 left_is_posted s journal before after t completes =
     let p = t.poster in
     let own : entries_by p (before ++ t ∷ after) ≡ entries_by p before ++ t ∷ entries_by p after =
@@ -67,4 +74,6 @@ left_is_posted s journal before after t completes =
     let is : (posts_by p journal ++ entries_by p before) ++ t ∷ entries_by p after ≡ numbered p 0 (section s p) =
     append_assoc (posts_by p journal) (entries_by p before) (t ∷ entries_by p after)
     ∙ (ap (λ l. posts_by p journal ++ l) (sym own) ∙ completes p) in
-    (length (posts_by p journal ++ entries_by p before), numbered_item p 0 (posts_by p journal ++ entries_by p before) (entries_by p after) t (section s p) is)
+    let front = posts_by p journal ++ entries_by p before in
+    let at : t.serial ≡ length front = omega (arith, numbered_serial p 0 front (entries_by p after) t (section s p) is) in
+    ap (slice_get (section s p)) at ∙ numbered_item p 0 front (entries_by p after) t (section s p) is

@@ -1,11 +1,14 @@
 pub mod AnsweredTexts
 pub mod Finishing
 pub mod Fronts
+pub mod GatheredAnswers
 pub mod JournalTexts
 pub mod Journals
 pub mod LeftPosts
 pub mod LiveEnds
 pub mod LiveRuns
+pub mod ProcessedByUnits
+pub mod Replays
 pub mod Sections
 pub mod ToldRuns
 pub mod WrittenOn

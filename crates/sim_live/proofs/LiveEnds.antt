@@ -1,5 +1,6 @@
 -- What a live run comes to, and what was written of it.
 --     summary_now       where it is over, it came to what the machine comes to on its journal
+--     lines_written     the lines of its units were written
 --     runs_cut          a prefix of the text of that run was written
 --     runs_whole        the whole was
 use Rattle.std.proofs.Common.{◌≡◌, ◌≢◌, ◌≤◌, ℕ, ◌+◌, ◌-◌, List, [], ◌∷◌, ◌++◌, Bool, true, false, refl, sym, ap, ◌∙◌, subst, arith, append_assoc, append-nil, Result, Ok, Err}
@@ -9,7 +10,8 @@ use Rattle.sim_types.specs.declared.line.End.{End}
 use Rattle.sim_types.specs.declared.line.Summary.{Summary}
 use Rattle.sim_types.specs.declared.setup.Arrival.{Arrival}
 use Rattle.sim_outside.specs.Writes.{SinkOf, Writes}
-use Rattle.sim_outside.proofs.Written.{as_failed, both_written, cut_behind, none_to_write, none_written, told_err}
+use Rattle.sim_outside.proofs.Written.{as_failed, as_well, both_written, cut_behind, none_to_write, none_written, told_err}
+use Rattle.sim_language_law.specs.Sections.{CanBeJournal}
 use Rattle.sim_trace.specs.Texts.{journal_text, trace_text}
 use Rattle.sim_machine_law.specs.Courses.{course_after}
 use Rattle.sim_script_model.specs.Scenarios.{summary}
@@ -17,6 +19,7 @@ use Rattle.sim_engine.specs.declared.fault.EngineFault.{EngineFault}
 use Rattle.sim_engine.specs.declared.fault.EngineFault.TheVariants as fault
 use Rattle.sim_engine.specs.declared.session.Turn.{Turn}
 use Rattle.sim_engine.specs.declared.session.Turn.TheVariants as turn
+use Rattle.sim_engine.specs.declared.report.Report.{Report}
 use Rattle.sim_engine.specs.EngineFaults.{is_write}
 use Rattle.sim_engine.specs.RunOfScenario.{run_of, printed_run}
 use Rattle.sim_engine.specs.Rounds.{text_by}
@@ -78,6 +81,33 @@ nothing_written s x a none zero_units =
     none_to_write is_write a tt (text_so_far s x)
     (ap (λ l. text_by s s.seed l x.session.units) none ∙ (ap (text_by s s.seed []) zero_units ∙ text_before s s.seed []))
 
+-- the lines of its units were written, and behind them come the line on its end and the journal
+pub record LinesWritten (s : ScenarioOf) (limit : ℕ) (a m : SinkOf) (journal : List Arrival) (lines : List ℕ) (told : Summary) : Type 0 where
+  pub fronts : KeepsFronts s journal
+  pub text : live_text s limit journal ≡ (lines ++ end_text told) ++ journal_text s.port_names journal
+  pub written : HasWritten a m lines
+
+pub lines_written : {T : Type 0} (s : ScenarioOf) (limit : ℕ) (opened x : LiveOf) (a m : SinkOf) (t : T) (report : Report) → opened.session.limit ≡ limit
+    → opened.journal ≡ [] → opened.session.units ≡ 0 → WritesOn s opened x a m (Ok t) → IsLive s x → turn_of x.session ≢ turn.Idle
+    → x.session.limit ≡ opened.session.limit → KeepsFronts s x.journal → report ≡ report_of x.session
+    → LinesWritten s limit a m x.journal (text_so_far s x) report.summary
+lines_written s limit opened x a m t report most none zero_units on live ended same fronts is =
+    record {
+      fronts = fronts;
+      text =
+          subst (λ (r : Report). live_text s limit x.journal ≡ (text_so_far s x ++ end_text r.summary) ++ journal_text s.port_names x.journal) (sym is)
+          (text_over s x live ended limit (same ∙ most));
+      written =
+          as_well is_write is_write a m t tt (text_so_far s x) (text_so_far s x) (on a (nothing_written s opened a none zero_units)) refl;
+    }
+
+module _ {s : ScenarioOf} {limit : ℕ} {a m : SinkOf} {journal : List Arrival} {lines : List ℕ} {told : Summary} (h : LinesWritten s limit a m journal lines told) where
+  with_end : {U : Type 0} (n : SinkOf) (u : U) → Writes {T = U} {E = EngineFault} is_write m n (Ok u) (end_text told) → HasWritten a n (lines ++ end_text told)
+  with_end n u then = both_written is_write is_write {V = Unit {0}} a m n tt u tt lines (end_text told) (lines ++ end_text told) h.written then refl
+
+  text_with : (entries : List ℕ) → entries ≡ journal_text s.port_names journal → live_text s limit journal ≡ (lines ++ end_text told) ++ entries
+  text_with entries is_journal = h.text ∙ ap (λ l. (lines ++ end_text told) ++ l) (sym is_journal)
+
 module _ (s : ScenarioOf) (limit : ℕ) (a b : SinkOf) (answer : Result End EngineFault) (why : EngineFault) (is : IsErrAnd answer (λ told. told ≡ why)) where
   failed_ok : (P : Type 0) (r : Result End EngineFault) → IsErrAnd r (λ told. told ≡ why) → OnOk r P
   failed_ok P (Ok e) h = absurd h
@@ -98,41 +128,40 @@ module _ (s : ScenarioOf) (limit : ℕ) (a b : SinkOf) (answer : Result End Engi
             (λ told same. as_failed is_write is_write a b why told bytes rest (live_text s limit journal) written text (sym (ap is_write same)));
         fronts = fronts;
         sections = failed_ok (KeepsSections s journal) answer is;
+        can_be = failed_ok (CanBeJournal s journal) answer is;
         end = failed_end (λ end. end ≡ end_on s limit journal) answer is;
       }
 
   -- the same behind its lines, or behind the line on its end
-  module _ {T : Type 0} (journal : List Arrival) (lines entries : List ℕ) (told : Summary) (m : SinkOf) (fronts : KeepsFronts s journal)
-      (text : live_text s limit journal ≡ (lines ++ end_text told) ++ entries) where
-    pub runs_cut_at_end : HasWritten a m lines → Writes {T = T} {E = EngineFault} is_write m b (Err why) (end_text told) → RunsLive s limit a b answer
-    runs_cut_at_end first then =
-        runs_cut {T = T} journal (lines ++ end_text told) entries
-        (cut_behind is_write is_write {V = T} a m b tt why lines (end_text told) (lines ++ end_text told) first then refl) text fronts
+  module _ {T : Type 0} (journal : List Arrival) (lines : List ℕ) (told : Summary) (m : SinkOf) (h : LinesWritten s limit a m journal lines told) where
+    pub runs_cut_at_end : Writes {T = T} {E = EngineFault} is_write m b (Err why) (end_text told) → RunsLive s limit a b answer
+    runs_cut_at_end then =
+        runs_cut {T = T} journal (lines ++ end_text told) (journal_text s.port_names journal)
+        (cut_behind is_write is_write {V = T} a m b tt why lines (end_text told) (lines ++ end_text told) h.written then refl) h.text h.fronts
 
-    pub runs_cut_at_journal : {U : Type 0} (n : SinkOf) (u : U) → HasWritten a m lines → Writes {T = U} {E = EngineFault} is_write m n (Ok u) (end_text told)
-        → Writes {T = T} {E = EngineFault} is_write n b (Err why) entries → RunsLive s limit a b answer
-    runs_cut_at_journal n u first then last =
-        let both : HasWritten a n (lines ++ end_text told) =
-        both_written is_write is_write {V = Unit {0}} a m n tt u tt lines (end_text told) (lines ++ end_text told) first then refl in
+    pub runs_cut_at_journal : {U : Type 0} (n : SinkOf) (u : U) (entries : List ℕ) → entries ≡ journal_text s.port_names journal
+        → Writes {T = U} {E = EngineFault} is_write m n (Ok u) (end_text told) → Writes {T = T} {E = EngineFault} is_write n b (Err why) entries
+        → RunsLive s limit a b answer
+    runs_cut_at_journal n u entries is_journal then last =
         runs_cut {T = T} journal (live_text s limit journal) []
-        (cut_behind is_write is_write {V = T} a n b tt why (lines ++ end_text told) entries (live_text s limit journal) both last text)
-        (sym (append-nil (live_text s limit journal))) fronts
+        (cut_behind is_write is_write {V = T} a n b tt why (lines ++ end_text told) entries (live_text s limit journal) (with_end h n u then) last
+        (text_with h entries is_journal))
+        (sym (append-nil (live_text s limit journal))) h.fronts
 
 -- it was written to its end
 pub runs_whole : {U V : Type 0} (s : ScenarioOf) (limit : ℕ) (a m n b : SinkOf) (end : End) (journal : List Arrival) (lines entries : List ℕ) (told : Summary) (u : U) (v : V)
-    → KeepsSections s journal → KeepsFronts s journal
-    → live_text s limit journal ≡ (lines ++ end_text told) ++ entries → end ≡ end_on s limit journal
-    → HasWritten a m lines → Writes {T = U} {E = EngineFault} is_write m n (Ok u) (end_text told)
+    → LinesWritten s limit a m journal lines told → KeepsSections s journal → CanBeJournal s journal → end ≡ end_on s limit journal
+    → entries ≡ journal_text s.port_names journal → Writes {T = U} {E = EngineFault} is_write m n (Ok u) (end_text told)
     → Writes {T = V} {E = EngineFault} is_write n b (Ok v) entries → RunsLive s limit a b (Ok end)
-runs_whole s limit a m n b end journal lines entries told u v sections fronts text ends first then last =
-    let both : HasWritten a n (lines ++ end_text told) =
-    both_written is_write is_write {V = Unit {0}} a m n tt u tt lines (end_text told) (lines ++ end_text told) first then refl in
+runs_whole s limit a m n b end journal lines entries told u v h sections can ends is_journal then last =
     record {
       journal = journal;
       writes =
-          both_written is_write is_write {V = End} a n b tt v end (lines ++ end_text told) entries (live_text s limit journal) both last text;
-      fronts = fronts;
+          both_written is_write is_write {V = End} a n b tt v end (lines ++ end_text told) entries (live_text s limit journal) (with_end h n u then) last
+          (text_with h entries is_journal);
+      fronts = h.fronts;
       sections = sections;
+      can_be = can;
       end = ends;
     }
 

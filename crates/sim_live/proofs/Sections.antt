@@ -32,13 +32,25 @@ port_to_post s p i item well at = port_of_section s p i item (posters_of_scenari
 pub few_sections : (s : ScenarioOf) → IsTrue (is_well_formed s) → length s.posters ≤ 16
 few_sections s well = (posters_of_scenario s well).few
 
-pub sections_small : (s : ScenarioOf) (p : ℕ) → IsTrue (is_well_formed s) → length (section s p) < 2 ^ 32 - 1
-sections_small s p well = small s.posters p (posters_of_scenario s well).lengths
+pub section_length : (s : ScenarioOf) (p : ℕ) → IsTrue (is_well_formed s) → length (section s p) ≤ 65536
+section_length s p well = small s.posters p (posters_of_scenario s well).lengths
   where
-    small : (lists : List (List Post)) (q : ℕ) → All (λ posts. length posts ≤ 65536) lists → length (slice_index_or lists q []) < 2 ^ 32 - 1
+    small : (lists : List (List Post)) (q : ℕ) → All (λ posts. length posts ≤ 65536) lists → length (slice_index_or lists q []) ≤ 65536
     small [] q h = omega arith
-    small (l ∷ lists) zero h = omega (arith, All-head (λ posts. length posts ≤ 65536) l lists h)
+    small (l ∷ lists) zero h = All-head (λ posts. length posts ≤ 65536) l lists h
     small (l ∷ lists) (suc q) h = small lists q (All-tail (λ posts. length posts ≤ 65536) l lists h)
+
+pub sections_small : (s : ScenarioOf) (p : ℕ) → IsTrue (is_well_formed s) → length (section s p) < 2 ^ 32 - 1
+sections_small s p well = omega (arith, section_length s p well)
+
+-- whoever has something to post is one of them
+pub poster_of_section : (s : ScenarioOf) (p i : ℕ) (x : Post) → slice_get (section s p) i ≡ Some x → p < length s.posters
+poster_of_section s p i x at = by s.posters p at
+  where
+    by : (lists : List (List Post)) (q : ℕ) → slice_get (slice_index_or lists q []) i ≡ Some x → q < length lists
+    by [] q there = absurd (omega (arith, slice_get_within [] i x there))
+    by (l ∷ lists) zero there = omega arith
+    by (l ∷ lists) (suc q) there = omega (arith, by lists q there)
 
 pub each_has_room : (capacities : List ℕ) (n : ℕ) (least : ℕ → ℕ) → length capacities ≡ n
     → ((p : ℕ) → p < n → (0 < slice_index_or capacities p 0) × (least p ≤ slice_index_or capacities p 0)) → All (λ c. 0 < c) capacities

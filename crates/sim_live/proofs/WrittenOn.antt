@@ -4,11 +4,16 @@
 --     on_ok, on_err   the same in the words of a caller
 --     on_wanting      memory was wanting behind a call
 --     on_none         nothing was written, and memory was wanting
+--     on_passed       what was held was passed on
+--     on_unpassed     or that failed
 use Rattle.std.proofs.Common.{◌≡◌, ℕ, Bool, false, List, [], ◌++◌, refl, sym, ap, ◌∙◌, subst, append-nil, Result, Ok, Err}
 use Rattle.std.specs.Prelude.{IsErrAnd}
 use Rattle.sim_types.specs.Scenarios.{ScenarioOf}
 use Rattle.sim_outside.specs.Writes.{RoseIf, SinkOf, Writes}
-use Rattle.sim_outside.proofs.Written.{as_well, as_failed, both_written, cut_behind, told_err}
+use Rattle.std.specs.Io.KnownBytes.{Keeps}
+use Rattle.sim_outside.specs.declared.fault.Failed.{Failed}
+use Rattle.sim_outside.specs.Causes.{HasCause}
+use Rattle.sim_outside.proofs.Written.{as_well, as_failed, both_written, cut_behind, then_flushed, then_unflushed, told_err}
 use Rattle.sim_engine.specs.declared.fault.EngineFault.{EngineFault}
 use Rattle.sim_engine.specs.declared.fault.EngineFault.TheVariants as fault
 use Rattle.sim_engine.specs.EngineFaults.{is_write}
@@ -60,3 +65,14 @@ pub on_and_on : {T U : Type 0} (s : ScenarioOf) (x y z : LiveOf) (a b c : SinkOf
     → WritesOn s x y a b (Ok t) → WritesOn s y z b c answer → WritesOn s x z a c answer
 on_and_on s x y z a b c t answer first then before wrote =
     then before (as_well is_write is_write before b t tt (text_so_far s y) (text_so_far s y) (first before wrote) refl)
+
+-- what a sink held was passed on, and that changes nothing
+module _ (s : ScenarioOf) (x : LiveOf) (old new : SinkOf) (kept : Keeps old.taken new.taken) where
+  pub on_passed : {U : Type 0} (u : U) → new.faults ≡ old.faults → WritesOn s x x old new (Ok u)
+  on_passed u same before wrote = then_flushed is_write is_write before old new tt u (text_so_far s x) wrote kept same
+
+  pub on_unpassed : {U V : Type 0} (answer : Result U EngineFault) (f : Failed) → IsErrAnd answer (λ why. why ≡ fault.Write)
+      → HasCause {T = V} {E = Failed} old.faults new.faults (Err f) → WritesOn s x x old new answer
+  on_unpassed {U} {V} answer f is cause before wrote =
+      told_err is_write before new (text_so_far s x) answer (λ why. why ≡ fault.Write) is
+      (λ why told. then_unflushed is_write is_write {V = V} before old new tt why (text_so_far s x) wrote kept cause (ap is_write told))

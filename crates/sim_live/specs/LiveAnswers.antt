@@ -8,6 +8,7 @@ use Rattle.sim_types.specs.declared.line.End.{End}
 use Rattle.sim_command.specs.declared.status.Status.{Status}
 use Rattle.sim_command.specs.declared.status.Status.TheVariants as status
 use Rattle.sim_outside.specs.Writes.{AppendsPrefix, SinkOf, Writes}
+use Rattle.sim_language_law.specs.Sections.{CanBeJournal, IsWithinLimits, text_with_journal}
 use Rattle.sim_trace.specs.Texts.{fault_text}
 use Rattle.sim_engine.specs.declared.fault.EngineFault.{EngineFault}
 use Rattle.sim_engine.specs.EngineFaults.{is_write}
@@ -15,17 +16,18 @@ use Rattle.sim_engine.specs.Throughout.{IsInOrderThroughout}
 use Rattle.sim_answers.specs.Endings.{status_of_end}
 use Rattle.sim_answers.specs.Readings.{read_of}
 use Rattle.sim_live.specs.Journals.{KeepsSections, KeepsFronts}
-use Rattle.sim_live.specs.LiveTexts.{live_text, end_on}
+use Rattle.sim_live.specs.LiveTexts.{SaysAgain, end_on, live_text}
 
 -- ---- one run
 
 -- a call that lets the scenario run wrote the text of a run on some journal, whose entries are posts of the posters; where it
--- went well these are all posts, and the answer is how that run ended
+-- went well these are all posts, the journal can be the scenario's own, and the answer is how that run ended
 pub record RunsLive (s : ScenarioOf) (limit : ℕ) (old new : SinkOf) (answer : Result End EngineFault) : Type 0 where
   pub journal : List Arrival
   pub writes : Writes is_write old new answer (live_text s limit journal)
   pub fronts : KeepsFronts s journal
   pub sections : OnOk answer (KeepsSections s journal)
+  pub can_be : OnOk answer (CanBeJournal s journal)
   pub end : IfOk answer (λ end. end ≡ end_on s limit journal)
 
 -- ---- the answer to a text
@@ -40,6 +42,7 @@ pub record Runs (s : ScenarioOf) (limit : ℕ) (old new : SinkOf) (answer : Resu
   pub writes : Writes is_write old new answer (live_text s limit journal)
   pub fronts : KeepsFronts s journal
   pub sections : OnOk answer (KeepsSections s journal)
+  pub can_be : OnOk answer (CanBeJournal s journal)
   pub status : IfOk answer (λ told. told ≡ status_of_end (end_on s limit journal))
 
 abbrev pub Answers : Result ScenarioOf Fault → ℕ → SinkOf → SinkOf → Result Status EngineFault → Type 0
@@ -49,24 +52,26 @@ Answers (Err fault) limit old new answer = Refuses fault old new answer
 -- ---- a whole answer
 
 -- the trace of a run was written, and its journal, which keeps what the posters post; the status is that of this run, and
--- every state of it is in order
-pub record AnswersRun (s : ScenarioOf) (limit : ℕ) (old new : SinkOf) (answer : Status) : Type 0 where
+-- every state of it is in order. The lines of the text in front of its posters, with this journal behind them, say it
+-- again, within the limits of a text
+pub record AnswersRun (text : List ℕ) (s : ScenarioOf) (limit : ℕ) (old new : SinkOf) (answer : Status) : Type 0 where
   pub journal : List Arrival
   pub keeps : KeepsSections s journal
   pub written : Appends old.taken new.taken (live_text s limit journal)
   pub status : answer ≡ status_of_end (end_on s limit journal)
   pub throughout : IsInOrderThroughout s s.seed journal limit
+  pub again : IsWithinLimits s.port_names journal text → SaysAgain s limit journal (text_with_journal s.port_names journal text)
 
 -- for a text that says a scenario, or else is refused
-abbrev pub AnswersText : Result ScenarioOf Fault → ℕ → SinkOf → SinkOf → Status → Type 0
-AnswersText (Ok s) limit old new answer = AnswersRun s limit old new answer
-AnswersText (Err fault) limit old new answer = Appends old.taken new.taken (fault_text fault) × (answer ≡ status.Refused)
+abbrev pub AnswersText : List ℕ → Result ScenarioOf Fault → ℕ → SinkOf → SinkOf → Status → Type 0
+AnswersText text (Ok s) limit old new answer = AnswersRun text s limit old new answer
+AnswersText text (Err fault) limit old new answer = Appends old.taken new.taken (fault_text fault) × (answer ≡ status.Refused)
 
 -- the whole answer to the text was written; where the source told the bytes left, they are the text
 pub record AnswersWhole (limit : ℕ) (left : Option (List ℕ)) (old new : SinkOf) (answer : Status) : Type 0 where
   pub text : List ℕ
   pub told : IfSome left (λ bytes. text ≡ bytes)
-  pub answered : AnswersText (read_of text) limit old new answer
+  pub answered : AnswersText text (read_of text) limit old new answer
 
 -- ---- a prefix of one
 

@@ -1,9 +1,12 @@
 -- A live run under way, as contracts see it.
 use Rattle.std.specs.Prelude.{◌≡◌, ◌≤◌, ℕ, List, [], All, Ok, IsTrue}
+use Rattle.std.specs.List.{list_all}
 use Rattle.std.specs.declared.result.Result.{Result}
 use Rattle.sim_types.specs.Scenarios.{ScenarioOf}
 use Rattle.sim_types.specs.declared.setup.Arrival.{Arrival}
 use Rattle.sim_types.specs.declared.setup.Post.{Post}
+use Rattle.sim_types.specs.Setups.{is_within}
+use Rattle.sim_language.specs.Numbers.{least, greatest}
 use Rattle.sim_language.specs.WellFormed.{never_falls}
 use Rattle.sim_outside.specs.Writes.{SinkOf, Writes}
 use Rattle.sim_inbox.specs.Lists.{Begins, numbered}
@@ -27,6 +30,7 @@ pub record IsLive (s : ScenarioOf) (x : LiveOf) : Type 0 where
   pub within : x.session.units ≤ x.session.limit
   pub falls : IsTrue (never_falls x.journal)
   pub by_now : All (λ a. a.after ≤ x.session.parts.processed) x.journal
+  pub values : IsTrue (list_all (λ a. is_within least greatest a.value) x.journal)
 
 -- and the journal tells of just what was taken of each poster, which is a front of what that posts
 pub record IsTold (s : ScenarioOf) (taken : ℕ → List Post) (x : LiveOf) : Type 0 where

@@ -3,6 +3,7 @@
 
 mod answer;
 mod caller;
+mod gathered;
 mod live_run;
 mod play;
 mod top;

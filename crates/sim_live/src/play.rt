@@ -54,8 +54,8 @@ pub(crate) fn play<T: Taking, R: Wait, K: Sink>(
     Ok(true)
 }
 
-/// Makes a turn, if an event is due. The answer is false where the run is over, or nothing is due and so many posters have
-/// ended.
+/// Makes a turn, if an event is due, and else passes on what the sink still holds. The answer is false where the run is over,
+/// or nothing is due and so many posters have ended.
 fn go_on<K: Sink>(
     scenario: &Scenario,
     ended: &AtomicU64,
@@ -78,6 +78,7 @@ fn go_on<K: Sink>(
             Ok(true)
         }
         Turn::Empty => {
+            out.pass_on()?;
             thread::yield_now();
             Ok(ended.load(Ordering::SeqCst) < posters)
         }

@@ -7,7 +7,7 @@ ghost use Rattle.sim_answers.specs.Endings.{is_whole, IsWholeOrWanting};
 ghost use Rattle.sim_answers.specs.Readings.{ReadsWhole};
 ghost use Rattle.sim_live.specs.LiveAnswers.{AnswersWhole, AnswersPrefix};
 
-use crate::answer::answer;
+use crate::gathered::answer_gathered;
 use sim_batch::Gate;
 use sim_command::{Status, Word, live_limit};
 use sim_engine::EngineFault;
@@ -19,9 +19,9 @@ use std::sync::Wait;
 use std::thread::Threads;
 
 /// Reads a text from the source, and lets it run while its posters post, each from a thread of its own. What they post goes
-/// through the inbox that is given, and each passes the gate by its number before its first post. The trace is written as it
-/// comes, and then the journal of what came. The answer says how it ended. It waits for the posters: that it returns is not
-/// promised, nor which of them comes first.
+/// through the inbox that is given, and each passes the gate by its number before its first post. The trace is written while
+/// it runs, many lines in one write so long as events are due, and then the journal of what came. The answer says how it
+/// ended. It waits for the posters: that it returns is not promised, nor which of them comes first.
 pub fn live_desk<S: Source, K: Sink, R: Threads + Wait + Sync, G: Gate + Sync, I: Inbox>(
     rt: &R,
     alloc: Global,
@@ -81,7 +81,7 @@ pub fn live_desk<S: Source, K: Sink, R: Threads + Wait + Sync, G: Gate + Sync, I
         Err(TakeFault::Read) => return Status::ReadFault,
         Err(TakeFault::Memory) => return Status::Memory,
     };
-    match answer(rt, alloc, gate, inbox, limit, text.as_slice(), out) {
+    match answer_gathered(rt, alloc, gate, inbox, limit, text.as_slice(), out) {
         Ok(status) => status,
         Err(EngineFault::Write) => Status::WriteFault,
         Err(EngineFault::Memory) => Status::Memory,
