@@ -8,6 +8,8 @@ mod agenda;
 #[cfg(test)]
 mod calls;
 #[cfg(test)]
+mod counting;
+#[cfg(test)]
 mod desk;
 #[cfg(test)]
 mod devices;

@@ -1,6 +1,7 @@
 //! Live runs by the top call: posters that post at once and while the scenario runs, through the inbox that is given, and
 //! journals that are run again.
 use crate::calls::{MOST_TURNS, Meeting, source_of, words_of};
+use crate::counting::{CountingInbox, Counts};
 use sim_batch::{FreeGate, Gate};
 use sim_desk::desk;
 use sim_inbox::{Inbox, QueueInbox};
@@ -235,6 +236,21 @@ fn the_scenario_runs_before_the_posters_end(rt: HostRuntime) -> Result<(), Fail>
         2,
         "both saw something written"
     );
+    Ok(())
+}
+
+/// What is posted goes through the ends of the inbox that is given, and all of it comes out by its taker.
+#[test]
+fn posts_go_through_the_inbox_that_is_given(rt: HostRuntime) -> Result<(), Fail> {
+    let alloc = rt.alloc();
+    let text = with_posters(alloc, LOGGING, THREE_EACH)?;
+    let counts = Counts::new();
+    let inbox = CountingInbox { counts: &counts };
+    let lived = Lived::of(&rt, alloc, &FreeGate, &inbox, 1000, text.as_str())?;
+    assert_eq!(rt; lived.code, 0);
+    assert!(rt; lived.has_three_each(alloc)?);
+    assert_eq!(rt; counts.posted(), 6);
+    assert_eq!(rt; counts.given(), 6);
     Ok(())
 }
 

@@ -53,16 +53,16 @@ fn leaves(procs: &mut Procs<u8>, id: ProcId) -> bool {
 
 /// Leaves what is open and spends the record.
 #[tactic(auto, using(sim_procs::proofs::OpenScopes::none_left, sim_procs::proofs::OpenScopes::fewer_left))]
-fn spend(mut record: ProcRecord<u8>) {
-    while let Some(_scope) = record.pop_scope() {}
-    record.end();
+fn spend(mut process: ProcRecord<u8>) {
+    while let Some(_scope) = process.pop_scope() {}
+    process.end();
 }
 
 /// Takes the record of a process and spends it, if the process is alive.
 fn ends(procs: &mut Procs<u8>, id: ProcId) -> bool {
     match procs.take(id) {
-        Some(record) => {
-            spend(record);
+        Some(process) => {
+            spend(process);
             true
         }
         None => false,
