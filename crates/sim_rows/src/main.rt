@@ -31,7 +31,7 @@ fn carry_out_files<R: Runtime + AllocGlobal + Threads + Sync>(rt: &R) -> io::Res
     let mut tally = Tally { rows: 0, wrong: 0 };
     for name in env::args(rt)?.skip(1) {
         let file = fs::read_to_string(rt, name.as_str())?;
-        for row in rows_of(rt.alloc(), file.as_str())?.iter() {
+        for row in rows_of(rt, file.as_str())?.iter() {
             tally.count(carry_out(rt, row)?);
         }
     }

@@ -1,10 +1,11 @@
 //! A file of rows. A row is a line `== NAME`, remarks, a line `-- WORDS`, the text, a line `-- STATUS` and the answer, in
 //! which empty lines do not count. Below a line `-- STATUS at the end` stand the last lines of an answer alone. Lines between
-//! `\repeat COUNT` and `\end` stand so many times.
+//! `\repeat COUNT` and `\end` stand so many times. In the place of a line `\file NAME` stands the file of this name, as it is.
 use crate::line::append_line;
 use crate::row::{Row, Tells};
 use std::alloc::{AllocError, Global};
-use std::mem;
+use std::fs::Files;
+use std::{fs, io, mem};
 
 /// The part of a row that is being read.
 #[derive(Clone, Copy, PartialEq, Eq)]
@@ -38,13 +39,13 @@ struct Page {
     block: Option<Block>,
 }
 
-/// The rows of a file.
-pub fn rows_of(alloc: Global, file: &str) -> Result<Vec<Row>, AllocError> {
-    let mut page = Page::new(alloc);
+/// The rows of a file. The files that they name are read.
+pub fn rows_of<R: Files + AllocGlobal>(rt: &R, file: &str) -> io::Result<Vec<Row>> {
+    let mut page = Page::new(rt.alloc());
     for line in file.lines() {
-        page.read(alloc, line)?;
+        page.read(rt, line)?;
     }
-    page.close(alloc)?;
+    page.close(rt.alloc())?;
     Ok(page.rows)
 }
 
@@ -64,7 +65,8 @@ impl Page {
     }
 
     /// Takes the next line of the file.
-    fn read(&mut self, alloc: Global, line: &str) -> Result<(), AllocError> {
+    fn read<R: Files + AllocGlobal>(&mut self, rt: &R, line: &str) -> io::Result<()> {
+        let alloc = rt.alloc();
         if let Some(name) = line.strip_prefix("== ") {
             self.close(alloc)?;
             self.name = String::from_str(alloc, name)?;
@@ -84,7 +86,7 @@ impl Page {
                 Ok(())
             }
             (Part::Answer, _) if line.is_empty() => Ok(()),
-            (Part::Text | Part::Answer, _) => self.say(alloc, line),
+            (Part::Text | Part::Answer, _) => self.say(rt, line),
             _ => Ok(()),
         }
     }
@@ -99,8 +101,16 @@ impl Page {
         self.tells = tells;
     }
 
-    /// Takes a line of a text or an answer.
-    fn say(&mut self, alloc: Global, line: &str) -> Result<(), AllocError> {
+    /// Takes a line of a text or an answer, or the file that stands in its place.
+    fn say<R: Files + AllocGlobal>(&mut self, rt: &R, line: &str) -> io::Result<()> {
+        match line.strip_prefix("\\file ") {
+            Some(name) => self.said.extend_from_slice(fs::read(rt, name)?.as_slice())?,
+            None => self.say_line(rt.alloc(), line)?,
+        }
+        Ok(())
+    }
+
+    fn say_line(&mut self, alloc: Global, line: &str) -> Result<(), AllocError> {
         if let Some(times) = line.strip_prefix("\\repeat ") {
             self.block = Some(Block {
                 times: times.parse().unwrap_or(0),
