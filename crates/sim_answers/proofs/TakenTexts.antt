@@ -1,7 +1,7 @@
 -- The bytes that a call has taken say as much as the text that the source has.
 --     text_of          the text: what the source told, or else the bytes taken
 --     same_reading     it says what the bytes taken say
-use Rattle.std.proofs.Common.{◌≡◌, ℕ, ◌+◌, ◌<◌, Bool, true, false, List, length, take, refl, sym, ap, ◌∙◌, Option, None, Some, Result, Ok, Err, arith}
+use Rattle.std.proofs.Common.{◌≡◌, ℕ, ◌+◌, ◌<◌, Bool, true, false, List, length, take, refl, sym, ap, ◌∙◌, Option, None, Some, Err, arith}
 use Rattle.std.specs.Prelude.{nat_le, if◌then◌else◌, IfSome}
 use Rattle.std.proofs.lemmas.Bool.{false≢true}
 use Rattle.std.proofs.lemmas.Bool.Decides.{nat_tests}

@@ -85,25 +85,27 @@ impl Body for Car {
         self.own = id;
     }
 
-    fn poll(&mut self, _code: &Road, _now: i64, signal: Signal) -> Op {
+    fn poll(&mut self, _code: &Road, _now: i64, signal: Signal, asked: &mut Op) {
         match &self.last {
             None => {
                 if self.charges {
                     self.last = Some(Op::Enter(0, 0, false));
-                    return Op::Enter(0, 0, false);
+                    *asked = Op::Enter(0, 0, false);
+                    return;
                 }
             }
             Some(Op::Enter(..)) => match signal {
                 Signal::Raised(_) => {}
                 _ => {
                     self.last = Some(Op::Leave);
-                    return Op::Leave;
+                    *asked = Op::Leave;
+                    return;
                 }
             },
             Some(_) => {}
         }
         self.last = Some(Op::Finish(0));
-        Op::Finish(0)
+        *asked = Op::Finish(0);
     }
 
     fn poll_quietly(&mut self, _code: &Road, _now: i64, _signal: Signal) -> bool {

@@ -94,13 +94,12 @@ impl Body for Clock {
         self.own = id;
     }
 
-    fn poll(&mut self, code: &Pace, now: i64, _signal: Signal) -> Op {
-        let asked = match &self.last {
+    fn poll(&mut self, code: &Pace, now: i64, _signal: Signal, asked: &mut Op) {
+        *asked = match &self.last {
             Some(Op::Log(_)) => Op::Pause(code.delay, 0),
             _ => Op::Log(now),
         };
-        self.last = Some(again(&asked));
-        asked
+        self.last = Some(again(asked));
     }
 
     fn poll_quietly(&mut self, _code: &Pace, _now: i64, _signal: Signal) -> bool {

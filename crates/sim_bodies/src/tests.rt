@@ -277,7 +277,9 @@ fn polled<B: Body>(body: &mut B, code: &B::Code, signal: Signal) -> Op
     requires { CanBeTold B.body code.now body.old signal }
     ensures { B.body.turn code.now body.old (pos 0) signal result body.new }
 {
-    body.poll(code, 0, signal)
+    let mut asked = Op::Nop;
+    body.poll(code, 0, signal, &mut asked);
+    asked
 }
 
 // ---- tests

@@ -104,10 +104,9 @@ impl Body for Traveller {
         self.own = id;
     }
 
-    fn poll(&mut self, _code: &Land, _now: i64, signal: Signal) -> Op {
-        let asked = self.next(signal);
-        self.last = Some(again(&asked));
-        asked
+    fn poll(&mut self, _code: &Land, _now: i64, signal: Signal, asked: &mut Op) {
+        *asked = self.next(signal);
+        self.last = Some(again(asked));
     }
 
     fn poll_quietly(&mut self, _code: &Land, _now: i64, _signal: Signal) -> bool {

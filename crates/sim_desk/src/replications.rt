@@ -25,8 +25,8 @@ struct Replications<'a> {
 }
 
 impl<'a> Job for Replications<'a> {
-    ghost answer = { λ job index. summary job.scenario.now ((job.scenario.now.seed + index) % 2 ^ 64)
-        job.scenario.now.journal job.limit };
+    ghost answer = { λ job index. summary job.scenario.now
+        ((job.scenario.now.seed + index) % 2 ^ 64) job.scenario.now.journal job.limit };
 
     ghost keeps = { λ job. IsWithin job.limit };
 

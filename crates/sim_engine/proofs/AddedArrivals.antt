@@ -7,7 +7,7 @@
 --     after_last_arrival, last_arrival_text    what came last comes in
 --     after_last_refusal                       or it came when all units were spent
 --     over_whole, over_summary                 where it is over, it came to what the whole run comes to
-use Rattle.std.proofs.Common.{◌≡◌, ◌≢◌, ◌≤◌, ◌<◌, ℕ, ℤ, zero, suc, ◌+◌, ◌-◌, List, [], ◌∷◌, ◌++◌, length, Bool, true, false, Option, Some, None, refl, sym, ap, ◌∙◌, subst, arith, add-zero}
+use Rattle.std.proofs.Common.{◌≡◌, ◌≢◌, ◌≤◌, ◌<◌, ℕ, ℤ, zero, suc, ◌+◌, ◌-◌, List, [], ◌∷◌, ◌++◌, true, false, None, refl, sym, ap, ◌∙◌, subst, arith, add-zero}
 use Rattle.std.specs.Prelude.{nat_le, nat_lt, if◌then◌else◌}
 use Rattle.std.proofs.lemmas.Bool.{false≢true}
 use Rattle.std.proofs.Math.Nat.{add-suc}
@@ -23,7 +23,7 @@ use Rattle.sim_machine.specs.State.{Control, Idle, Calling, Active, Over, State,
 use Rattle.sim_machine.specs.Effect.{calendar}
 use Rattle.sim_machine.specs.Steps.{TurnFunction}
 use Rattle.sim_machine.specs.Units.{Course, arrive, due_arrival, unit_of}
-use Rattle.sim_machine.specs.Runs.{after_units, end_of, end_by, opening_course}
+use Rattle.sim_machine.specs.Runs.{end_of, end_by, opening_course}
 use Rattle.sim_machine_law.specs.Courses.{Run, course_after}
 use Rattle.sim_machine_law.proofs.JournalLaws.{added, IsNotDue, units_added, unit_processed}
 use Rattle.sim_steps_model.specs.PartsOf.{plan_of}

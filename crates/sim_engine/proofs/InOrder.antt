@@ -1,9 +1,7 @@
 -- Every state of a run is in order.
-use Rattle.std.proofs.Common.{◌≡◌, ◌<◌, ◌≤◌, length, Bool, true, false, ◌||◌, ◌&&◌, not, ◌==◌, if◌then◌else◌, ℕ, ℤ, pos, ◌+ℤ◌, ◌-ℤ◌, List, [], ◌∷◌, refl, sym, ◌∙◌, ap, arith, subst}
-use Rattle.std.proofs.lemmas.Int.{ints}
-use Rattle.std.proofs.lemmas.List.Elements.{All-nil}
-use Rattle.std.specs.Prelude.{All, count_by, IsTrue}
-use Rattle.std.specs.List.{list_any, list_all, AllPass}
+use Rattle.std.proofs.Common.{◌≡◌, Bool, true, false, ◌||◌, ◌&&◌, not, ◌==◌, ℕ, List, [], ◌∷◌, refl, sym, arith, subst}
+use Rattle.std.specs.Prelude.{IsTrue}
+use Rattle.std.specs.List.{list_any, list_all}
 use Rattle.std.proofs.lemmas.Bool.{false≢true, and_parts}
 use Rattle.std.proofs.lemmas.List.Sums.{list_all-from_AllPass}
 use Rattle.sim_types.specs.Scenarios.{ScenarioOf}
@@ -11,13 +9,12 @@ use Rattle.sim_types.specs.declared.event.EventId.{EventId}
 use Rattle.sim_types.specs.declared.event.ProcId.{ProcId}
 use Rattle.sim_types.specs.declared.setup.Arrival.{Arrival}
 use Rattle.sim_types.specs.declared.setup.Resource.{Resource}
-use Rattle.sim_machine.specs.State.{Want, Slot, Give, Take, Waiter, OpenScope, State, Deed, Granted, Released, Preempted, Deposited, Taken, Filled, Drained}
+use Rattle.sim_machine.specs.State.{Want, Slot, Give, Take, Waiter, OpenScope, State}
 use Rattle.sim_machine.specs.Events.{is_same, is_process}
-use Rattle.sim_machine.specs.Users.{resource_at, level_after, change_of_level}
+use Rattle.sim_machine.specs.Users.{resource_at}
 use Rattle.sim_machine.specs.Processes.{is_alive}
-use Rattle.sim_machine.specs.MayAsk.{takes_requests}
 use Rattle.sim_machine.specs.LawfulProcesses.{is_active}
-use Rattle.sim_machine.specs.LawfulWaiting.{has_scope, request_has_scope, is_scope_well}
+use Rattle.sim_machine.specs.LawfulWaiting.{request_has_scope, is_scope_well}
 use Rattle.sim_machine.specs.Lawful.{Lawful}
 use Rattle.sim_machine_law.specs.LawfulRuns.{IsRunOf}
 use Rattle.sim_machine_law.specs.Courses.{Run, course_after}
@@ -26,7 +23,6 @@ use Rattle.sim_machine_law.proofs.ServedFronts.{level_of_amounts}
 use Rattle.sim_machine_law.proofs.WholeRuns.{run_stays_lawful}
 use Rattle.sim_language.specs.WellFormed.{is_well_formed}
 use Rattle.sim_script_model.specs.Scripts.{Script, script_telling}
-use Rattle.sim_script_model.specs.Polls.{script_turn}
 use Rattle.sim_script_law.specs.ScriptMembers.{script_body}
 use Rattle.sim_script_law.specs.SoundScripts.{IsSoundScript}
 use Rattle.sim_script_law.proofs.ScriptLaw.{script_lawful}

@@ -1,29 +1,22 @@
 -- A turn of a session, and an arrival at it, lead on in its run.
-use Rattle.std.proofs.Common.{◌≡◌, ◌≢◌, ◌≤◌, ◌<◌, ◌⊎◌, inl, inr, ℕ, zero, suc, ◌+◌, ◌-◌, List, [], ◌∷◌, ◌++◌, length, take, drop, Bool, true, false, Option, Some, None, refl, sym, ap, ◌∙◌, subst, arith, add-one}
-use Rattle.std.specs.Prelude.{nat_le, nat_lt, is_none, ◌||◌, if◌then◌else◌, unwrap_or, IsTrue}
+use Rattle.std.proofs.Common.{◌≡◌, ◌<◌, ◌⊎◌, inl, inr, ℕ, ◌+◌, ◌-◌, List, [], ◌∷◌, length, take, drop, Bool, true, false, Some, None, refl, sym, ap, ◌∙◌, subst, arith, add-one}
+use Rattle.std.specs.Prelude.{nat_le, nat_lt, ◌||◌, if◌then◌else◌}
 use Rattle.std.proofs.lemmas.Bool.{false≢true, cases_eq}
 use Rattle.std.proofs.lemmas.Bool.Decides.{nat_tests}
 use Rattle.std.proofs.lemmas.List.{take_all}
 use Rattle.sim_types.specs.Scenarios.{ScenarioOf}
-use Rattle.sim_types.specs.declared.line.End.{End}
 use Rattle.sim_types.specs.declared.setup.Arrival.{Arrival}
-use Rattle.sim_machine.specs.State.{Control, Idle, State, Plan}
-use Rattle.sim_machine.specs.Agenda.{due}
+use Rattle.sim_machine.specs.State.{State}
 use Rattle.sim_machine.specs.Effect.{calendar}
-use Rattle.sim_machine.specs.Units.{Course, arrive, due_arrival, unit_of}
-use Rattle.sim_machine.specs.Runs.{end_of, opening, opening_course}
+use Rattle.sim_machine.specs.Units.{Course, arrive, due_arrival}
+use Rattle.sim_machine.specs.Runs.{end_of, opening}
 use Rattle.sim_machine_law.specs.Courses.{Run, course_after}
-use Rattle.sim_steps_model.specs.PartsOf.{PartsOf, IsOpenedAs, plan_of}
-use Rattle.sim_steps_model.specs.Resting.{can_arrive, rest_in}
-use Rattle.sim_steps_model.specs.declared.mode.Rest.{Rest}
-use Rattle.sim_steps_model.specs.declared.mode.Rest.TheVariants as rest
+use Rattle.sim_steps_model.specs.PartsOf.{PartsOf, plan_of}
 use Rattle.sim_script_model.specs.Scripts.{Script}
-use Rattle.sim_script_model.specs.Polls.{script_turn}
 use Rattle.sim_script_law.specs.ScriptMembers.{script_body}
 use Rattle.sim_engine.specs.RunOfScenario.{run_of}
 use Rattle.sim_engine.specs.Sessions.{SessionOf, IsAt, GoesOn, turn_of, takes_arrivals, steps, steps_in, IsBusyBetween, is_processing}
-use Rattle.sim_engine.specs.Rounds.{next_of, IsRefused, StandsInRun}
-use Rattle.sim_engine.specs.declared.runs.Next.{Next}
+use Rattle.sim_engine.specs.Rounds.{next_of, StandsInRun}
 use Rattle.sim_engine.specs.declared.runs.Next.TheVariants as next
 use Rattle.sim_engine.specs.declared.session.Turn.{Turn}
 use Rattle.sim_engine.specs.declared.session.Turn.TheVariants as turn

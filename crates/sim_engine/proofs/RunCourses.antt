@@ -1,15 +1,12 @@
 -- The units of a run between two moments at which nothing is being done.
-use Rattle.std.proofs.Common.{◌≡◌, ◌≤◌, ◌<◌, ℕ, zero, suc, ◌+◌, ◌-◌, List, [], ◌∷◌, Bool, true, false, Option, Some, None, refl, sym, ap, ◌∙◌, subst, arith, add-zero}
-use Rattle.std.specs.Prelude.{nat_le, is_none, ◌&&◌, ◌||◌, if◌then◌else◌}
+use Rattle.std.proofs.Common.{◌≡◌, ◌<◌, ℕ, zero, suc, ◌+◌, List, [], ◌∷◌, true, None, refl, sym, ap, ◌∙◌, subst, arith, add-zero}
 use Rattle.std.proofs.Math.Nat.{add-suc}
 use Rattle.std.proofs.lemmas.Bool.{false≢true}
 use Rattle.sim_types.specs.declared.setup.Arrival.{Arrival}
 use Rattle.sim_machine.specs.State.{Control, Idle, Calling, Active, Over, State}
-use Rattle.sim_machine.specs.Effect.{calendar}
-use Rattle.sim_machine.specs.Agenda.{due}
 use Rattle.sim_machine.specs.Steps.{step_of}
-use Rattle.sim_machine.specs.Units.{Course, due_arrival, unit_of, unit_at}
-use Rattle.sim_machine.specs.Runs.{end_of, end_by}
+use Rattle.sim_machine.specs.Units.{Course, due_arrival, unit_of}
+use Rattle.sim_machine.specs.Runs.{end_of}
 use Rattle.sim_machine_law.specs.Courses.{Run, course_after}
 use Rattle.sim_script_model.specs.Scripts.{Script}
 use Rattle.sim_engine.specs.Sessions.{steps, is_processing}

@@ -1,7 +1,7 @@
 -- Where nothing comes next, the session tells what the whole run comes to.
 use Rattle.std.proofs.Common.{◌≡◌, ◌≤◌, ◌<◌, ◌⊎◌, inl, inr, ℕ, ◌+◌, ◌-◌, List, [], ◌∷◌, length, Bool, true, false, Option, Some, None, refl, sym, ap, ◌∙◌, subst, arith}
-use Rattle.std.specs.Prelude.{nat_lt, nat_le, is_none, if◌then◌else◌, unwrap_or, IsTrue}
-use Rattle.std.proofs.lemmas.Bool.{false≢true, cases_eq}
+use Rattle.std.specs.Prelude.{nat_lt, nat_le, is_none, if◌then◌else◌, unwrap_or}
+use Rattle.std.proofs.lemmas.Bool.{false≢true}
 use Rattle.std.proofs.lemmas.Bool.Decides.{nat_tests}
 use Rattle.std.proofs.lemmas.Option.{none-some}
 use Rattle.sim_types.specs.Scenarios.{ScenarioOf}
@@ -13,7 +13,7 @@ use Rattle.sim_machine.specs.State.{Control, Idle, Calling, Active, Over, State,
 use Rattle.sim_machine.specs.Agenda.{due}
 use Rattle.sim_machine.specs.Effect.{calendar}
 use Rattle.sim_machine.specs.Units.{Course}
-use Rattle.sim_machine.specs.Runs.{empty_end, end_by, end_of, opening_course, summary_of}
+use Rattle.sim_machine.specs.Runs.{empty_end, end_by, end_of, opening_course}
 use Rattle.sim_machine_law.specs.Courses.{Run, course_after}
 use Rattle.sim_machine_law.proofs.MadeUnits.{made_at_most, made_same, made_on, made_whole}
 use Rattle.sim_machine_law.proofs.UnitLaws.{ended_stays_on}
@@ -23,13 +23,11 @@ use Rattle.sim_steps_model.specs.declared.mode.Rest.TheVariants as rest
 use Rattle.sim_script_model.specs.Scripts.{Script}
 use Rattle.sim_script_model.specs.Scenarios.{summary}
 use Rattle.sim_engine.specs.RunOfScenario.{run_of, units_of}
-use Rattle.sim_engine.specs.Sessions.{SessionOf, turn_of, turn_at, IsSettled, ended_at, end_in, report_of}
+use Rattle.sim_engine.specs.Sessions.{SessionOf, turn_of, IsSettled, end_in, report_of}
 use Rattle.sim_engine.specs.Rounds.{next_of, IsRefused, StandsInRun}
-use Rattle.sim_engine.specs.declared.runs.Next.{Next}
 use Rattle.sim_engine.specs.declared.runs.Next.TheVariants as next
-use Rattle.sim_engine.specs.declared.session.Turn.{Turn}
 use Rattle.sim_engine.specs.declared.session.Turn.TheVariants as turn
-use Rattle.sim_engine.proofs.RoundCases.{StandsIdle, stands_idle, stands_empty, waits_on, goes_on_idle}
+use Rattle.sim_engine.proofs.RoundCases.{stands_idle, stands_empty, waits_on, goes_on_idle}
 
 -- ---- how a machine that stands so has ended
 

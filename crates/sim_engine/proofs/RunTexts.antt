@@ -9,7 +9,7 @@ use Rattle.sim_types.specs.declared.line.Line.TheVariants as line
 use Rattle.sim_types.specs.declared.setup.Arrival.{Arrival}
 use Rattle.sim_types.specs.declared.setup.Start.{Start}
 use Rattle.sim_types.specs.declared.line.Summary.{Summary}
-use Rattle.sim_trace.specs.Texts.{line_text, trace_text}
+use Rattle.sim_trace.specs.Texts.{line_text}
 use Rattle.sim_machine.specs.State.{State, Plan}
 use Rattle.sim_machine.specs.Runs.{start_process}
 use Rattle.sim_machine.specs.Units.{arrive}
@@ -22,7 +22,6 @@ use Rattle.sim_script_model.specs.Scenarios.{summary}
 use Rattle.sim_engine.specs.RunOfScenario.{run_of, printed_run}
 use Rattle.sim_engine.specs.Sessions.{SessionOf, GoesOn, turn_of, IsBusyBetween, text_since, text_of_steps}
 use Rattle.sim_engine.specs.Rounds.{next_of, StandsInRun, text_by}
-use Rattle.sim_engine.specs.declared.runs.Next.{Next}
 use Rattle.sim_engine.specs.declared.runs.Next.TheVariants as next
 use Rattle.sim_engine.proofs.StepTexts.{LinesBehind, behind_none, behind_both, text_is, text_behind, trace_append, trace_one}
 use Rattle.sim_engine.proofs.Rounds.{turn_comes_to, arrival_comes_to}

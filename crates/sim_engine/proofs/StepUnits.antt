@@ -1,5 +1,5 @@
 -- A unit of the kernel is a step of the machine, whose line is counted.
-use Rattle.std.proofs.Common.{◌≡◌, ◌≤◌, ℕ, ◌+◌, ℤ, pos, ◌+ℤ◌, List, [], ◌∷◌, ◌++◌, length, refl, sym, ap, ◌∙◌, subst, arith}
+use Rattle.std.proofs.Common.{◌≡◌, ℕ, ◌+◌, ℤ, ◌+ℤ◌, List, [], ◌∷◌, ◌++◌, length, refl, sym, ap, ◌∙◌, subst}
 use Rattle.std.proofs.Math.IntN.{+ℤ_assoc, +ℤ_idl, +ℤ_idr}
 use Rattle.std.proofs.Common.{length-append, add-zero}
 use Rattle.sim_types.specs.Scenarios.{ScenarioOf}
@@ -8,7 +8,6 @@ use Rattle.sim_types.specs.declared.line.Line.TheVariants as line
 use Rattle.sim_machine.specs.State.{State}
 use Rattle.sim_machine.specs.Runs.{logged, total}
 use Rattle.sim_machine.specs.Units.{arrive}
-use Rattle.sim_machine.specs.Steps.{IsStep}
 use Rattle.sim_steps_model.specs.PartsOf.{PartsOf, plan_of}
 use Rattle.sim_steps_model.specs.StandsFor.{StandsFor, LawfulOf, lines_of}
 use Rattle.sim_steps_model.specs.declared.mode.Unit.{Unit}

@@ -1,5 +1,5 @@
 -- Writing to a sink that tells no bytes.
-use Rattle.std.proofs.Common.{◌≡◌, ℕ, List, [], append-nil, refl, arith, Option, None, Ok, true}
+use Rattle.std.proofs.Common.{◌≡◌, ℕ, List, [], append-nil, refl, arith, None, Ok, true}
 use Rattle.sim_outside.specs.declared.fault.Failed.{Failed}
 use Rattle.sim_outside.specs.Writes.{SinkOf, Writes}
 

@@ -272,6 +272,10 @@ impl Session {
             (self.new.units - self.old.units) t) }
         ensures unflushed { IsUnflushed (K.tells out.old) (K.tells out.new) }
     {
+        if self.kernel.unit_quietly(scenario) {
+            self.units += 1;
+            return Ok(());
+        }
         let unit = self.kernel.unit(scenario)?;
         self.units += 1;
         match unit {
@@ -286,8 +290,10 @@ impl Session {
     /// Counts a line that the last unit gave, and writes it.
     fn tell<K: Sink>(&mut self, line: &Line, scenario: &Scenario, out: &mut K) -> Result<(), Failed>
         requires one_less { self.old.logs < self.old.units }
-        ensures logs { self.new ≡ record self.old
-            { logs = self.old.logs + length (logged (line.now ∷ [])); total = self.old.total +ℤ total (logged (line.now ∷ [])) } }
+        ensures logs { self.new ≡ record self.old {
+          logs = self.old.logs + length (logged (line.now ∷ []));
+          total = self.old.total +ℤ total (logged (line.now ∷ []));
+        } }
         ensures writes { Writes (λ _. true) (K.tells out.old) (K.tells out.new) result
             (line_text scenario.now.port_names line.now) }
         ensures unflushed { IsUnflushed (K.tells out.old) (K.tells out.new) }

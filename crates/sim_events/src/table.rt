@@ -90,6 +90,7 @@ fn add(index: &mut Index, slots: &mut Slab<Slot>, slot: Slot) -> EventId
 }
 
 // An event goes where it is not to be kept any more, with its callbacks and what it has as a condition.
+#[inline(always)]
 fn forget_unneeded(index: &mut Index, store: &mut Store, event: EventId, key: usize)
     requires store { IsStore store.old }
     requires placed { ArePlaced index.old.places store.old.slots }

@@ -11,6 +11,7 @@ use sim_types::EventId;
 
 impl Happen {
     // Whether an event is a condition that goes where it has one holder fewer, so that its members have one fewer too.
+    #[inline(always)]
     fn goes_with_members(&self, event: EventId) -> bool
         requires kept { IsKept self.now.events event }
         ensures stays { IsFalse result → (let k = kept_at self.now.events event in

@@ -62,6 +62,17 @@ pub(crate) fn position(entries: &[Entry], guesses: Guesses, number: u64) -> Opti
     search(entries, number).ok()
 }
 
+/// The same, for a number that mostly is the one that was sought last.
+pub(crate) fn position_again(entries: &[Entry], guesses: Guesses, number: u64) -> Option<usize>
+    requires { NumbersRise entries.now }
+    ensures { FindsNumber entries.now number result }
+{
+    if is_at(entries, number, guesses.sought) {
+        return Some(guesses.sought);
+    }
+    position(entries, guesses, number)
+}
+
 // The position of the entry of a number, or the one where it would stand.
 fn search(entries: &[Entry], number: u64) -> Result<usize, usize>
     requires { NumbersRise entries.now }

@@ -1,7 +1,9 @@
 ghost use Rattle.std.specs.Prelude.{◌≡◌, ◌+◌, ◌-◌, ◌<◌, ◌≤◌, ◌^◌, [], length, Some, None, IsSome, is_some, IsOk, OnOk, count_by, slice_set};
 ghost use Rattle.sim_index.specs.IndexOf.{place_of_number, with_number};
 
-use crate::entries::{Entry, GONE, Guesses, compact, compact_if_full, position, put};
+use crate::entries::{
+    Entry, GONE, Guesses, compact, compact_if_full, position, position_again, put,
+};
 use std::alloc::{AllocError, Global};
 use std::marker::Model;
 
@@ -110,7 +112,7 @@ impl Index {
         ensures place { result ≡ place_of_number number self.old.places }
         ensures same { self.new ≡ self.old }
     {
-        match position(self.entries.as_slice(), self.guesses, number) {
+        match position_again(self.entries.as_slice(), self.guesses, number) {
             Some(at) => {
                 self.guesses.sought = at;
                 self.entries[at].known_place()

@@ -1,5 +1,5 @@
 -- What holds of every kernel holds of one that was opened.
-use Rattle.std.proofs.Common.{◌≡◌, ◌+◌, ◌*◌, ◌≤◌, List, [], ◌∷◌, length, refl, ap, arith}
+use Rattle.std.proofs.Common.{◌≡◌, ◌+◌, ◌*◌, ◌≤◌, List, [], ◌∷◌, length, refl, arith}
 use Rattle.std.specs.Prelude.{fold}
 use Rattle.sim_types.specs.declared.setup.Start.{Start}
 use Rattle.sim_machine.specs.State.{Plan, State}

@@ -1,11 +1,12 @@
 //! A kernel stands for a lawful state of the machine, and makes one unit of it at a time.
-ghost use Rattle.std.specs.Prelude.{◌≡◌, ◌+◌, ◌<◌, ◌^◌, length, IfOk, OnOk, OnErr};
+ghost use Rattle.std.specs.Prelude.{◌≡◌, ◌+◌, ◌<◌, ◌^◌, length, IfOk, OnOk, OnErr, IsFalse, IsTrue};
 ghost use Rattle.sim_machine.specs.Setups.{FitsCode};
 ghost use Rattle.sim_machine.specs.Runs.{opening};
 ghost use Rattle.sim_machine.specs.State.{State};
 ghost use Rattle.sim_steps_model.specs.PartsOf.{IsOpenedAs, plan_of};
 ghost use Rattle.sim_steps_model.specs.Resting.{CanArrive, CanStep, rest_in};
 ghost use Rattle.sim_steps_model.specs.StandsFor.{IsLawfulOpening, StandsFor, StandsForOpening};
+ghost use Rattle.sim_steps_model.specs.declared.mode.Unit.TheVariants as unit;
 ghost use Rattle.sim_kernel.specs.Accounting.{HasAccounts, kept_of};
 ghost use Rattle.sim_kernel.specs.Arriving.{MakesArrival};
 ghost use Rattle.sim_kernel.specs.KernelOf.{IsAsBefore};
@@ -77,6 +78,7 @@ impl<B: Body> Kernel<B> {
 
     /// Makes one unit: an event is popped, a callback is called, an event is settled, or a process is polled. All memory
     /// is taken first.
+    #[inline(always)]
     pub fn unit(&mut self, code: &B::Code) -> Result<Unit, AllocError>
         requires code { code.now ≡ self.old.parts.code }
         requires can { CanStep self.old.parts }
@@ -88,17 +90,34 @@ impl<B: Body> Kernel<B> {
         ensures units { OnOk result (self.new.units ≡ self.old.units + 1) }
         ensures err { OnErr result (IsAsBefore self.old self.new) }
     {
-        // Most statements of a script ask for nothing, and then no room is needed.
-        if self.parts.unit_quietly(code) {
-            let _kept = self.parts.slots();
-            self.units += 1;
-            return Ok(Unit::Quiet);
-        }
         self.parts.reserve_for_next(code)?;
         let unit = self.parts.unit(code);
         let _kept = self.parts.slots();
         self.units += 1;
         Ok(unit)
+    }
+
+    /// Makes the unit in which the running process asks for nothing, where its body can tell so beforehand, as it can of most
+    /// statements of a script. The answer is whether it was made: else all is as before. It takes no memory. `unit` makes such
+    /// a unit too, so whoever makes units may leave this out; it is there for speed.
+    #[inline(always)]
+    pub fn unit_quietly(&mut self, code: &B::Code) -> bool
+        requires code { code.now ≡ self.old.parts.code }
+        requires units { self.old.units < 2 ^ 32 }
+        // From each lawful state that it stood for, and by the invariant there is one.
+        ensures steps { IsTrue result
+            → MakesStep B.body self.old.parts unit.Quiet self.new.parts }
+
+        ensures opened { IsOpenedAs self.old.parts self.new.parts }
+        ensures units { IsTrue result → self.new.units ≡ self.old.units + 1 }
+        ensures kept { IsFalse result → self.new ≡ self.old }
+    {
+        if !self.parts.unit_quietly(code) {
+            return false;
+        }
+        let _kept = self.parts.slots();
+        self.units += 1;
+        true
     }
 
     /// A value comes in by a port: a process of the port's kind is made, which begins with it. This is a unit too. All

@@ -1,5 +1,5 @@
 -- A step on one lane keeps the rule of the table.
-use Rattle.std.proofs.Common.{◌≡◌, ◌≢◌, ℕ, zero, suc, ◌+◌, ◌*◌, ◌<◌, ◌≤◌, Bool, true, false, cond, eqb, eq-eqb, ne_eqb, List, [], ◌∷◌, ◌++◌, length, get_or, set, Option, Some, None, rules, sym, refl, ap, ◌∙◌, subst, arith, length-append, ◌⊎◌, ⊎_elim, inl, inr, lt_of_not-le}
+use Rattle.std.proofs.Common.{◌≡◌, ◌≢◌, ℕ, zero, suc, ◌+◌, ◌<◌, ◌≤◌, Bool, true, false, cond, eqb, eq-eqb, ne_eqb, List, [], ◌∷◌, length, get_or, set, rules, sym, refl, ap, ◌∙◌, subst, arith, ⊎_elim, lt_of_not-le}
 use Rattle.std.proofs.lemmas.List.{length-set, get_or-set_same, get_or-set_other}
 use mathlib.Core.Option.{some}
 use mathlib.Core.Logic.{dite}
@@ -7,7 +7,6 @@ use native.Mathlib.Decide.{dec_le, ℕ_discrete}
 use lib.ListN.{get_elem?}
 use Rattle.atomic_table.specs.Table.{State}
 use Rattle.atomic_table.proofs.Lists.{at_set}
-use Rattle.sim_types.specs.declared.setup.Post.{Post}
 use Rattle.sim_lanes.specs.Places.{width, lane_at, end_of}
 use Rattle.sim_lanes.specs.Views.{new_lane, lane}
 use Rattle.sim_lanes.specs.LaneRule.{OneLane}

@@ -1,14 +1,13 @@
 -- Each kind of step on a word of a lane is allowed: it keeps the rule, and tells its seat what its play says.
-use Rattle.std.proofs.Common.{◌≡◌, ◌≢◌, ℕ, ℤ, zero, suc, ◌+◌, ◌*◌, ◌<◌, ◌≤◌, ◌^◌, List, [], ◌∷◌, ◌++◌, length, get_or, set, Option, Some, None, rules, sym, refl, ap, ◌∙◌, subst, arith, length-append, to_z, w64, ◌⊎◌, ⊎_elim, inl, inr}
-use Rattle.std.proofs.lemmas.List.{length-set, get_or-set_same, get_or-set_other, set-get_or}
+use Rattle.std.proofs.Common.{◌≡◌, ℕ, ℤ, ◌+◌, ◌<◌, ◌^◌, List, length, get_or, set, Option, Some, None, sym, refl, ap, ◌∙◌, subst, arith, length-append, to_z, w64, ◌⊎◌, ⊎_elim, inl, inr}
+use Rattle.std.proofs.lemmas.List.{get_or-set_same, get_or-set_other, set-get_or}
 use mathlib.Core.Option.{some, none}
 use lib.ListN.{get_elem?}
-use Rattle.atomic_table.specs.Table.{State, Me, Step, step, Act, keeps, Allows}
+use Rattle.atomic_table.specs.Table.{State, Me, Step, step, keeps, Allows}
 use Rattle.atomic_table.specs.Seated.{TableId}
-use Rattle.sim_types.specs.declared.setup.Post.{Post}
-use Rattle.sim_lanes.specs.Places.{cell, width, lane_at, end_of}
+use Rattle.sim_lanes.specs.Places.{cell, lane_at, end_of}
 use Rattle.sim_lanes.specs.Views.{lane, of_poster, lanes_of, posters_of, knowing, IsPoster, IsTaker}
-use Rattle.sim_lanes.specs.Steps.{AreKnown, saw_head, wrote_port, wrote_value, posted_next, saw_tail, read_port, read_value, took_next, HasRoom, HasWaiting, HeadFound, TailFound}
+use Rattle.sim_lanes.specs.Steps.{AreKnown, saw_head, wrote_port, wrote_value, posted_next, saw_tail, read_port, read_value, took_next, HasRoom, HasWaiting, TailFound}
 use Rattle.sim_lanes.specs.LaneRule.{OneLane}
 use Rattle.sim_lanes.specs.LanesRule.{Lanes, FitsLane}
 use Rattle.sim_lanes.specs.Plays.{next_cell, SeesHead, WritesPort, WritesValue, Posts, SeesTail, ReadsPort, ReadsValue, Takes}

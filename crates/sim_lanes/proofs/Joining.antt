@@ -1,5 +1,5 @@
 -- The joins of a close, and what is left.
-use Rattle.std.proofs.Common.{◌≡◌, ◌≢◌, ℕ, zero, suc, ◌+◌, ◌-◌, ◌<◌, ◌≤◌, List, [], ◌∷◌, ◌++◌, length, drop, get_or, map, Option, Some, None, rules, sym, refl, ap, ◌∙◌, subst, arith, append_assoc}
+use Rattle.std.proofs.Common.{◌≡◌, ◌≢◌, ℕ, zero, suc, ◌+◌, ◌<◌, ◌≤◌, List, [], ◌∷◌, ◌++◌, length, drop, get_or, map, Option, Some, None, rules, sym, refl, ap, ◌∙◌, subst, arith, append_assoc}
 use Rattle.std.proofs.lemmas.List.{append-nil, length-append, length-map, length-set}
 use Rattle.std.proofs.Math.ListN.{get_or-map}
 use mathlib.Core.Logic.{dite}
@@ -8,7 +8,6 @@ use Rattle.std.specs.Prelude.{slice_get}
 use Rattle.atomic_table.specs.Table.{Me}
 use Rattle.atomic_table.specs.Seated.{TableId}
 use Rattle.sim_types.specs.declared.setup.Post.{Post}
-use Rattle.sim_inbox.specs.declared.taken.Taken.{Taken}
 use Rattle.sim_inbox.specs.Lists.{Begins, untaken}
 use Rattle.sim_inbox.proofs.Untaken.{untaken_same}
 use Rattle.sim_lanes.specs.Views.{new_lane, lane}

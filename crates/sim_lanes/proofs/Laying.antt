@@ -1,5 +1,5 @@
 -- Where an opening lays the lanes, and the ends that it makes.
-use Rattle.std.proofs.Common.{◌≡◌, ◌≢◌, ℕ, zero, suc, ◌+◌, ◌*◌, ◌<◌, ◌≤◌, ◌^◌, List, [], ◌∷◌, ◌++◌, length, take, get_or, Option, Some, None, rules, sym, refl, ap, ◌∙◌, subst, arith, ◌⊎◌, ⊎_elim, inl, inr}
+use Rattle.std.proofs.Common.{◌≡◌, ◌≢◌, ℕ, zero, suc, ◌+◌, ◌<◌, ◌≤◌, ◌^◌, List, [], ◌∷◌, ◌++◌, length, take, get_or, Some, None, rules, sym, refl, ap, ◌∙◌, subst, arith, ◌⊎◌, ⊎_elim, inl, inr}
 use Rattle.std.proofs.lemmas.List.{length-append, take_more}
 use mathlib.Core.Logic.{dite}
 use native.Mathlib.Decide.{ℕ_discrete}
@@ -9,7 +9,7 @@ use Rattle.atomic_table.specs.Table.{Me, Splits}
 use Rattle.atomic_table.specs.Seated.{TableId}
 use Rattle.sim_types.specs.declared.setup.Post.{Post}
 use Rattle.sim_lanes.specs.Places.{end_of, lane_at, width}
-use Rattle.sim_lanes.specs.Views.{new_poster, new_lane, lane, lanes_from, posters_of}
+use Rattle.sim_lanes.specs.Views.{new_poster, lane, lanes_from}
 use Rattle.sim_lanes.specs.LanesRule.{Lanes}
 use Rattle.sim_lanes.specs.Plays.{split_off, next_poster}
 use Rattle.sim_lanes.specs.Ends.{PosterOf, KnowsLane, IsPosting, IsTaking, no_end, inbox_of, taker_of, taken_of, posted_of, AreInOrder}

@@ -1,5 +1,5 @@
 -- The steps of the taker are allowed, and what a take of one lane makes of them.
-use Rattle.std.proofs.Common.{◌≡◌, ◌≢◌, ℕ, ℤ, suc, ◌+◌, ◌*◌, ◌<◌, ◌≤◌, ◌^◌, List, [], ◌∷◌, ◌++◌, length, get_or, set, Option, Some, None, subst, sym, refl, ap, ◌∙◌, arith}
+use Rattle.std.proofs.Common.{◌≡◌, ◌≢◌, ℕ, ℤ, ◌+◌, ◌<◌, ◌≤◌, List, [], ◌∷◌, ◌++◌, length, get_or, set, Option, Some, None, subst, sym, refl, ap, ◌∙◌, arith}
 use Rattle.std.proofs.lemmas.List.{append-nil, length-set, get_or-set_same, get_or-set_other, length-append, get_or_read_under}
 use mathlib.Core.Option.{none}
 use mathlib.Core.Logic.{dite}
@@ -12,7 +12,7 @@ use Rattle.sim_lanes.specs.Places.{width}
 use Rattle.sim_lanes.specs.Views.{new_lane, lane, lanes_of, knowing}
 use Rattle.sim_lanes.specs.Steps.{AreKnown, HasWaiting, TailFound, post_of, saw_tail, read_port, read_value, took_next}
 use Rattle.sim_lanes.specs.Plays.{next_cell, SeesTail, ReadsPort, ReadsValue, Takes}
-use Rattle.sim_lanes.specs.Ends.{TakerOf, taker_of, taken_of, with_lane, IsTaking, IsEndOf, KnowsLane, no_end}
+use Rattle.sim_lanes.specs.Ends.{TakerOf, taker_of, taken_of, with_lane, IsTaking, KnowsLane, no_end}
 use Rattle.sim_lanes.specs.Takes.{SameElsewhere, TookFrom, FoundNone}
 use Rattle.sim_lanes.specs.declared.lane_end.LaneEnd.{LaneEnd}
 use Rattle.sim_lanes.specs.declared.view.LaneView.{LaneView}

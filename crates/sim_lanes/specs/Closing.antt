@@ -1,5 +1,5 @@
 -- The joins of a close.
-use Rattle.std.specs.Prelude.{◌≡◌, ◌≢◌, ℕ, ◌<◌, List, [], map, length, slice_index_or, Option, Some, None}
+use Rattle.std.specs.Prelude.{◌≡◌, ℕ, ◌<◌, List, [], map, length, slice_index_or, Option, Some, None}
 use Rattle.sim_types.specs.declared.setup.Post.{Post}
 use Rattle.sim_lanes.specs.Views.{lane}
 use Rattle.sim_lanes.specs.Ends.{TakerOf, taken_of}

@@ -79,8 +79,10 @@ impl LanePoster {
     /// Whether as many posts wait as there are cells, where so many are taken.
     fn is_full(&self, taken: u64) -> bool
         requires { HeadFound self.now.knows taken }
-        ensures full { result ≡ true → length (posted_of self.now) ≡ taken + self.now.knows.capacity }
-        ensures room { result ≡ false → length (posted_of self.now) < taken + self.now.knows.capacity }
+        ensures full { result ≡ true
+            → length (posted_of self.now) ≡ taken + self.now.knows.capacity }
+        ensures room { result ≡ false
+            → length (posted_of self.now) < taken + self.now.knows.capacity }
     {
         self.end.count - taken == self.end.capacity
     }

@@ -2,34 +2,30 @@
 --     answers_none              memory was wanting before anything was written
 --     answers_flushed           what was written was flushed, or the flush failed
 --     whole_answer, prefix_answer, none_begun      the same of the text that was read
-use Rattle.std.proofs.Common.{◌≡◌, ◌<◌, ℕ, ◌+◌, Bool, true, false, List, [], ◌∷◌, ◌++◌, length, map, refl, sym, ap, ◌∙◌, subst, Option, Some, Result, Ok, Err}
+use Rattle.std.proofs.Common.{◌≡◌, ◌<◌, ℕ, ◌+◌, true, false, List, [], length, map, refl, sym, ap, ◌∙◌, subst, Option, Some, Result, Ok, Err}
 use Rattle.std.specs.Prelude.{IfSome, IsErrAnd, IsTrue, pos}
 use Rattle.std.specs.Io.KnownBytes.{Keeps}
-use Rattle.std.proofs.KnownBytes.{Appends-nil}
 use Rattle.std.proofs.lemmas.List.{get_or-map, length-map}
 use Rattle.std.proofs.lemmas.List.Elements.{All-from_get_or}
 use Rattle.sim_types.specs.Limits.{most_bytes}
 use Rattle.sim_types.specs.Scenarios.{ScenarioOf}
 use Rattle.sim_types.specs.declared.fault.Fault.{Fault}
 use Rattle.sim_types.specs.declared.setup.Arrival.{Arrival}
-use Rattle.sim_types.specs.declared.line.End.{End}
 use Rattle.sim_command.specs.declared.status.Status.{Status}
-use Rattle.sim_command.specs.declared.status.Status.TheVariants as status
 use Rattle.sim_language.specs.WellFormed.{is_well_formed}
 use Rattle.sim_language_law.proofs.WellFormedTexts.{read_well_formed}
 use Rattle.sim_outside.specs.declared.fault.Failed.{Failed}
 use Rattle.sim_outside.specs.Causes.{HasCause}
 use Rattle.sim_outside.specs.Reads.{TakesFirst}
-use Rattle.sim_outside.specs.Writes.{AppendsPrefix, SinkOf}
+use Rattle.sim_outside.specs.Writes.{SinkOf}
 use Rattle.sim_outside.proofs.Written.{none_written, then_flushed, then_unflushed}
-use Rattle.sim_inbox.specs.declared.taken.Taken.{Taken}
 use Rattle.sim_trace.specs.Texts.{fault_text}
 use Rattle.sim_engine.specs.declared.fault.EngineFault.{EngineFault}
 use Rattle.sim_engine.specs.declared.fault.EngineFault.TheVariants as fault
 use Rattle.sim_engine.specs.EngineFaults.{is_write}
 use Rattle.sim_engine.specs.Rounds.{HavePorts}
 use Rattle.sim_engine.proofs.InOrder.{in_order}
-use Rattle.sim_answers.specs.Endings.{is_whole, status_of_end}
+use Rattle.sim_answers.specs.Endings.{is_whole}
 use Rattle.sim_answers.specs.Readings.{read_of}
 use Rattle.sim_answers.proofs.Endings.{end_whole}
 use Rattle.sim_answers.proofs.TakenTexts.{text_of, text_told, same_reading}

@@ -4,7 +4,7 @@
 --     next_left         the journal with the next one
 --     fronts_at         what has come in by now are fronts of the sections
 --     sections_at       all of it has come in
-use Rattle.std.proofs.Common.{◌≡◌, ◌⊎◌, inl, inr, ℕ, suc, ◌+◌, ◌<◌, ◌≤◌, List, [], ◌∷◌, ◌++◌, length, map, take, drop, Some, refl, sym, ap, ◌∙◌, subst, append_assoc, append-nil}
+use Rattle.std.proofs.Common.{◌≡◌, ◌⊎◌, inl, inr, ℕ, suc, ◌+◌, ◌<◌, ◌≤◌, List, [], ◌∷◌, ◌++◌, length, map, take, drop, Some, sym, ap, ◌∙◌, append_assoc, append-nil}
 use Rattle.std.specs.Prelude.{slice_get, slice_index_or, IsTrue}
 use Rattle.std.proofs.lemmas.List.{map-append, take_all, take_more, take-append-drop}
 use Rattle.std.proofs.lemmas.Option.{slice_get-get_or}
@@ -14,7 +14,7 @@ use Rattle.sim_language.specs.WellFormed.{is_well_formed, never_falls}
 use Rattle.sim_inbox.specs.declared.taken.Taken.{Taken}
 use Rattle.sim_inbox.specs.Lists.{entries_by, numbered}
 use Rattle.sim_inbox.proofs.Lists.{entries_append}
-use Rattle.sim_live.specs.Journals.{KeepsFronts, KeepsSections, IsFront, arrival_of, post_of, posts_by, section}
+use Rattle.sim_live.specs.Journals.{KeepsFronts, KeepsSections, arrival_of, post_of, posts_by, section}
 use Rattle.sim_live.proofs.Fronts.{front_by, item_parts}
 use Rattle.sim_live.proofs.LeftPosts.{left_is_posted}
 use Rattle.sim_live.proofs.Sections.{port_to_post}

@@ -3,11 +3,11 @@
 --     told_next         it still tells what was taken
 --     fronts_of         what was taken are fronts
 --     falls_next        `after` never falls, where the last entry came in by now
-use Rattle.std.proofs.Common.{◌≡◌, ◌≢◌, ℕ, zero, suc, ◌+◌, ◌<◌, ◌≤◌, ◌⊎◌, inl, inr, Bool, true, false, List, [], ◌∷◌, ◌++◌, length, map, drop, Some, refl, sym, ap, ◌∙◌, subst, arith}
+use Rattle.std.proofs.Common.{◌≡◌, ◌≢◌, ℕ, ◌+◌, ◌≤◌, ◌⊎◌, inl, inr, Bool, true, false, List, [], ◌∷◌, ◌++◌, length, map, drop, Some, refl, sym, ap, ◌∙◌, subst, arith}
 use Rattle.std.specs.Prelude.{slice_get, nat_le, ◌&&◌, All, IsTrue}
 use Rattle.std.proofs.lemmas.Bool.Decides.{nat_tests}
 use Rattle.std.proofs.lemmas.Bool.{cases_eq}
-use Rattle.std.proofs.lemmas.List.{append-nil, length-append, map-append}
+use Rattle.std.proofs.lemmas.List.{map-append}
 use Rattle.std.proofs.lemmas.List.Elements.{All-append, All-cons, All-head, All-nil, All-tail}
 use Rattle.sim_types.specs.Scenarios.{ScenarioOf}
 use Rattle.sim_types.specs.declared.setup.Arrival.{Arrival}
@@ -16,7 +16,7 @@ use Rattle.sim_language.specs.WellFormed.{never_falls}
 use Rattle.sim_inbox.specs.declared.taken.Taken.{Taken}
 use Rattle.sim_inbox.specs.Lists.{entry, numbered, entries_by, Begins, IsTaken}
 use Rattle.sim_inbox.proofs.Lists.{numbered_snoc, numbered_append, entries_own, entries_other}
-use Rattle.sim_live.specs.Journals.{post_of, arrival_of, posts_by, section, IsFront, KeepsFronts}
+use Rattle.sim_live.specs.Journals.{post_of, arrival_of, posts_by, section, IsFront}
 use Rattle.sim_live.proofs.Fronts.{front_by, begins_next, begins_item}
 
 -- ---- one entry more

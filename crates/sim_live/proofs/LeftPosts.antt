@@ -1,7 +1,7 @@
 -- What is left once all posters have ended.
 --     left_completes       with what was taken of a poster it is all that it posts
 --     left_is_posted       each is a post of the section of its poster, with its serial
-use Rattle.std.proofs.Common.{◌≡◌, ◌≢◌, ℕ, zero, suc, ◌+◌, ◌<◌, ◌≤◌, List, [], ◌∷◌, ◌++◌, length, map, take, drop, Some, refl, sym, ap, ◌∙◌, subst, arith, append_assoc}
+use Rattle.std.proofs.Common.{◌≡◌, ℕ, zero, suc, ◌+◌, ◌<◌, List, [], ◌∷◌, ◌++◌, length, map, drop, Some, refl, sym, ap, ◌∙◌, subst, arith, append_assoc}
 use Rattle.std.specs.Prelude.{slice_get, slice_index_or}
 use Rattle.std.proofs.Math.Seq.{drop-nil}
 use Rattle.std.proofs.lemmas.List.{append-nil}
@@ -9,7 +9,7 @@ use Rattle.sim_types.specs.Scenarios.{ScenarioOf}
 use Rattle.sim_types.specs.declared.setup.Arrival.{Arrival}
 use Rattle.sim_types.specs.declared.setup.Post.{Post}
 use Rattle.sim_inbox.specs.declared.taken.Taken.{Taken}
-use Rattle.sim_inbox.specs.Lists.{entry, numbered, entries_by, Begins, untaken}
+use Rattle.sim_inbox.specs.Lists.{numbered, entries_by, Begins, untaken}
 use Rattle.sim_inbox.proofs.Lists.{numbered_append, entries_append, entries_first, entries_numbered, entries_not_numbered}
 use Rattle.sim_live.specs.Journals.{posts_by, section}
 

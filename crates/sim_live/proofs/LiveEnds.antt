@@ -3,8 +3,8 @@
 --     lines_written     the lines of its units were written
 --     runs_cut          a prefix of the text of that run was written
 --     runs_whole        the whole was
-use Rattle.std.proofs.Common.{◌≡◌, ◌≢◌, ◌≤◌, ℕ, ◌+◌, ◌-◌, List, [], ◌∷◌, ◌++◌, Bool, true, false, refl, sym, ap, ◌∙◌, subst, arith, append_assoc, append-nil, Result, Ok, Err}
-use Rattle.std.specs.Prelude.{IsErrAnd, IsTrue, OnOk, IfOk}
+use Rattle.std.proofs.Common.{◌≡◌, ◌≢◌, ◌≤◌, ℕ, List, [], ◌++◌, refl, sym, ap, ◌∙◌, subst, append_assoc, append-nil, Result, Ok, Err}
+use Rattle.std.specs.Prelude.{IsErrAnd, OnOk, IfOk}
 use Rattle.sim_types.specs.Scenarios.{ScenarioOf}
 use Rattle.sim_types.specs.declared.line.End.{End}
 use Rattle.sim_types.specs.declared.line.Summary.{Summary}
@@ -13,17 +13,14 @@ use Rattle.sim_outside.specs.Writes.{SinkOf, Writes}
 use Rattle.sim_outside.proofs.Written.{as_failed, as_well, both_written, cut_behind, none_to_write, none_written, told_err}
 use Rattle.sim_language_law.specs.Sections.{CanBeJournal}
 use Rattle.sim_trace.specs.Texts.{journal_text, trace_text}
-use Rattle.sim_machine_law.specs.Courses.{course_after}
 use Rattle.sim_script_model.specs.Scenarios.{summary}
 use Rattle.sim_engine.specs.declared.fault.EngineFault.{EngineFault}
 use Rattle.sim_engine.specs.declared.fault.EngineFault.TheVariants as fault
-use Rattle.sim_engine.specs.declared.session.Turn.{Turn}
 use Rattle.sim_engine.specs.declared.session.Turn.TheVariants as turn
 use Rattle.sim_engine.specs.declared.report.Report.{Report}
 use Rattle.sim_engine.specs.EngineFaults.{is_write}
-use Rattle.sim_engine.specs.RunOfScenario.{run_of, printed_run}
 use Rattle.sim_engine.specs.Rounds.{text_by}
-use Rattle.sim_engine.specs.Sessions.{turn_of, takes_arrivals, report_of}
+use Rattle.sim_engine.specs.Sessions.{turn_of, report_of}
 use Rattle.sim_engine.proofs.AddedArrivals.{over_whole, over_summary}
 use Rattle.sim_engine.proofs.RunTexts.{end_text, text_before, text_front, text_rest, text_told}
 use Rattle.sim_live.specs.Journals.{KeepsSections, KeepsFronts}

@@ -1,6 +1,6 @@
 -- A live run goes on by turns and arrivals, and stands where the machine does on its journal.
-use Rattle.std.proofs.Common.{◌≡◌, ◌≢◌, ◌≤◌, ◌<◌, ◌⊎◌, inl, inr, ℕ, ℤ, ◌+◌, ◌-◌, List, [], ◌∷◌, ◌++◌, length, Bool, true, false, refl, sym, ap, ◌∙◌, subst, arith, append-nil, w64, to_z, of_z, FitsSigned, Ok}
-use Rattle.std.specs.Prelude.{int_le, nat_le, nat_lt, if◌then◌else◌, Result, IsTrue}
+use Rattle.std.proofs.Common.{◌≡◌, ◌≤◌, ◌<◌, ℕ, ℤ, ◌+◌, ◌-◌, List, [], ◌∷◌, ◌++◌, Bool, true, false, refl, sym, ap, ◌∙◌, subst, arith, w64, to_z, of_z, FitsSigned, Ok}
+use Rattle.std.specs.Prelude.{int_le, nat_lt, if◌then◌else◌, Result, IsTrue}
 use Rattle.std.proofs.lemmas.Bool.{false≢true, and_from}
 use Rattle.std.proofs.lemmas.Int.{ints, to_z-of_z}
 use Rattle.std.proofs.lemmas.Bool.Decides.{nat_tests}
@@ -24,11 +24,10 @@ use Rattle.sim_script_model.specs.Scripts.{Script}
 use Rattle.sim_script_law.specs.ScriptMembers.{script_body}
 use Rattle.sim_inbox.specs.declared.taken.Taken.{Taken}
 use Rattle.sim_engine.specs.declared.fault.EngineFault.{EngineFault}
-use Rattle.sim_engine.specs.declared.session.Turn.{Turn}
 use Rattle.sim_engine.specs.declared.session.Turn.TheVariants as turn
 use Rattle.sim_engine.specs.EngineFaults.{is_write}
 use Rattle.sim_engine.specs.RunOfScenario.{run_of}
-use Rattle.sim_engine.specs.Rounds.{StandsInRun, text_by}
+use Rattle.sim_engine.specs.Rounds.{StandsInRun}
 use Rattle.sim_engine.specs.Sessions.{SessionOf, IsAt, GoesOn, IsBusyBetween, IsSettled, steps_in, takes_arrivals, text_of_steps, turn_of}
 use Rattle.sim_engine.proofs.AddedArrivals.{processed_later, stands_added, text_added, idle_turn_text, after_idle_turn, last_arrival_text, after_last_arrival, after_last_refusal}
 use Rattle.sim_engine.proofs.Rounds.{at_opening}

@@ -1,5 +1,5 @@
 -- In so many units at most so many events are processed.
-use Rattle.std.proofs.Common.{◌≡◌, ◌≤◌, ℕ, zero, suc, ◌+◌, List, [], ◌∷◌, Option, Some, None, refl, ◌∙◌, arith}
+use Rattle.std.proofs.Common.{◌≡◌, ◌≤◌, ℕ, zero, suc, ◌+◌, List, [], ◌∷◌, Option, Some, None, refl, arith}
 use Rattle.std.specs.Prelude.{fold}
 use Rattle.sim_types.specs.declared.event.Entry.{Entry}
 use Rattle.sim_types.specs.declared.event.ProcId.{ProcId}
@@ -11,8 +11,8 @@ use Rattle.sim_machine.specs.Agenda.{due}
 use Rattle.sim_machine.specs.Effect.{calendar}
 use Rattle.sim_machine.specs.Processes.{process_at, with_body}
 use Rattle.sim_machine.specs.Steps.{TurnFunction, poll_if_any, pop_if_any, step_at}
-use Rattle.sim_machine.specs.Units.{Course, due_arrival, unit_at, unit_of}
-use Rattle.sim_machine.specs.Runs.{after_units, blank_state, opening, opening_course, start_process}
+use Rattle.sim_machine.specs.Units.{Course, due_arrival, unit_at}
+use Rattle.sim_machine.specs.Runs.{after_units, blank_state, opening_course, start_process}
 use Rattle.sim_machine_law.specs.Courses.{Run, course_after}
 use Rattle.sim_machine_law.proofs.JournalLaws.{call_or_settle_processed, effect_processed}
 

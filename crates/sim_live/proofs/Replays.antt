@@ -2,24 +2,22 @@
 --     each_posted      each entry is a post of its poster, with its serial
 --     can_be           the journal can be one of the scenario
 --     says_again       the lines in front of the posters, and this journal
-use Rattle.std.proofs.Common.{◌≡◌, ◌<◌, ◌≤◌, ◌^◌, ℕ, zero, suc, ◌+◌, Bool, true, List, [], ◌∷◌, ◌++◌, length, map, take, drop, Some, Result, Ok, refl, sym, ap, ◌∙◌, subst, arith}
-use Rattle.std.specs.Prelude.{◌&&◌, nat_le, nat_lt, pos, slice_get, slice_index_or, All, IsTrue}
+use Rattle.std.proofs.Common.{◌≡◌, ◌<◌, ◌≤◌, ◌^◌, ℕ, true, List, [], ◌∷◌, length, map, Some, Ok, refl, sym, ap, subst, arith}
+use Rattle.std.specs.Prelude.{◌&&◌, nat_le, nat_lt, pos, slice_get, All, IsTrue}
 use Rattle.std.specs.List.{list_all}
 use Rattle.std.proofs.lemmas.Bool.{and_from}
 use Rattle.std.proofs.lemmas.Bool.Decides.{nat_tests}
 use Rattle.std.proofs.lemmas.List.{get_or-map, length-map}
 use Rattle.std.proofs.lemmas.List.Elements.{All-from_get_or, All-head, All-tail}
-use Rattle.std.proofs.lemmas.Option.{slice_get-get_or, slice_get_within}
+use Rattle.std.proofs.lemmas.Option.{slice_get_within}
 use Rattle.sim_types.specs.Scenarios.{ScenarioOf}
 use Rattle.sim_types.specs.declared.setup.Arrival.{Arrival}
-use Rattle.sim_types.specs.declared.setup.Post.{Post}
 use Rattle.sim_language.specs.Reads.{reads}
 use Rattle.sim_language.specs.WellFormed.{arrival_fits, is_well_formed}
 use Rattle.sim_language_law.specs.Sections.{CanBeJournal, IsWithinLimits, text_with_journal}
 use Rattle.sim_language_law.proofs.TextsWithJournals.{reads_with_journal}
 use Rattle.sim_replay.proofs.ReplayedRuns.{same_summary, same_trace}
 use Rattle.sim_trace.specs.Texts.{trace_text}
-use Rattle.sim_inbox.specs.declared.taken.Taken.{Taken}
 use Rattle.sim_live.specs.Journals.{KeepsSections, post_of, section}
 use Rattle.sim_live.specs.LiveRuns.{LiveOf, IsLive}
 use Rattle.sim_live.specs.LiveTexts.{SaysAgain}

@@ -6,7 +6,7 @@
 --     on_none         nothing was written, and memory was wanting
 --     on_passed       what was held was passed on
 --     on_unpassed     or that failed
-use Rattle.std.proofs.Common.{◌≡◌, ℕ, Bool, false, List, [], ◌++◌, refl, sym, ap, ◌∙◌, subst, append-nil, Result, Ok, Err}
+use Rattle.std.proofs.Common.{◌≡◌, ℕ, false, List, [], ◌++◌, refl, sym, ap, subst, append-nil, Result, Ok, Err}
 use Rattle.std.specs.Prelude.{IsErrAnd}
 use Rattle.sim_types.specs.Scenarios.{ScenarioOf}
 use Rattle.sim_outside.specs.Writes.{RoseIf, SinkOf, Writes}

@@ -70,7 +70,8 @@ pub fn live_desk<S: Source, K: Sink, R: Threads + Wait + Sync, G: Gate + Sync, I
         → ReadsWhole (S.left source.old) (S.left source.new) }
 
     // Where the words ask for a live run and neither count rises, the whole answer is written, unless memory is wanting.
-    ensures complete { live_limit words.now ≢ None → ¬ Rose (S.faults source.old) (S.faults source.new)
+    ensures complete { live_limit words.now ≢ None
+        → ¬ Rose (S.faults source.old) (S.faults source.new)
         → ¬ Rose (K.tells out.old).faults (K.tells out.new).faults → IsWholeOrWanting result }
 {
     let Some(limit) = live_limit(words) else {

@@ -44,10 +44,11 @@ pub trait Body: LawfulBody + Sized + Drop {
         requires { id.0 < most_events }
         ensures { self.new ≡ Self.body.numbered self.old id };
 
-    /// The body is told what came of its last operation, and asks for the next one.
-    fn poll(&mut self, code: &Self::Code, now: i64, signal: Signal) -> Op
+    /// The body is told what came of its last operation, and asks for the next one, which is large and so is written where it
+    /// is wanted.
+    fn poll(&mut self, code: &Self::Code, now: i64, signal: Signal, asked: &mut Op)
         requires { CanBeTold Self.body code.now self.old signal }
-        ensures { Self.body.turn code.now self.old now signal result self.new };
+        ensures { Self.body.turn code.now self.old now signal asked.new self.new };
 
     /// The same poll, where the body asks for nothing in it (`Nop`) and can tell so beforehand. The answer is whether it was
     /// made: else all is as before. A body may always answer that it was not.

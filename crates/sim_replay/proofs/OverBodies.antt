@@ -3,7 +3,7 @@
 --     plan_over     a plan whose processes begin in it
 -- What is done to the processes of a state:
 --     at_over, alive_over, stop_over, wait_over, body_over, leave_over, drop_over, end_over, make_over
-use Rattle.std.proofs.Common.{◌≡◌, ℕ, ℤ, Bool, true, false, List, [], ◌∷◌, ◌++◌, map, Option, None, Some, refl, sym, ap, ◌∙◌}
+use Rattle.std.proofs.Common.{◌≡◌, ℕ, ℤ, Bool, true, false, List, [], ◌∷◌, map, Option, None, Some, refl, sym, ap, ◌∙◌}
 use Rattle.std.specs.Prelude.{cond, not, ◌||◌, filter, find, fold}
 use Rattle.std.specs.List.{list_any}
 use Rattle.std.specs.Option.{option_map}

@@ -1,7 +1,7 @@
 -- A script does not look at its scenario: with another one it asks for the same, and is then in the same state with that one.
 --     turned_over      a poll
 use Rattle.std.proofs.Common.{◌≡◌, ℕ, ℤ, Bool, true, false, List, [], ◌∷◌, map, Option, None, Some, refl, ap, ◌∙◌}
-use Rattle.std.specs.Prelude.{cond, int_lt, pos, ◌-◌, ◌-ℤ◌, ◌+◌}
+use Rattle.std.specs.Prelude.{cond, int_lt, pos, ◌+◌}
 use Rattle.sim_types.specs.Scenarios.{ScenarioOf}
 use Rattle.sim_types.specs.declared.event.EventId.{EventId}
 use Rattle.sim_types.specs.declared.event.Throw.{Throw}
@@ -19,7 +19,7 @@ use Rattle.sim_types.specs.declared.script.Stmt.{Stmt}
 use Rattle.sim_types.specs.declared.script.Stmt.TheVariants as stmt
 use Rattle.sim_types.specs.Throws.{failure}
 use Rattle.sim_script_model.specs.Arithmetic.{Answer, Number, Error, compute, is_equal}
-use Rattle.sim_script_model.specs.Scripts.{Frame, InLoop, InRepeat, InScope, InTry, Mode, Running, Throwing, Breaking, Finishing, Script, event_in, event_of_ref, process_of_ref, push_frame, set_frames, set_mode, set_place, set_variable, stmt_at, value_of_arg, value_of_num}
+use Rattle.sim_script_model.specs.Scripts.{Frame, InLoop, InRepeat, InScope, InTry, Mode, Running, Throwing, Breaking, Finishing, Script, event_in, event_of_ref, process_of_ref, push_frame, set_frames, set_mode, set_place, stmt_at, value_of_arg, value_of_num}
 use Rattle.sim_script_model.specs.Polls.{answer_to, ask, ask_in_mode, catch_by, do_stmt, end_repeat, get_op, given_by, last_stmt, leave_loop, leave_try, open_with, put_op, remember, run_on_at, script_turn, store, take_in, unwind}
 
 module _ (x : ScenarioOf) where

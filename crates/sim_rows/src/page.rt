@@ -110,6 +110,7 @@ impl Page {
         Ok(())
     }
 
+    // Takes a line that stands for itself, or is of a block.
     fn say_line(&mut self, alloc: Global, line: &str) -> Result<(), AllocError> {
         if let Some(times) = line.strip_prefix("\\repeat ") {
             self.block = Some(Block {

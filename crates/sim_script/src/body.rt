@@ -31,7 +31,8 @@ impl Body for Script {
 
     ghost few_places = { script_has_few_places };
 
-    ghost told_place_within = { λ x b e at can is. script_gives_within x b e can.sound can.told at is };
+    ghost told_place_within = { λ x b e at can is.
+        script_gives_within x b e can.sound can.told at is };
 
     ghost other_places_stay = { λ x b time e asked d can turned. record {
       length = script_holds_as_many x b e can.sound can.told time asked d turned;
@@ -63,8 +64,8 @@ impl Body for Script {
         self.set_number(id);
     }
 
-    fn poll(&mut self, code: &Scenario, now: i64, signal: Signal) -> Op {
-        self.turn(code.code(), now, signal)
+    fn poll(&mut self, code: &Scenario, now: i64, signal: Signal, asked: &mut Op) {
+        self.turn(code.code(), now, signal, asked);
     }
 
     fn poll_quietly(&mut self, code: &Scenario, now: i64, signal: Signal) -> bool {

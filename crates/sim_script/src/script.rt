@@ -247,17 +247,14 @@ impl Script {
     }
 
     /// Is polled: takes in what it is told, and asks for an operation.
-    pub(crate) fn turn(&mut self, code: &[Stmt], time: i64, signal: Signal) -> Op
+    pub(crate) fn turn(&mut self, code: &[Stmt], time: i64, signal: Signal, asked: &mut Op)
         requires take { IsTrue (can_take code.now signal self.old) }
         requires ask { IsTrue (can_ask code.now (take_in code.now signal self.old)) }
-        ensures { (result, self.new) ≡ script_turn code.now self.old time signal }
+        ensures { (asked.new, self.new) ≡ script_turn code.now self.old time signal }
     {
         self.take_in(code, signal);
-        // An operation is large, and so is made where it is wanted.
-        let mut asked = Op::Nop;
-        self.ask(code, time, &mut asked);
-        self.asked = Some(Memo::of(&asked));
-        asked
+        self.ask(code, time, asked);
+        self.asked = Some(Memo::of(asked));
     }
 
     /// The same, where it is told nothing or a value and the statement at its place asks for nothing. Whether it was so:

@@ -27,6 +27,7 @@ use sim_types::{Callback, End, EventId, EventKind, Line, ProcId, Signal};
 
 impl<B: Body> Parts<B> {
     /// Pops the event that is due.
+    #[inline(always)]
     pub(crate) fn pop(&mut self) -> Unit
         requires idle { self.old.control ≡ Idle }
         requires due { self.old.shared.happen.agenda ≢ [] }
@@ -215,6 +216,7 @@ impl<B: Body> Parts<B> {
     }
 
     /// Calls the first callback that is left, or settles the event where none is.
+    #[inline(always)]
     pub(crate) fn call(&mut self, event: EventId)
         requires calling { IsCalling event self.old.control }
         requires stands { StandsForSome B.body self.old }

@@ -92,6 +92,7 @@ impl<B: Body> Parts<B> {
 
     /// Makes room for all that the next unit takes. Most units in which no process runs take none, and then no room is
     /// tested.
+    #[inline(always)]
     pub fn reserve_for_next(&mut self, code: &B::Code) -> Result<(), AllocError>
         requires code { code.now ≡ self.old.code }
         ensures kept { KeepsButRoom self.old self.new }
@@ -158,6 +159,7 @@ impl<B: Body> Parts<B> {
     }
 
     /// One unit: an event is popped, a callback is called, an event is settled, or a process is polled.
+    #[inline(always)]
     pub fn unit(&mut self, code: &B::Code) -> Unit
         requires code { code.now ≡ self.old.code }
         requires stands { StandsForSome B.body self.old }

@@ -37,7 +37,9 @@ impl<B: Body> Parts<B> {
             (λ r. r.room ≡ B.most_open code.now) }
     {
         let time = self.shared.happen().now();
-        *asked = self.processes.body_mut(process).poll(code, time, told);
+        self.processes
+            .body_mut(process)
+            .poll(code, time, told, asked);
     }
 
     // Polls the running process, and takes a holder of what then stands in the place that changes. What it asks for names
@@ -164,6 +166,7 @@ impl<B: Body> Parts<B> {
         Unit::Quiet
     }
     /// Polls the running process, does what it asks for, and gives back what its body names no more.
+    #[inline(always)]
     pub(crate) fn poll(
         &mut self,
         code: &B::Code,

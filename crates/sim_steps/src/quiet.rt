@@ -24,6 +24,7 @@ fn fills_place(told: Signal) -> bool
 impl<B: Body> Parts<B> {
     // Polls the body of the running process quietly: it is told this, and asks for nothing. The answer is whether it was
     // polled.
+    #[inline(always)]
     fn poll_body_quietly(
         &mut self,
         code: &B::Code,
@@ -58,6 +59,7 @@ impl<B: Body> Parts<B> {
     /// Makes the unit in which the running process asks for nothing, where its body can tell so beforehand. The answer is
     /// whether it was made: else all is as before. It takes no memory. Who is told of an event that it made is not polled so:
     /// that event goes into a place, and what stood there is to be given back.
+    #[inline(always)]
     pub fn unit_quietly(&mut self, code: &B::Code) -> bool
         requires code { code.now ≡ self.old.code }
         requires stands { StandsForSome B.body self.old }

@@ -9,7 +9,7 @@ use Rattle.sim_machine.specs.Processes.{make_events_of_process}
 use Rattle.sim_machine.specs.Runs.{set_stop}
 use Rattle.sim_machine.specs.Tellings.{CodeFacts}
 use Rattle.sim_machine_law.specs.NamedEvents.{arguments_name}
-use Rattle.sim_happen_model.specs.HappenOf.{HappenOf, held, unheld_event}
+use Rattle.sim_happen_model.specs.HappenOf.{HappenOf, unheld_event}
 use Rattle.sim_happen_model.specs.Shows.{Turns}
 use Rattle.sim_shared_model.specs.Making.{unheld_events}
 use Rattle.sim_steps_model.specs.PartsOf.{PartsOf, with_happen}

@@ -27,7 +27,8 @@ fn all_posters<R: Wait + Clone + Drop>(
     ensures queue { OnOk result (IsSegPassOf (arc_value line.now).queue pass.new) }
     ensures split { OnOk result (pass.new.me.view.client ≡ Taker [] (replicate count None)) }
     ensures many { IfOk result (λ v. length v.items ≡ count) }
-    ensures own { IfOk result (λ v. ArePostersOf (inbox_of (arc_value line.now).queue.web) v.items) }
+    ensures own { IfOk result
+        (λ v. ArePostersOf (inbox_of (arc_value line.now).queue.web) v.items) }
     ensures fresh { IfOk result (λ v. HavePostedNothing v.items) }
 {
     let mut posters = Vec::new(alloc);

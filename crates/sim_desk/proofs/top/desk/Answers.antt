@@ -1,4 +1,4 @@
-use Rattle.std.proofs.Common.{rules, ◌≡◌, ◌<◌, ◌^◌, true, inl, ap, sym, ◌∙◌, Some, Fits, w32}
+use Rattle.std.proofs.Common.{rules, ◌≡◌, inl, ap, sym, ◌∙◌, Fits, w32}
 use Rattle.std.proofs.lemmas.Bool.{false≢true}
 use Rattle.sim_command.specs.declared.commands.Command.TheVariants.{Load}
 use Rattle.sim_answers.specs.Endings.{is_whole}

@@ -1,13 +1,12 @@
-use Rattle.std.proofs.Common.{rules, to_z, of_z, w64, ◌++◌, ◌≡◌, ◌≤◌, ◌<◌, ◌+◌, ◌-◌, [], ◌∷◌, length, take, drop, refl, sym, subst, ap, ◌∙◌, arith, append-nil, true, false}
-use Rattle.std.specs.Prelude.{nat_lt, if◌then◌else◌, All}
+use Rattle.std.proofs.Common.{rules, to_z, of_z, w64, ◌≡◌, ◌≤◌, ◌<◌, ◌+◌, ◌-◌, length, drop, refl, sym, subst, ap, ◌∙◌, arith}
+use Rattle.std.specs.Prelude.{All}
 use Rattle.std.proofs.lemmas.Bool.Decides.{nat_tests}
 use Rattle.std.proofs.lemmas.List.Elements.{All-head, All-tail}
 use Rattle.sim_types.specs.declared.setup.Arrival.{Arrival}
-use Rattle.sim_outside.specs.Writes.{Writes}
 use Rattle.sim_outside.proofs.Written.{told_err, none_to_write, as_well, as_failed, both_written, cut_behind}
 use Rattle.sim_machine_law.specs.Courses.{course_after}
 use Rattle.sim_engine.specs.EngineFaults.{is_write}
-use Rattle.sim_trace.specs.Texts.{line_text, trace_text}
+use Rattle.sim_trace.specs.Texts.{trace_text}
 use Rattle.sim_script_model.specs.Scenarios.{summary}
 use Rattle.sim_engine.specs.RunOfScenario.{run_of, units_of}
 use Rattle.sim_engine.specs.Rounds.{HavePorts, StandsInRun, text_by}
@@ -15,7 +14,6 @@ use Rattle.sim_engine.specs.Sessions.{IsAt, report_of}
 use Rattle.sim_machine.specs.Units.{arrive}
 use Rattle.sim_steps_model.specs.PartsOf.{plan_of}
 use Rattle.sim_script_law.specs.ScriptMembers.{script_body}
-use Rattle.sim_types.specs.declared.line.Line.TheVariants as line
 use Rattle.sim_engine.proofs.Rounds.{turn_is_next, arrival_is_next, rest_is, after_turn, after_arrival, after_refusal}
 use Rattle.sim_engine.proofs.RunEnds.{stays_whole, summary_is, units_are}
 use Rattle.sim_engine.proofs.RunTexts.{text_before, text_front, turn_text, arrived_text}

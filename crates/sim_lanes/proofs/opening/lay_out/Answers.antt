@@ -1,4 +1,4 @@
-use Rattle.std.proofs.Common.{rules, ◌≡◌, ℕ, ◌+◌, ◌*◌, ◌<◌, ◌^◌, length, get_or, sym, ap, ◌∙◌, arith}
+use Rattle.std.proofs.Common.{rules, ◌≡◌, ℕ, ◌+◌, ◌<◌, ◌^◌, length, get_or, sym, ap, arith}
 use Rattle.sim_lanes.specs.Places.{width}
 use Rattle.sim_lanes.proofs.Laying.{ends_more}
 use Rattle.sim_lanes.proofs.opening.lay_out.Goals as goal

@@ -2,7 +2,7 @@ use Rattle.std.proofs.Common.{rules, ◌≡◌, ℕ, List, length, get_or, repli
 use Rattle.std.specs.Prelude.{slice_get}
 use Rattle.std.specs.Arc.{arc_value}
 use Rattle.sim_lanes.specs.Places.{end_of}
-use Rattle.sim_lanes.specs.Ends.{PosterOf, AreInOrder}
+use Rattle.sim_lanes.specs.Ends.{PosterOf}
 use Rattle.sim_lanes.specs.Opening.{fresh_posters}
 use Rattle.sim_lanes.specs.declared.lane_end.LaneEnd.{LaneEnd}
 use Rattle.sim_lanes.proofs.Seats.{opens}

@@ -1,4 +1,4 @@
-use Rattle.std.proofs.Common.{rules, arith}
+use Rattle.std.proofs.Common.{arith}
 use Rattle.std.specs.Arc.{arc_value}
 use Rattle.sim_lanes.proofs.Laying.{may_split, is_posting}
 use Rattle.sim_lanes.proofs.opening.split_posters.Goals as goal

@@ -1,4 +1,4 @@
-use Rattle.std.proofs.Common.{◌≡◌, ◌<◌, ◌≤◌, ◌^◌, ◌++◌, [], refl, sym, ap, subst, ◌∙◌, Ok, Err, arith, rules}
+use Rattle.std.proofs.Common.{◌<◌, ◌≤◌, ◌^◌, ap, ◌∙◌, arith, rules}
 use Rattle.sim_language_law.proofs.PostsOfScenarios.{posts_of_scenario}
 use Rattle.sim_live.specs.LiveRuns.{text_so_far}
 use Rattle.sim_live.proofs.JournalTexts.{journal_entries}

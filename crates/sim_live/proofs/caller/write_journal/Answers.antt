@@ -1,4 +1,4 @@
-use Rattle.std.proofs.Common.{◌≡◌, ◌++◌, ◌+◌, true, refl, sym, ap, ◌∙◌, take, drop}
+use Rattle.std.proofs.Common.{◌++◌, ◌+◌, true, refl, sym, ap, ◌∙◌, take}
 use Rattle.std.specs.Prelude.{flat_map}
 use Rattle.sim_outside.proofs.Written.{told_err, as_well, as_failed, both_written, cut_behind}
 use Rattle.sim_engine.specs.EngineFaults.{is_write}

@@ -1,6 +1,5 @@
-use Rattle.std.proofs.Common.{◌∙◌, arith}
-use Rattle.std.proofs.lemmas.Bool.Decides.{nat_tests}
-use Rattle.sim_live.proofs.Finishing.{left_port, next_left, fronts_next, sections_at, sections_are_fronts}
+use Rattle.std.proofs.Common.{◌∙◌}
+use Rattle.sim_live.proofs.Finishing.{left_port, next_left, fronts_next, sections_are_fronts}
 use Rattle.sim_live.proofs.WrittenOn.{on_and_on}
 use Rattle.sim_live.proofs.play.finish.Goals as goal
 

@@ -1,4 +1,4 @@
-use Rattle.std.proofs.Common.{◌≡◌, ◌≤◌, ◌-◌, ◌++◌, ℕ, Ok, take, map}
+use Rattle.std.proofs.Common.{◌≡◌, ◌-◌, ◌++◌, Ok, take, map}
 use Rattle.sim_outside.specs.Writes.{IsUnflushed}
 use Rattle.sim_live.specs.Journals.{post_of, KeepsSections}
 use Rattle.sim_live.specs.LiveRuns.{IsLive, WritesOn}

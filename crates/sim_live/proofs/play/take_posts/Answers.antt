@@ -1,4 +1,4 @@
-use Rattle.std.proofs.Common.{◌<◌, sym, ap, subst, ◌∙◌, true, false}
+use Rattle.std.proofs.Common.{◌<◌, sym, subst, ◌∙◌}
 use Rattle.std.proofs.lemmas.Bool.{false≢true}
 use Rattle.sim_live.proofs.Journals.{foreign_taken}
 use Rattle.sim_live.proofs.ToldRuns.{fronts_told, fronts_more, told_more}

@@ -1,11 +1,11 @@
-use Rattle.std.proofs.Common.{rules, ◌≡◌, ◌≤◌, ◌<◌, ◌+◌, ◌-◌, [], refl, sym, subst, ap, ◌∙◌, arith, append-nil, true, false}
-use Rattle.std.specs.Prelude.{nat_lt, ◌&&◌}
+use Rattle.std.proofs.Common.{rules, ◌≡◌, ◌≤◌, ◌-◌, [], refl, sym, subst, ap, ◌∙◌, arith, append-nil}
+use Rattle.std.specs.Prelude.{nat_lt}
 use Rattle.std.proofs.lemmas.Bool.{and_parts}
 use Rattle.std.proofs.lemmas.Bool.Decides.{nat_tests}
 use Rattle.sim_outside.proofs.Written.{told_err, as_well, as_failed, both_written, cut_behind}
 use Rattle.sim_steps_model.specs.Resting.{rest_in}
 use Rattle.sim_engine.specs.EngineFaults.{is_write}
-use Rattle.sim_engine.specs.Sessions.{is_busy, IsBusyBetween, steps_in, IsAt}
+use Rattle.sim_engine.specs.Sessions.{is_busy, steps_in, IsAt}
 use Rattle.sim_engine.proofs.TurnSteps.{goes_on_both, steps_more, busy_more, text_more, left_where}
 use Rattle.sim_engine.proofs.session.Session.turn.Goals as goal
 

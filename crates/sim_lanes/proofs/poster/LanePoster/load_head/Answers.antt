@@ -1,4 +1,3 @@
-use Rattle.std.proofs.Common.{rules}
 use Rattle.sim_lanes.proofs.Posting.{may_load_head}
 use Rattle.sim_lanes.proofs.poster.LanePoster.load_head.Goals as goal
 

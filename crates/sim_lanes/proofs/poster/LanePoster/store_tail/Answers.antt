@@ -1,4 +1,4 @@
-use Rattle.std.proofs.Common.{rules, refl, ◌+◌}
+use Rattle.std.proofs.Common.{refl, ◌+◌}
 use Rattle.sim_lanes.proofs.Posting.{may_store_tail}
 use Rattle.sim_lanes.proofs.poster.LanePoster.store_tail.Goals as goal
 

@@ -1,4 +1,4 @@
-use Rattle.std.proofs.Common.{rules, ap, ℕ, ◌+◌}
+use Rattle.std.proofs.Common.{ap, ℕ, ◌+◌}
 use Rattle.sim_lanes.proofs.Posting.{may_store_value}
 use Rattle.sim_lanes.proofs.poster.LanePoster.store_value.Goals as goal
 

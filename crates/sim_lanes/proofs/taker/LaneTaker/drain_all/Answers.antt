@@ -1,4 +1,4 @@
-use Rattle.std.proofs.Common.{rules, ◌≡◌, ℕ, ◌+◌, ◌-◌, ◌<◌, ◌≤◌, List, [], length, get_or, take, map, Some, sym, ap, ◌∙◌, arith}
+use Rattle.std.proofs.Common.{◌≡◌, ◌+◌, ◌<◌, List, [], length, get_or, take, Some, sym, ap, ◌∙◌, arith}
 use Rattle.std.proofs.lemmas.List.{length-append, length-map}
 use Rattle.sim_types.specs.declared.setup.Post.{Post}
 use Rattle.sim_inbox.specs.declared.taken.Taken.{Taken}
@@ -8,7 +8,7 @@ use Rattle.sim_lanes.specs.Views.{lane}
 use Rattle.sim_lanes.specs.Ends.{taken_of}
 use Rattle.sim_lanes.specs.Closing.{whole_of, wholes_of}
 use Rattle.sim_lanes.specs.declared.view.LaneView.{LaneView}
-use Rattle.sim_lanes.proofs.Draining.{DrainedAll, whole_at, drained_all_more}
+use Rattle.sim_lanes.proofs.Draining.{whole_at, drained_all_more}
 use Rattle.sim_lanes.proofs.taker.LaneTaker.drain_all.Goals as goal
 
 pub drain-requires-clause-joined : goal.drain-requires-clause-joined

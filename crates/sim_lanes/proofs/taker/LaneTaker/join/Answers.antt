@@ -1,4 +1,4 @@
-use Rattle.std.proofs.Common.{rules, ◌≡◌, ◌∙◌, sym, ap}
+use Rattle.std.proofs.Common.{◌≡◌, ◌∙◌, sym, ap}
 use Rattle.std.specs.Arc.{arc_value}
 use Rattle.sim_lanes.specs.Ends.{PosterOf, TakerOf}
 use Rattle.sim_lanes.proofs.Seats.{joins}

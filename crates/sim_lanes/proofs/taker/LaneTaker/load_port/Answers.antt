@@ -1,4 +1,4 @@
-use Rattle.std.proofs.Common.{rules, ap, ℕ, ◌∙◌}
+use Rattle.std.proofs.Common.{◌∙◌}
 use Rattle.sim_lanes.specs.Places.{cell}
 use Rattle.sim_lanes.proofs.Taking.{may_load_port}
 use Rattle.sim_lanes.proofs.taker.LaneTaker.load_port.Goals as goal

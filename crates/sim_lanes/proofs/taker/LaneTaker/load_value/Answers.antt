@@ -1,4 +1,4 @@
-use Rattle.std.proofs.Common.{rules, ap, ℕ, ◌+◌, ◌∙◌}
+use Rattle.std.proofs.Common.{ap, ℕ, ◌+◌, ◌∙◌}
 use Rattle.sim_lanes.specs.Places.{cell}
 use Rattle.sim_lanes.proofs.Taking.{may_load_value}
 use Rattle.sim_lanes.proofs.taker.LaneTaker.load_value.Goals as goal

@@ -1,4 +1,4 @@
-use Rattle.std.proofs.Common.{rules, ap, ℕ, ◌+◌, ◌∙◌}
+use Rattle.std.proofs.Common.{ap, ℕ, ◌+◌}
 use Rattle.sim_lanes.proofs.Taking.{may_store_head, taken_one}
 use Rattle.sim_lanes.proofs.taker.LaneTaker.store_head.Goals as goal
 

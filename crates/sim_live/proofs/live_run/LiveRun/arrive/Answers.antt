@@ -1,5 +1,5 @@
 use Rattle.std.proofs.Common.{sym, ◌∙◌, rules}
-use Rattle.sim_live.proofs.LiveRuns.{came_at, came_falls, came_live, came_written, has_come, late_live, late_written, run_with, state_at}
+use Rattle.sim_live.proofs.LiveRuns.{came_at, came_falls, came_live, came_written, has_come, late_live, late_written, run_with}
 use Rattle.sim_live.proofs.WrittenOn.{on_err, on_ok}
 use Rattle.sim_live.proofs.live_run.LiveRun.arrive.Goals as goal
 

@@ -10,5 +10,5 @@ turn-requires c =
 
 pub returns : goal.returns
 returns c =
-    turn_by_code c.args.code.now c.args.self.now c.args.signal c.code.result.now c.code.ensures.code c.args.now c.turn.result c.turn.new.self
+    turn_by_code c.args.code.now c.args.self.now c.args.signal c.code.result.now c.code.ensures.code c.args.now c.turn.new.asked c.turn.new.self
     c.ranges.now c.turn.ensures
