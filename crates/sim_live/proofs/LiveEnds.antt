@@ -98,7 +98,8 @@ lines_written s limit opened x a m t report most none zero_units on live ended s
           as_well is_write is_write a m t tt (text_so_far s x) (text_so_far s x) (on a (nothing_written s opened a none zero_units)) refl;
     }
 
-module _ {s : ScenarioOf} {limit : ℕ} {a m : SinkOf} {journal : List Arrival} {lines : List ℕ} {told : Summary} (h : LinesWritten s limit a m journal lines told) where
+module _ {s : ScenarioOf} {limit : ℕ} {a m : SinkOf} {journal : List Arrival} {lines : List ℕ} {told : Summary}
+    (h : LinesWritten s limit a m journal lines told) where
   with_end : {U : Type 0} (n : SinkOf) (u : U) → Writes {T = U} {E = EngineFault} is_write m n (Ok u) (end_text told) → HasWritten a n (lines ++ end_text told)
   with_end n u then = both_written is_write is_write {V = Unit {0}} a m n tt u tt lines (end_text told) (lines ++ end_text told) h.written then refl
 
@@ -146,7 +147,8 @@ module _ (s : ScenarioOf) (limit : ℕ) (a b : SinkOf) (answer : Result End Engi
         (sym (append-nil (live_text s limit journal))) h.fronts
 
 -- it was written to its end
-pub runs_whole : {U V : Type 0} (s : ScenarioOf) (limit : ℕ) (a m n b : SinkOf) (end : End) (journal : List Arrival) (lines entries : List ℕ) (told : Summary) (u : U) (v : V)
+pub runs_whole : {U V : Type 0} (s : ScenarioOf) (limit : ℕ) (a m n b : SinkOf) (end : End) (journal : List Arrival) (lines entries : List ℕ) (told : Summary)
+    (u : U) (v : V)
     → LinesWritten s limit a m journal lines told → KeepsSections s journal → CanBeJournal s journal → end ≡ end_on s limit journal
     → entries ≡ journal_text s.port_names journal → Writes {T = U} {E = EngineFault} is_write m n (Ok u) (end_text told)
     → Writes {T = V} {E = EngineFault} is_write n b (Ok v) entries → RunsLive s limit a b (Ok end)

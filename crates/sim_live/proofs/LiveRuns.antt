@@ -220,7 +220,8 @@ module _ (s : ScenarioOf) (journal : List Arrival) (old new : SessionOf) (h : Is
 
 -- ---- a post that came, in the words of the call that lets it in
 
-pub record HasCome (s : ScenarioOf) (journal : List Arrival) (old : SessionOf) (self : LiveOf) (t : Taken) (entry : Arrival) (grown : List Arrival) : Type 0 where
+pub record HasCome (s : ScenarioOf) (journal : List Arrival) (old : SessionOf) (self : LiveOf) (t : Taken) (entry : Arrival)
+    (grown : List Arrival) : Type 0 where
   pub view : run_with old journal ≡ self
   pub live : IsLive s self
   pub entry_is : entry ≡ entry_now old t
@@ -270,7 +271,8 @@ module _ {s : ScenarioOf} {journal : List Arrival} {old : SessionOf} {self : Liv
     came_live within settled units none_refused refused arrives =
         subst (λ l. IsLive s (run_with new l)) (sym grown_is)
         (arrival_live s journal old new here on t takes value value_is (in_64_bits t.item.value fits) within settled units none_refused refused
-        (subst (λ (a : Arrival). (u : State Script) → IsAt old u → old.units < old.limit → IsAt new (arrive (plan_of script_body old.parts) a.port value u)) h.entry_is arrives))
+        (subst (λ (a : Arrival). (u : State Script) → IsAt old u → old.units < old.limit → IsAt new (arrive (plan_of script_body old.parts) a.port value u))
+        h.entry_is arrives))
 
     pub came_written : {T : Type 0} (b c : SinkOf) (answer : Result T EngineFault) → old.units ≤ new.units → new.units ≤ old.units + 1
         → Writes is_write b c answer (if nat_lt old.units new.units then line_text s.port_names (line.Arrive old.parts.processed value entry.port) else [])
@@ -279,4 +281,5 @@ module _ {s : ScenarioOf} {journal : List Arrival} {old : SessionOf} {self : Liv
         subst (λ x. WritesOn s x (run_with new grown) b c answer) h.view
         (subst (λ l. WritesOn s (run_with old journal) (run_with new l) b c answer) (sym grown_is)
         (arrival_written s journal old new here on t takes value b c answer value_is from most
-        (subst (λ (a : Arrival). Writes is_write b c answer (if nat_lt old.units new.units then line_text s.port_names (line.Arrive old.parts.processed value a.port) else [])) h.entry_is written)))
+        (subst (λ (a : Arrival). Writes is_write b c answer (if nat_lt old.units new.units then
+        line_text s.port_names (line.Arrive old.parts.processed value a.port) else [])) h.entry_is written)))

@@ -63,7 +63,8 @@ module _ (s : ScenarioOf) (well : IsTrue (is_well_formed s)) where
   all_fit : (journal : List Arrival) → All (IsPosted s) journal → All (λ a. a.after ≤ 2 ^ 62) journal → list_all (arrival_fits s) journal ≡ true
   all_fit [] posted early = refl
   all_fit (a ∷ journal) posted early =
-      and_from (arrival_fits s a) (list_all (arrival_fits s) journal) (fits a (All-head (IsPosted s) a journal posted) (All-head (λ x. x.after ≤ 2 ^ 62) a journal early))
+      and_from (arrival_fits s a) (list_all (arrival_fits s) journal)
+      (fits a (All-head (IsPosted s) a journal posted) (All-head (λ x. x.after ≤ 2 ^ 62) a journal early))
       (all_fit journal (All-tail (IsPosted s) a journal posted) (All-tail (λ x. x.after ≤ 2 ^ 62) a journal early))
 
   early_enough : (x : LiveOf) → IsLive s x → x.session.limit ≤ 2 ^ 62 → All (λ a. a.after ≤ 2 ^ 62) x.journal

@@ -65,7 +65,8 @@ module _ {B C : Type 0} (f : B → C) where
         by false after before same = same
 
     -- one of them is changed
-    module _ (change : ProcessOf C → ProcessOf C) (before : ProcessOf B → ProcessOf B) (same : (x : ProcessOf B) → change (process_over x) ≡ process_over (before x)) where
+    module _ (change : ProcessOf C → ProcessOf C) (before : ProcessOf B → ProcessOf B)
+        (same : (x : ProcessOf B) → change (process_over x) ≡ process_over (before x)) where
       one_changed : (x : ProcessOf B) → (b : Bool) → cond b (change (process_over x)) (process_over x) ≡ process_over (cond b (before x) x)
       one_changed x true = same x
       one_changed x false = refl

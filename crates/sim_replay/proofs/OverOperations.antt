@@ -124,9 +124,11 @@ module _ {B C : Type 0} (f : B → C) where
   effect_over g p op.Leave s = ap (tell signal.Done) (closes (first_of_list (scopes_inwards p s)) s)
   effect_over g p (op.Release request) s = ap (tell signal.Done) (releases (find (λ x. is_same x.request request) s.scopes) s)
   effect_over g p (op.Put res amount priority) s = move_over tell_made tell_made (λ e t. refl) g res amount (make_put g.setup.resources res amount priority) s
-  effect_over g p (op.PutWait res amount priority) s = move_over (λ e t. wait e p t) (λ e t. wait e p t) (λ e t. wait_over f p e t) g res amount (make_put g.setup.resources res amount priority) s
+  effect_over g p (op.PutWait res amount priority) s = move_over (λ e t. wait e p t) (λ e t. wait e p t) (λ e t. wait_over f p e t) g res amount
+      (make_put g.setup.resources res amount priority) s
   effect_over g p (op.Get res least greatest) s = move_over tell_made tell_made (λ e t. refl) g res least (make_get g.setup.resources res least greatest) s
-  effect_over g p (op.GetWait res least greatest) s = move_over (λ e t. wait e p t) (λ e t. wait e p t) (λ e t. wait_over f p e t) g res least (make_get g.setup.resources res least greatest) s
+  effect_over g p (op.GetWait res least greatest) s = move_over (λ e t. wait e p t) (λ e t. wait e p t) (λ e t. wait_over f p e t) g res least
+      (make_get g.setup.resources res least greatest) s
   effect_over g p (op.Cancel e) s = refl
   effect_over g p (op.Count res) s = refl
   effect_over g p (op.Draw lo hi) s = either (int_lt hi lo) _ _
@@ -138,7 +140,8 @@ module _ {B C : Type 0} (f : B → C) where
   -- ---- callbacks
 
   strike_over : (e : EventId) (left : List Callback) (p : ProcId) (s : State B) → strike e left p (over f s) ≡ over f (strike e left p s)
-  strike_over e left p s = ap (λ a. cond a (control_to thrown (stop_waiting p (over f s))) (control_to (Calling e left) (over f s))) (alive_over f p s) ∙ by (is_alive p s)
+  strike_over e left p s = ap (λ a. cond a (control_to thrown (stop_waiting p (over f s))) (control_to (Calling e left) (over f s)))
+      (alive_over f p s) ∙ by (is_alive p s)
     where
       thrown : Control
       thrown = Active e left p (signal_of (event_at (calendar s) e).outcome)
@@ -148,7 +151,8 @@ module _ {B C : Type 0} (f : B → C) where
       by true = ap (control_to thrown) (stop_over f p s)
       by false = refl
 
-  call_over : (g : Plan B) (e : EventId) (x : Callback) (left : List Callback) (s : State B) → call (plan_over f g) e x left (over f s) ≡ over f (call g e x left s)
+  call_over : (g : Plan B) (e : EventId) (x : Callback) (left : List Callback) (s : State B)
+      → call (plan_over f g) e x left (over f s) ≡ over f (call g e x left s)
   call_over g e (callback.Strike p) left s = strike_over e left p s
   call_over g e (callback.Resume p) left s = refl
   call_over g e (callback.Check c) left s = refl
@@ -158,7 +162,8 @@ module _ {B C : Type 0} (f : B → C) where
   call_over g e callback.Stop left s = refl
   call_over g e (callback.Trigger y) left s = refl
 
-  call_or_settle_over : (g : Plan B) (e : EventId) (left : List Callback) (s : State B) → call_or_settle (plan_over f g) e left (over f s) ≡ over f (call_or_settle g e left s)
+  call_or_settle_over : (g : Plan B) (e : EventId) (left : List Callback) (s : State B)
+      → call_or_settle (plan_over f g) e left (over f s) ≡ over f (call_or_settle g e left s)
   call_or_settle_over g e [] s = refl
   call_or_settle_over g e (x ∷ left) s = call_over g e x left s
 

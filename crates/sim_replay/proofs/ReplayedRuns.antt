@@ -17,11 +17,13 @@ module _ (s : ScenarioOf) (seed : ℕ) (journal : List Arrival) (limit : ℕ) wh
   pub same_trace : trace again seed journal limit ≡ trace s seed journal limit
   same_trace =
       let g = plan_with s (word_of seed) in
-      ap (trace_of (plan_with again (word_of seed))) (run_over (script_over again) g (script_turn s.code) (script_turn s.code) (turned_over again s.code) journal limit)
+      ap (trace_of (plan_with again (word_of seed))) (run_over (script_over again) g (script_turn s.code) (script_turn s.code)
+      (turned_over again s.code) journal limit)
       ∙ trace_over (script_over again) g (run g (script_turn s.code) journal limit)
 
   pub same_summary : summary again seed journal limit ≡ summary s seed journal limit
   same_summary =
       let g = plan_with s (word_of seed) in
-      ap (summary_of (plan_with again (word_of seed))) (run_over (script_over again) g (script_turn s.code) (script_turn s.code) (turned_over again s.code) journal limit)
+      ap (summary_of (plan_with again (word_of seed))) (run_over (script_over again) g (script_turn s.code) (script_turn s.code)
+      (turned_over again s.code) journal limit)
       ∙ summary_over (script_over again) g (run g (script_turn s.code) journal limit)

@@ -16,7 +16,8 @@ returns-in_err-lived-clause-runs g c =
     let made = c.live-lived.ensures in
     let within : x.session.units ≤ c.args.limit = omega (arith, made.within, made.limit, c.in_ok-live_run.ensures.limit) in
     runs_cut s c.args.limit _ _ c.from_residual-in_err-lived.result _ c.from_residual-in_err-lived.ensures.1 x.journal (text_so_far s x) _
-    (c.in_err-lived.ensures.writes (g.K.Sink.tells c.args.out.now) (nothing_written s c.in_ok-live_run.live_run _ c.in_ok-live_run.ensures.journal c.in_ok-live_run.ensures.units))
+    (c.in_err-lived.ensures.writes (g.K.Sink.tells c.args.out.now)
+    (nothing_written s c.in_ok-live_run.live_run _ c.in_ok-live_run.ensures.journal c.in_ok-live_run.ensures.units))
     (text_begins s c.args.limit x.journal x.session.units within) made.fronts
 
 pub returns-in_err-write_end-clause-runs : goal.returns-in_err-write_end-clause-runs
@@ -39,7 +40,8 @@ returns-in_err-write_journal-clause-runs g c =
     let written = lines_written c.args.scenario.now c.args.limit c.in_ok-live_run.live_run c.live-lived.new.run _ _ _ _ opened.limit opened.journal opened.units
     made.writes made.live made.ended c.live-lived.ensures.limit c.live-lived.ensures.fronts c.close-journal.ensures.report in
     let entries = journal_entries _ _ _ _ c.port_names.ensures.names (c.as_slice.ensures ∙ c.close-journal.ensures.journal) in
-    runs_cut_at_journal c.args.scenario.now c.args.limit _ _ c.from_residual-in_err-write_journal.result _ c.from_residual-in_err-write_journal.ensures.1 _ _ _ _ written
+    runs_cut_at_journal c.args.scenario.now c.args.limit _ _ c.from_residual-in_err-write_journal.result _
+    c.from_residual-in_err-write_journal.ensures.1 _ _ _ _ written
     _ _ _ entries c.in_ok-write_end.ensures.writes c.in_err-write_journal.ensures.writes
 
 pub returns-clause-runs : goal.returns-clause-runs

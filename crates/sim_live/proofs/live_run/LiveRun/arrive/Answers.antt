@@ -7,19 +7,22 @@ use Rattle.sim_live.proofs.live_run.LiveRun.arrive.Goals as goal
 
 pub returns-then-not-takes_arrivals-clause-live : goal.returns-then-not-takes_arrivals-clause-live
 returns-then-not-takes_arrivals-clause-live g c =
-    let came = has_come c.args.scenario.now c.self.inside.journal c.self.inside.session _ c.args.taken _ _ _ c.self.view_is c.requires.live c.arrival-entry.ensures
+    let came = has_come c.args.scenario.now c.self.inside.journal c.self.inside.session _ c.args.taken _ _ _ c.self.view_is
+    c.requires.live c.arrival-entry.ensures
     c.processed.ensures c.in_ok-push.ensures.ok in
     late_live came (search rules) (sym c.takes_arrivals.ensures ∙ c.if-not-takes_arrivals.true)
 
 pub returns-then-not-takes_arrivals-clause-falls : goal.returns-then-not-takes_arrivals-clause-falls
 returns-then-not-takes_arrivals-clause-falls g c =
-    let came = has_come c.args.scenario.now c.self.inside.journal c.self.inside.session _ c.args.taken _ _ _ c.self.view_is c.requires.live c.arrival-entry.ensures
+    let came = has_come c.args.scenario.now c.self.inside.journal c.self.inside.session _ c.args.taken _ _ _ c.self.view_is
+    c.requires.live c.arrival-entry.ensures
     c.processed.ensures c.in_ok-push.ensures.ok in
     came_falls came
 
 pub returns-then-not-takes_arrivals-clause-writes : goal.returns-then-not-takes_arrivals-clause-writes
 returns-then-not-takes_arrivals-clause-writes g c =
-    let came = has_come c.args.scenario.now c.self.inside.journal c.self.inside.session _ c.args.taken _ _ _ c.self.view_is c.requires.live c.arrival-entry.ensures
+    let came = has_come c.args.scenario.now c.self.inside.journal c.self.inside.session _ c.args.taken _ _ _ c.self.view_is
+    c.requires.live c.arrival-entry.ensures
     c.processed.ensures c.in_ok-push.ensures.ok in
     late_written came (g.K.Sink.tells c.args.out.now)
 
@@ -27,22 +30,27 @@ returns-then-not-takes_arrivals-clause-writes g c =
 
 pub returns-in_err-arrive-clause-falls : goal.returns-in_err-arrive-clause-falls
 returns-in_err-arrive-clause-falls g c =
-    let came = has_come c.args.scenario.now c.self.inside.journal c.self.inside.session _ c.args.taken _ _ _ c.self.view_is c.requires.live c.arrival-entry.ensures
+    let came = has_come c.args.scenario.now c.self.inside.journal c.self.inside.session _ c.args.taken _ _ _ c.self.view_is
+    c.requires.live c.arrival-entry.ensures
     c.processed.ensures c.in_ok-push.ensures.ok in
     came_falls came
 
 pub returns-in_err-arrive-clause-writes : goal.returns-in_err-arrive-clause-writes
 returns-in_err-arrive-clause-writes g c =
-    let came = has_come c.args.scenario.now c.self.inside.journal c.self.inside.session _ c.args.taken _ _ _ c.self.view_is c.requires.live c.arrival-entry.ensures
+    let came = has_come c.args.scenario.now c.self.inside.journal c.self.inside.session _ c.args.taken _ _ _ c.self.view_is
+    c.requires.live c.arrival-entry.ensures
     c.processed.ensures c.in_ok-push.ensures.ok in
     let made = c.arrive.ensures in
-    on_err c.args.scenario.now c.args.self.now (run_with c.arrive.new.self c.push.new.self) _ _ _ c.from_residual-in_err-arrive.result c.from_residual-in_err-arrive.ensures.1
-    (came_written came c.arrive.new.self c.arrive.ensures.goes_on (sym c.takes_arrivals.ensures ∙ c.if-not-takes_arrivals.false) (search rules) _ _ _ made.never_fewer
+    on_err c.args.scenario.now c.args.self.now (run_with c.arrive.new.self c.push.new.self) _ _ _ c.from_residual-in_err-arrive.result
+    c.from_residual-in_err-arrive.ensures.1
+    (came_written came c.arrive.new.self c.arrive.ensures.goes_on (sym c.takes_arrivals.ensures ∙ c.if-not-takes_arrivals.false) (search rules) _ _ _
+    made.never_fewer
     made.at_most_one (c.in_err-arrive.ensures.writes _ (came_at came)))
 
 pub returns-clause-live : goal.returns-clause-live
 returns-clause-live g c =
-    let came = has_come c.args.scenario.now c.self.inside.journal c.self.inside.session _ c.args.taken _ _ _ c.self.view_is c.requires.live c.arrival-entry.ensures
+    let came = has_come c.args.scenario.now c.self.inside.journal c.self.inside.session _ c.args.taken _ _ _ c.self.view_is
+    c.requires.live c.arrival-entry.ensures
     c.processed.ensures c.in_ok-push.ensures.ok in
     let made = c.arrive.ensures in
     let done = c.in_ok-arrive.ensures in
@@ -51,15 +59,18 @@ returns-clause-live g c =
 
 pub returns-clause-falls : goal.returns-clause-falls
 returns-clause-falls g c =
-    let came = has_come c.args.scenario.now c.self.inside.journal c.self.inside.session _ c.args.taken _ _ _ c.self.view_is c.requires.live c.arrival-entry.ensures
+    let came = has_come c.args.scenario.now c.self.inside.journal c.self.inside.session _ c.args.taken _ _ _ c.self.view_is
+    c.requires.live c.arrival-entry.ensures
     c.processed.ensures c.in_ok-push.ensures.ok in
     came_falls came
 
 pub returns-clause-writes : goal.returns-clause-writes
 returns-clause-writes g c =
-    let came = has_come c.args.scenario.now c.self.inside.journal c.self.inside.session _ c.args.taken _ _ _ c.self.view_is c.requires.live c.arrival-entry.ensures
+    let came = has_come c.args.scenario.now c.self.inside.journal c.self.inside.session _ c.args.taken _ _ _ c.self.view_is
+    c.requires.live c.arrival-entry.ensures
     c.processed.ensures c.in_ok-push.ensures.ok in
     let made = c.arrive.ensures in
     on_ok c.args.scenario.now c.args.self.now (run_with c.arrive.new.self c.push.new.self) _ _ _ (tt {0})
-    (came_written came c.arrive.new.self c.arrive.ensures.goes_on (sym c.takes_arrivals.ensures ∙ c.if-not-takes_arrivals.false) (search rules) _ _ _ made.never_fewer
+    (came_written came c.arrive.new.self c.arrive.ensures.goes_on (sym c.takes_arrivals.ensures ∙ c.if-not-takes_arrivals.false) (search rules) _ _ _
+    made.never_fewer
     made.at_most_one (c.in_ok-arrive.ensures.writes _ (came_at came)))
