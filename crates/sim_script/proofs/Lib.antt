@@ -3,4 +3,5 @@ pub mod Places
 pub mod Filling
 pub mod Marks
 pub mod Remembering
+pub mod Restoring
 pub mod Polling

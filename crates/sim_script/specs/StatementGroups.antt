@@ -1,7 +1,8 @@
--- The statements by what they change, as the code groups them.
-use Rattle.std.specs.Prelude.{Bool, true, false, ◌||◌}
+-- The statements by what they change, and the blocks by what leaving them asks for, as the code groups them.
+use Rattle.std.specs.Prelude.{Bool, true, false, ◌||◌, List, [], ◌∷◌}
 use Rattle.sim_types.specs.declared.script.Stmt.{Stmt}
 use Rattle.sim_types.specs.declared.script.Stmt.TheVariants as stmt
+use Rattle.sim_script_model.specs.Scripts.{Frame, InScope}
 
 -- those that change a variable, the mode or the place
 abbrev pub is_of_changes : Stmt → Bool
@@ -65,3 +66,9 @@ is_of_operations s = is_of_processes s || is_of_resources s || is_of_events s
 abbrev pub asks_for_something : Stmt → Bool
 asks_for_something stmt.EndWith = true
 asks_for_something s = is_of_operations s
+
+-- whether leaving the innermost block asks for something: a scope is left, or, where there is none, the process ends
+abbrev pub leaving_asks : List Frame → Bool
+leaving_asks [] = true
+leaving_asks (InScope request ∷ frames) = true
+leaving_asks frames = false

@@ -68,6 +68,7 @@ impl Body for Script {
         self.turn(code.code(), now, signal, asked);
     }
 
+    #[inline(always)]
     fn poll_quietly(&mut self, code: &Scenario, now: i64, signal: Signal) -> bool {
         self.turn_quietly(code.code(), now, signal)
     }

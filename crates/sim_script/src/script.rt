@@ -8,6 +8,7 @@ ghost use Rattle.sim_script_model.specs.Polls.{store, given_by, last_stmt, open_
 ghost use Rattle.sim_script_law.specs.Ready.{event_is_small, keeps_given, has_room, scope_finds_room, can_take, can_do, can_leave, can_ask};
 ghost use Rattle.sim_script_law.specs.ScriptMembers.{script_holds};
 ghost use Rattle.sim_script.specs.Kept.{frame_of, mode_of, script_of_kind, MarksNumbers};
+ghost use Rattle.sim_script.specs.StatementGroups.{leaving_asks};
 
 use crate::frames::{Frame, Frames};
 use crate::mode::Mode;
@@ -257,8 +258,8 @@ impl Script {
         self.asked = Some(Memo::of(asked));
     }
 
-    /// The same, where it is told nothing or a value and the statement at its place asks for nothing. Whether it was so:
-    /// else nothing changes.
+    /// The same, where it is told nothing, a value or a number and asks for nothing. Whether it was so: else nothing changes.
+    #[inline(always)]
     pub(crate) fn turn_quietly(&mut self, code: &[Stmt], time: i64, signal: Signal) -> bool
         requires take { IsTrue (can_take code.now signal self.old) }
         requires ask { IsTrue (can_ask code.now (take_in code.now signal self.old)) }
@@ -312,14 +313,13 @@ impl Script {
     }
 
     // Does the statement at its place, where that is one that asks for nothing. Whether it did: else nothing changes.
-    fn go_quietly(&mut self, code: &[Stmt], time: i64) -> bool
-        requires { IsTrue (can_ask code.now self.old) }
-        ensures done { IsTrue result → (op.Nop, self.new) ≡ ask_in_mode code.now time self.old }
+    #[inline(always)]
+    fn go_on_quietly(&mut self, code: &[Stmt], time: i64) -> bool
+        requires { IsTrue (can_do code.now self.old) }
+        ensures done { IsTrue result → (op.Nop, self.new)
+            ≡ do_stmt time (set_place (self.old.place + 1) self.old) (stmt_at code.now self.old.place) }
         ensures kept { IsFalse result → self.new ≡ self.old }
     {
-        let Mode::Running = self.mode else {
-            return false;
-        };
         let place = self.place;
         let statement = &code[place];
         self.place = place + 1;
@@ -330,26 +330,67 @@ impl Script {
         done
     }
 
-    // The same after it took in what it is told, where that is nothing or a value. `val` has its old value again where
-    // nothing was done.
+    // Does the statement at its place or leaves a block, where that asks for nothing. Whether it did: else nothing changes.
+    #[inline(always)]
+    fn go_quietly(&mut self, code: &[Stmt], time: i64) -> bool
+        requires { IsTrue (can_ask code.now self.old) }
+        ensures done { IsTrue result → (op.Nop, self.new) ≡ ask_in_mode code.now time self.old }
+        ensures kept { IsFalse result → self.new ≡ self.old }
+    {
+        match self.mode {
+            Mode::Running => self.go_on_quietly(code, time),
+            Mode::Throwing(_) | Mode::Breaking | Mode::Finishing(_) => self.unwind_quietly(code),
+        }
+    }
+
+    // The same after a variable got a value. It has its old one again where nothing was done.
+    #[inline(never)]
+    fn set_and_go_quietly(&mut self, code: &[Stmt], time: i64, at: u8, value: i64) -> bool
+        requires within { at ≤ last_variable self.old.scenario }
+        requires ask { IsTrue (can_ask code.now (set_variable at value self.old)) }
+        ensures done { IsTrue result
+            → (op.Nop, self.new) ≡ ask_in_mode code.now time (set_variable at value self.old) }
+        ensures kept { IsFalse result → self.new ≡ self.old }
+    {
+        let before = self.variable(at);
+        self.set_variable(at, value);
+        let done = self.go_quietly(code, time);
+        if !done {
+            self.set_variable(at, before);
+        }
+        done
+    }
+
+    // The same after the number went into the variable that the last statement gives it, where there is one.
+    #[inline(never)]
+    fn store_and_go_quietly(&mut self, code: &[Stmt], time: i64, number: i64) -> bool
+        requires given { IsTrue (keeps_given self.old (last_stmt code.now self.old)) }
+        requires ask { IsTrue (can_ask code.now
+            (store (given_by (last_stmt code.now self.old)) number self.old)) }
+        ensures done { IsTrue result → (op.Nop, self.new) ≡ ask_in_mode code.now time
+            (store (given_by (last_stmt code.now self.old)) number self.old) }
+        ensures kept { IsFalse result → self.new ≡ self.old }
+    {
+        match self.given(code) {
+            Some(to) => self.set_and_go_quietly(code, time, to, number),
+            None => self.go_quietly(code, time),
+        }
+    }
+
+    // The same after it took in what it is told, where that is nothing, a value or a number.
+    #[inline(always)]
     fn take_in_and_go_quietly(&mut self, code: &[Stmt], time: i64, signal: Signal) -> bool
-        requires { IsTrue (can_ask code.now (take_in code.now signal self.old)) }
+        requires take { IsTrue (can_take code.now signal self.old) }
+        requires ask { IsTrue (can_ask code.now (take_in code.now signal self.old)) }
         ensures done { IsTrue result
             → (op.Nop, self.new) ≡ ask_in_mode code.now time (take_in code.now signal self.old) }
         ensures kept { IsFalse result → self.new ≡ self.old }
     {
         match signal {
             Signal::Begin | Signal::Done => self.go_quietly(code, time),
-            Signal::Value(value) => {
-                let before = self.variable(0);
-                self.set_variable(0, value);
-                let done = self.go_quietly(code, time);
-                if !done {
-                    self.set_variable(0, before);
-                }
-                done
-            }
-            Signal::Thrown(_) | Signal::Raised(_) | Signal::Number(_) | Signal::Made(_) => false,
+            Signal::Value(value) => self.set_and_go_quietly(code, time, 0, value),
+            Signal::Number(number) => self.store_and_go_quietly(code, time, number),
+            Signal::Thrown(_) | Signal::Raised(_) | Signal::Made(_) => false,
         }
     }
 
@@ -381,21 +422,39 @@ impl Script {
         requires { IsTrue (can_leave code.now self.old self.old.frames) }
         ensures { (asked.new, self.new) ≡ unwind code.now self.old self.old.frames }
     {
+        if self.unwind_quietly(code) {
+            *asked = Op::Nop;
+            return;
+        }
         match self.innermost() {
             None => self.end(asked),
-            Some(Frame::InScope(_)) => {
+            Some(_) => {
                 self.leave();
                 *asked = Op::Leave;
             }
+        }
+    }
+
+    // Leaves the innermost block, where that asks for nothing. Whether it did: else nothing changes.
+    #[inline(never)]
+    fn unwind_quietly(&mut self, code: &[Stmt]) -> bool
+        requires { IsTrue (can_leave code.now self.old self.old.frames) }
+        ensures done { IsTrue result
+            → (op.Nop, self.new) ≡ unwind code.now self.old self.old.frames }
+        ensures kept { IsFalse result → self.new ≡ self.old }
+        ensures asks { IsFalse result → IsTrue (leaving_asks self.old.frames) }
+    {
+        match self.innermost() {
+            None | Some(Frame::InScope(_)) => false,
             Some(Frame::InTry(catch)) => {
                 self.leave();
                 self.leave_try(code, catch);
-                *asked = Op::Nop;
+                true
             }
             Some(Frame::InLoop(past) | Frame::InRepeat(past, _)) => {
                 self.leave();
                 self.leave_loop(past);
-                *asked = Op::Nop;
+                true
             }
         }
     }
