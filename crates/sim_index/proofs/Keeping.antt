@@ -79,10 +79,10 @@ module _ (old new : List Entry) (live given capacity : ℕ) (s : IsSoundIndex ol
   places_same (inl same) = ap (places_below given) same
   places_same (inr filtered) = ap (places_below given) filtered ∙ places_filter given old s.rising
 
-pub sound_with_room : (es : List Entry) (live given old new : ℕ) → IsSoundIndex es live given old → entries_per_number * live ≤ new
-    → IsSoundIndex es live given new
-sound_with_room es live given old new s room =
-    record { rising = s.rising; below = s.below; counted = s.counted; placed = s.placed; room = room }
+  pub sound_with_room : (room : ℕ) → SameEntries old new → capacity ≤ room → IsSoundIndex new live given room
+  sound_with_room room e more =
+      let kept = sound_same e in
+      record { rising = kept.rising; below = kept.below; counted = kept.counted; placed = kept.placed; room = omega (arith, kept.room) }
 
 -- ---- a number below those given gets another place, or loses it
 

@@ -36,8 +36,8 @@ pub(crate) struct Guesses {
     pub(crate) sought: usize,
 }
 
-// Whether the entry of a number is at a position.
-fn is_at(entries: &[Entry], number: u64, at: usize) -> bool
+/// Whether the entry of a number is at a position.
+pub(crate) fn is_at(entries: &[Entry], number: u64, at: usize) -> bool
     ensures { IsTrue result → HasNumberAt entries.now number at }
 {
     at < entries.len() && entries[at].number == number
@@ -62,15 +62,44 @@ pub(crate) fn position(entries: &[Entry], guesses: Guesses, number: u64) -> Opti
     search(entries, number).ok()
 }
 
-/// The same, for a number that mostly is the one that was sought last.
-pub(crate) fn position_again(entries: &[Entry], guesses: Guesses, number: u64) -> Option<usize>
+/// The same, for a number that is not the one sought last. Where it is searched for by halving, it gets a hint.
+pub(crate) fn position_by_guesses(
+    entries: &[Entry],
+    guesses: Guesses,
+    hints: &mut [usize],
+    number: u64,
+) -> Option<usize>
     requires { NumbersRise entries.now }
     ensures { FindsNumber entries.now number result }
 {
-    if is_at(entries, number, guesses.sought) {
-        return Some(guesses.sought);
+    let near_the_end = number.wrapping_sub(guesses.ahead) as usize;
+    if is_at(entries, number, near_the_end) {
+        return Some(near_the_end);
     }
-    position(entries, guesses, number)
+    let behind = guesses.sought.wrapping_add(1);
+    if is_at(entries, number, behind) {
+        return Some(behind);
+    }
+    position_by_hint(entries, hints, number)
+}
+
+// The same, where only the hint is tried before all are searched.
+fn position_by_hint(entries: &[Entry], hints: &mut [usize], number: u64) -> Option<usize>
+    requires { NumbersRise entries.now }
+    ensures { FindsNumber entries.now number result }
+{
+    let lowest_bits = hints.len().wrapping_sub(1);
+    match hints.get_mut(number as usize & lowest_bits) {
+        Some(hint) => {
+            if is_at(entries, number, *hint) {
+                return Some(*hint);
+            }
+            let at = search(entries, number).ok()?;
+            *hint = at;
+            Some(at)
+        }
+        None => search(entries, number).ok(),
+    }
 }
 
 // The position of the entry of a number, or the one where it would stand.

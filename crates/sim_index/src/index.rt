@@ -2,7 +2,7 @@ ghost use Rattle.std.specs.Prelude.{◌≡◌, ◌+◌, ◌-◌, ◌<◌, ◌≤
 ghost use Rattle.sim_index.specs.IndexOf.{place_of_number, with_number};
 
 use crate::entries::{
-    Entry, GONE, Guesses, compact, compact_if_full, position, position_again, put,
+    Entry, GONE, Guesses, compact, compact_if_full, is_at, position, position_by_guesses, put,
 };
 use std::alloc::{AllocError, Global};
 use std::marker::Model;
@@ -18,6 +18,11 @@ use std::marker::Model;
 pub struct Index {
     entries: Vec<Entry>,
     guesses: Guesses,
+    // Where a number was found when it was last searched for by halving, at the slot that its lowest bits name. There
+    // are none, or as many as a power of two. A hint is only a guess, tested by the number of the entry there: entries
+    // move, and numbers share slots. Processes that go on in no order of their numbers are found by theirs, without
+    // halving.
+    hints: Vec<usize>,
     // How many numbers have a place.
     live: usize,
     // The least number that may still be given.
@@ -26,6 +31,9 @@ pub struct Index {
 
 // How many entries there is room for, for each number that has a place.
 const ENTRIES_PER_NUMBER: usize = 4;
+
+// How many hints there are at least, once there is room: among few, too many numbers would share theirs.
+const LEAST_HINTS: usize = 64;
 
 impl Model for Index {
     ghost use Rattle.std.specs.Prelude.{◌-◌, ◌/◌, vec_capacity};
@@ -55,6 +63,7 @@ impl Index {
                 ahead: 0,
                 sought: 0,
             },
+            hints: Vec::new(alloc),
             live: 0,
             given: 0,
         }
@@ -94,7 +103,11 @@ impl Index {
         }
         compact(&mut self.entries);
         let wanted = ENTRIES_PER_NUMBER * (self.live + more);
-        self.entries.reserve(wanted - self.live)
+        self.entries.reserve(wanted - self.live)?;
+        // A hint for each number that there is room for.
+        let numbers = self.entries.capacity() / ENTRIES_PER_NUMBER;
+        let hints = numbers.max(LEAST_HINTS).next_power_of_two();
+        self.hints.resize(hints, 0)
     }
 
     /// The place of a number, if it has one.
@@ -107,12 +120,28 @@ impl Index {
         }
     }
 
-    /// The same, for a number that is looked up again and again: until another one is sought, it is found at once.
+    /// The same, for a number that is looked up again and again: until another one is sought, it is found at once, and
+    /// after that mostly without a search.
+    #[inline(always)]
     pub fn seek(&mut self, number: u64) -> Option<usize>
         ensures place { result ≡ place_of_number number self.old.places }
         ensures same { self.new ≡ self.old }
     {
-        match position_again(self.entries.as_slice(), self.guesses, number) {
+        let sought = self.guesses.sought;
+        if is_at(self.entries.as_slice(), number, sought) {
+            return self.entries[sought].known_place();
+        }
+        self.seek_other(number)
+    }
+
+    // The same, where the number is not the one that was sought last.
+    #[inline(never)]
+    fn seek_other(&mut self, number: u64) -> Option<usize>
+        ensures place { result ≡ place_of_number number self.old.places }
+        ensures same { self.new ≡ self.old }
+    {
+        let entries = self.entries.as_slice();
+        match position_by_guesses(entries, self.guesses, self.hints.as_mut_slice(), number) {
             Some(at) => {
                 self.guesses.sought = at;
                 self.entries[at].known_place()
