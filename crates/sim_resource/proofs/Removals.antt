@@ -1,5 +1,5 @@
 -- What is left of a list where the one element that passes a test is taken out at its place.
-use Rattle.std.proofs.Common.{◌≡◌, ◌≢◌, ℕ, ◌+◌, suc, ◌<◌, ◌≤◌, Bool, true, false, not, List, [], ◌∷◌, length, Some, None, position, nat_lt, refl, sym, ap, subst, ◌∙◌, filter, arith, All, AllPairs, if◌then◌else◌, get_or}
+use Rattle.std.proofs.Common.{◌≡◌, ◌≢◌, ℕ, ◌+◌, suc, ◌<◌, ◌≤◌, Bool, true, false, not, List, [], ◌∷◌, length, Option, Some, None, position, nat_lt, refl, sym, ap, subst, ◌∙◌, filter, arith, All, AllPairs, if◌then◌else◌, get_or, HoldsAt}
 use Rattle.std.specs.List.{position_or_len, list_any, remove}
 use Rattle.std.proofs.lemmas.Bool.{false_from_ne_true}
 use Rattle.std.proofs.lemmas.Bool.Decides.{nat_tests}
@@ -9,6 +9,7 @@ use Rattle.std.proofs.lemmas.List.Elements.{All-head, All-tail, All-weaker}
 use Rattle.sim_types.proofs.Permutations.{AllPairs-head, AllPairs-tail}
 use Rattle.sim_types.specs.declared.event.EventId.{EventId}
 use Rattle.sim_machine.specs.Events.{is_same, without_first}
+use Rattle.sim_resource.specs.Places.{IsPlaceFound}
 
 -- ---- a request
 
@@ -118,7 +119,7 @@ pub none_taken : {X : Type 0} (p : X → Bool) (xs : List X) → position p xs �
 none_taken p xs h = (none_before p xs (far p xs (nat_lt (position_or_len p xs) (length xs)) refl h)).1
 
 -- where no two pass, one that passes stands at the first place of all
-pub place_alone : {X : Type 0} (p : X → Bool) (xs : List X) (i : ℕ) (d : X) → PassAlone p xs → i < length xs → p (get_or xs i d) ≡ true
+place_alone : {X : Type 0} (p : X → Bool) (xs : List X) (i : ℕ) (d : X) → PassAlone p xs → i < length xs → p (get_or xs i d) ≡ true
     → position p xs ≡ Some i
 place_alone p xs i d alone within passes =
     let before : (k : ℕ) → k < i → p (get_or xs k d) ≡ false = λ k less. false_from_ne_true (p (get_or xs k d)) (λ yes. alone k i d less within yes passes) in
@@ -129,7 +130,7 @@ place_alone p xs i d alone within passes =
     placed n i len is below = grind (arith, nat_tests)
 
 -- where none passes there is no place
-pub no_place : {X : Type 0} (p : X → Bool) (xs : List X) → ((k : ℕ) (d : X) → k < length xs → p (get_or xs k d) ≡ false) → position p xs ≡ None
+no_place : {X : Type 0} (p : X → Bool) (xs : List X) → ((k : ℕ) (d : X) → k < length xs → p (get_or xs k d) ≡ false) → position p xs ≡ None
 no_place p [] fails = refl
 no_place p (x ∷ xs) fails =
     let beyond = position_or_len_is p (x ∷ xs) (length (x ∷ xs)) x (omega arith) (λ k before. fails k x before) (λ h. absurd (omega (arith, h))) in
@@ -137,6 +138,15 @@ no_place p (x ∷ xs) fails =
   where
     unplaced : (n len : ℕ) → n ≡ len → (if nat_lt n len then Some n else None) ≡ None
     unplaced n len is = grind (arith, nat_tests)
+
+-- where no two pass, a place that was found is the first of all
+pub place_found : {X : Type 0} (p : X → Bool) (xs : List X) {n : ℕ} {answers : ℕ → Bool → Type 0} (r : Option ℕ) → PassAlone p xs → n ≡ length xs
+    → ((i : ℕ) (b : Bool) → answers i b → HoldsAt (λ x. b ≡ p x) xs i) → IsPlaceFound n answers r → r ≡ position p xs
+place_found p xs None alone len test f = sym (no_place p xs (λ k d below. sym (test k false (f.all_fail refl k (omega arith)) d)))
+place_found p [] (Some i) alone len test f = let below = f.passes.0 in absurd (omega (arith, below))
+place_found p (x ∷ xs) (Some i) alone len test f =
+    let below = f.passes.0 in
+    sym (place_alone p (x ∷ xs) i x alone (omega (arith, below)) (sym (test i true f.passes.1 x)))
 
 -- elements whose requests differ
 pub alone_of : {X : Type 0} (request_of : X → EventId) (request : EventId) (xs : List X) → AllPairs (λ x y. request_of x ≢ request_of y) xs →

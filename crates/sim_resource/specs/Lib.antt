@@ -3,3 +3,4 @@ pub mod Attempts
 pub mod Sorting
 pub mod GrantOrder
 pub mod SoundDesks
+pub mod Places

@@ -3,6 +3,7 @@
 #![tactic(auto)]
 
 mod desk;
+mod ends;
 mod grant;
 mod key;
 mod kind;

@@ -1,5 +1,5 @@
 //! The queue of a desk, in the order in which requests are served.
-ghost use Rattle.std.specs.Prelude.{◌≡◌, ◌≢◌, ◌<◌, ◌≤◌, true, false, not, length, AllPairs, IsTrue, IsFalse, ◌+◌};
+ghost use Rattle.std.specs.Prelude.{◌≡◌, ◌≢◌, ◌<◌, ◌≤◌, ◌==◌, true, false, not, length, AllPairs, HoldsAt, IsTrue, IsFalse, ◌+◌};
 ghost use Rattle.std.specs.List.{list_any, position};
 ghost use Rattle.std.specs.List.Sorted.{IsPartitionPoint};
 ghost use Rattle.std.specs.VecDeque.{deque_len, deque_capacity};
@@ -9,6 +9,7 @@ ghost use Rattle.sim_resource.specs.Sorting as sorting;
 ghost use Rattle.sim_resource.specs.Sorting.{IsInOrderBy, put_behind, queue_joined, waits_before};
 ghost use Rattle.sim_machine.specs.Keys as keys;
 
+use crate::ends::place_from_ends;
 use crate::key::is_served_first;
 use sim_types::{EventId, ProcId, RequestKey};
 use std::collections::VecDeque;
@@ -88,23 +89,19 @@ pub(crate) fn first_key_with(
     }
 }
 
-// The place of a request in the queue. It is looked for from both ends at once: who gives up came just now, or has waited
-// longest.
+// The place of a request in the queue. It is looked for from both ends: who gives up came just now, or has waited longest.
 fn place_of(queue: &VecDeque<WaitingRequest>, request: EventId) -> Option<usize>
     requires apart { AllPairs (λ v w. v.request ≢ w.request) queue.now.items }
     ensures { result ≡ position (λ w. is_same w.request request) queue.now.items }
 {
-    let len = queue.len();
-    for near in 0..len - len / 2 {
-        let far = len - 1 - near;
-        if queue[far].request.0 == request.0 {
-            return Some(far);
-        }
-        if queue[near].request.0 == request.0 {
-            return Some(near);
-        }
-    }
-    None
+    place_from_ends(
+        queue.len(),
+        |place: usize| -> bool
+            requires { place < length queue.now.items }
+            ensures { HoldsAt (λ w. result ≡ (w.request.0 == request.0))
+                queue.entry.now.items place }
+        { queue[place].request.0 == request.0 },
+    )
 }
 
 /// A request waits no longer. Whether it did.

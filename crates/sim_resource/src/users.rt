@@ -1,5 +1,5 @@
 //! The users of a desk.
-ghost use Rattle.std.specs.Prelude.{◌≡◌, ◌≢◌, ◌+◌, ◌-◌, ◌<◌, ◌≤◌, [], ◌∷◌, ◌++◌, true, false, not, filter, Some, length, All, AllPairs, IsTrue, IsOk, OnOk, vec_len, vec_capacity};
+ghost use Rattle.std.specs.Prelude.{◌≡◌, ◌≢◌, ◌+◌, ◌-◌, ◌<◌, ◌≤◌, ◌==◌, [], ◌∷◌, ◌++◌, true, false, not, filter, Some, length, All, AllPairs, IsTrue, IsOk, OnOk, HoldsAt, vec_len, vec_capacity};
 ghost use Rattle.std.specs.List.{list_any, position};
 ghost use Rattle.std.specs.List.Sorted.{IsPartitionPoint, IsPartitionedBy};
 ghost use Rattle.sim_machine.specs.State.{User};
@@ -9,6 +9,7 @@ ghost use Rattle.sim_machine.specs.Users.{last_served};
 ghost use Rattle.sim_resource.specs.Attempts.{users_but};
 ghost use Rattle.sim_resource.specs.Sorting.{IsInOrderBy, put_behind, ranks_before};
 
+use crate::ends::place_from_ends;
 use crate::key::is_served_first;
 use crate::user::User;
 use sim_types::{EventId, RequestKey};
@@ -71,11 +72,19 @@ fn put_by_key(users: &mut Vec<User>, user: User)
     }
 }
 
-// The place of the user of a request.
+// The place of the user of a request. It is looked for from both ends: who is released was mostly granted just now, or
+// longest ago.
 fn place_of(users: &[User], request: EventId) -> Option<usize>
+    requires apart { AllPairs (λ u v. u.request ≢ v.request) users.now }
     ensures { result ≡ position (λ u. is_same u.request request) users.now }
 {
-    users.iter().position(|user| user.request().0 == request.0)
+    place_from_ends(
+        users.len(),
+        |place: usize| -> bool
+            requires { place < length users.now }
+            ensures { HoldsAt (λ u. result ≡ (u.request.0 == request.0)) users.entry.now place }
+        { users[place].request().0 == request.0 },
+    )
 }
 
 // A request is a user no longer. Whether it was.
@@ -108,11 +117,18 @@ fn take_last(users: &mut Vec<User>) -> User
     }
 }
 
-// The place of a request in the order of grant.
+// The place of a request in the order of grant, likewise looked for from both ends.
 fn place_granted(granted: &[EventId], request: EventId) -> Option<usize>
+    requires apart { AllPairs (λ e f. e ≢ f) granted.now }
     ensures { result ≡ position (λ r. is_same r request) granted.now }
 {
-    granted.iter().position(|other| other.0 == request.0)
+    place_from_ends(
+        granted.len(),
+        |place: usize| -> bool
+            requires { place < length granted.now }
+            ensures { HoldsAt (λ e. result ≡ (e.0 == request.0)) granted.entry.now place }
+        { granted[place].0 == request.0 },
+    )
 }
 
 // A request stands no longer in the order of grant.
