@@ -1,5 +1,5 @@
 -- How many comparisons there are on the levels of a heap.
-use Rattle.std.proofs.Common.{◌≡◌, ℕ, zero, suc, ◌+◌, ◌-◌, ◌*◌, ◌^◌, ◌<◌, ◌≤◌, Bool, true, false, refl, ap, ◌∙◌, inl, inr, arith, pow-suc, pow_mono, mul-le-mul, leb-false}
+use Rattle.std.proofs.Common.{◌≡◌, ℕ, zero, suc, ◌+◌, ◌-◌, ◌*◌, ◌^◌, ◌<◌, ◌≤◌, List, [], ◌∷◌, length, Bool, true, false, refl, ap, ◌∙◌, inl, inr, arith, pow-suc, pow_mono, mul-le-mul, leb-false, leb-true}
 use Rattle.std.specs.Prelude.{nat_le, if◌then◌else◌}
 use Rattle.std.proofs.lemmas.Bool.{cases_eq}
 use Rattle.sim_agenda.specs.Comparisons.{exponent_within, most_comparisons, ComparesAtLevels}
@@ -41,8 +41,51 @@ no_comparison place old =
 pub levels_few_enough : (place old now : ℕ) → ComparesAtLevels place old now → now ≤ old + place
 levels_few_enough place old now h = omega (arith, h.rises, h.levels, below_power (now - old))
 
+if_reached : (b : Bool) (m k n : ℕ) → (b ≡ true → 2 ^ m ≤ n) → 2 ^ k ≤ n → 2 ^ (if b then m else k) ≤ n
+if_reached true m k n h le = h refl
+if_reached false m k n h le = le
+
+-- the power of the exponent is within
+exponent_reached : (n limit : ℕ) → 1 ≤ n → 2 ^ exponent_within n limit ≤ n
+unfolding exponent_within
+exponent_reached n zero some = omega arith
+exponent_reached n (suc limit) some =
+    if_reached (nat_le (2 ^ suc limit) n) (suc limit) (exponent_within n limit) n (leb-true (2 ^ suc limit) n) (exponent_reached n limit some)
+
+-- no fewer for more entries
+most_rises : (m n : ℕ) → m ≤ n → most_comparisons m ≤ most_comparisons n
+unfolding most_comparisons
+most_rises m n few =
+    let k : ℕ = exponent_within (2 * m + 1) (2 * m + 1) in
+    levels_within n k (omega (arith, exponent_reached (2 * m + 1) (2 * m + 1) (omega arith)))
+
+-- some where there is an entry
+most_some : (n : ℕ) → 1 ≤ n → 4 ≤ most_comparisons n
+most_some n some = levels_within n 1 (omega arith)
+
+-- at most one comparison, and none where there is nothing to compare with
+pub once_only : {X : Type 0} (xs : List X) (n old mid : ℕ) → length xs ≤ n → mid ≤ old + 1 → (xs ≡ [] → mid ≡ old) → mid ≤ old + most_comparisons n
+once_only [] n old mid few once none = omega (arith, none refl)
+once_only (x ∷ xs) n old mid few once none = omega (arith, most_some n (omega (arith, few)))
+
+-- and then one for each level
+pub once_and_up : {X : Type 0} (xs : List X) (n place old mid new : ℕ) → length xs + place ≤ n → mid ≤ old + 1 → (xs ≡ [] → mid ≡ old)
+    → ComparesAtLevels place mid new → new ≤ old + most_comparisons n
+once_and_up [] n place old mid new few once none up =
+    omega (arith, none refl, up.rises, levels_within n (new - mid) (omega (arith, up.levels, few)))
+once_and_up (x ∷ xs) n place old mid new few once none up =
+    omega (arith, most_some n (omega (arith, few)), up.rises, levels_within n (new - mid) (omega (arith, up.levels, few)))
+
+-- and then half of what is allowed
+pub once_and_half : {X : Type 0} (xs : List X) (m n old mid new : ℕ) → length xs ≤ n → m ≤ n → mid ≤ old + 1 → (xs ≡ [] → mid ≡ old)
+    → 2 * new ≤ 2 * mid + most_comparisons m → new ≤ old + most_comparisons n
+once_and_half [] m n old mid new few fewer once none half = omega (arith, none refl, most_rises m n fewer)
+once_and_half (x ∷ xs) m n old mid new few fewer once none half =
+    omega (arith, most_some n (omega (arith, few)), most_rises m n fewer)
+
 -- once down and once up
-pub both_within : (n place old mid new : ℕ) → place ≤ n → ComparesAtLevels place old mid → ComparesAtLevels place mid new → new ≤ old + most_comparisons n
+pub both_within : (n place old mid new : ℕ) → place ≤ n → ComparesAtLevels place old mid → ComparesAtLevels place mid new
+    → 2 * new ≤ 2 * old + most_comparisons n
 both_within n place old mid new few down up =
     omega (arith, down.rises, up.rises, levels_within n (mid - old) (omega (arith, down.levels)), levels_within n (new - mid) (omega (arith, up.levels)))
 

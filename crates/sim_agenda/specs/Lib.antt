@@ -1,3 +1,4 @@
 pub mod Agendas
 pub mod Comparisons
 pub mod Heaps
+pub mod Series

@@ -3,30 +3,37 @@ ghost use Rattle.std.specs.List.Sorted.{IsPermutation};
 ghost use Rattle.sim_agenda.specs.Agendas.{PopsFirst};
 ghost use Rattle.sim_agenda.specs.Comparisons.{most_comparisons};
 
-use crate::heap::{exchange_first, put_from};
+use crate::heap;
+use crate::series::{front_is_due, goes_behind};
 use sim_types::{Count, Entry};
 use std::alloc::{AllocError, Global};
+use std::collections::VecDeque;
 use std::marker::Model;
 
-/// The entries of what is scheduled, in no order that counts. No entry comes before the first.
+/// The entries of what is scheduled, in no order that counts. One that comes after all of the series when it is put in
+/// goes behind them, and any other into the heap. Either has room for all.
 #[derive(Drop)]
 pub struct Agenda {
-    entries: Vec<Entry>,
+    heap: Vec<Entry>,
+    series: VecDeque<Entry>,
 }
 
 impl Model for Agenda {
-    ghost use Rattle.std.specs.Prelude.{◌-◌, vec_len, vec_capacity};
+    ghost use Rattle.std.specs.Prelude.{◌+◌, ◌-◌, ◌++◌, min, vec_len, vec_capacity};
+    ghost use Rattle.std.specs.VecDeque.{deque_len, deque_capacity};
     ghost use Rattle.sim_agenda.specs.Agendas.{AgendaOf};
-    ghost use Rattle.sim_agenda.specs.Heaps.{IsHeap};
+    ghost use Rattle.sim_agenda.specs.Series.{IsArranged};
 
     ghost Value = { AgendaOf };
 
     ghost view = { λ a. record {
-      entries = a.entries.items;
-      spare = vec_capacity a.entries - vec_len a.entries;
+      entries = a.heap.items ++ a.series.items;
+      spare = min (vec_capacity a.heap) (deque_capacity a.series)
+          - (vec_len a.heap + deque_len a.series);
     } };
 
-    ghost invariant = { λ a. IsHeap a.entries.items };
+    ghost invariant = { λ a. IsArranged a.heap.items a.series.items
+        (vec_capacity a.heap) (deque_capacity a.series) };
 }
 
 impl Agenda {
@@ -35,7 +42,8 @@ impl Agenda {
         ensures { result.entries ≡ [] }
     {
         Agenda {
-            entries: Vec::new(alloc),
+            heap: Vec::new(alloc),
+            series: VecDeque::new(alloc),
         }
     }
 
@@ -46,7 +54,11 @@ impl Agenda {
         ensures never_less { self.old.spare ≤ self.new.spare }
         ensures succeeds { more ≤ self.old.spare → IsOk result }
     {
-        self.entries.reserve(more)
+        if more <= self.spare() {
+            return Ok(());
+        }
+        self.heap.reserve(more.saturating_add(self.series.len()))?;
+        self.series.reserve(more.saturating_add(self.heap.len()))
     }
 
     /// An entry more. It takes no memory.
@@ -58,32 +70,33 @@ impl Agenda {
         ensures rises { count.old ≤ count.new }
         ensures count { count.new ≤ count.old + most_comparisons (length self.old.entries) }
     {
-        let place = self.entries.len();
-        // what stands in the new slot meanwhile does not count
-        let any = entry;
-        self.entries.push_reserved(any);
-        put_from(&mut self.entries, place, entry, count);
+        if goes_behind(&self.series, &entry, count) {
+            self.series.push_back_reserved(entry);
+        } else {
+            heap::push(&mut self.heap, entry, count);
+        }
     }
 
     /// How many entries there are.
     pub fn len(&self) -> u64
         ensures { result ≡ length self.now.entries }
     {
-        self.entries.len() as u64
+        (self.heap.len() + self.series.len()) as u64
     }
 
     /// For how many more entries there is room.
     pub fn spare(&self) -> usize
         ensures { result ≡ self.now.spare }
     {
-        self.entries.capacity() - self.entries.len()
+        let room = self.heap.capacity().min(self.series.capacity());
+        room - self.heap.len() - self.series.len()
     }
 
     /// Whether nothing is scheduled.
     pub fn is_empty(&self) -> bool
         ensures { IsTrue result ↔ (self.now.entries ≡ []) }
     {
-        self.entries.is_empty()
+        self.len() == 0
     }
 
     /// Takes the entry out that is due: no other comes before it. It takes no memory.
@@ -94,10 +107,10 @@ impl Agenda {
         ensures rises { count.old ≤ count.new }
         ensures count { count.new ≤ count.old + most_comparisons (length self.old.entries) }
     {
-        let last = self.entries.pop()?;
-        if self.entries.is_empty() {
-            return Some(last);
+        if front_is_due(&self.series, &self.heap, count) {
+            self.series.pop_front()
+        } else {
+            heap::pop(&mut self.heap, count)
         }
-        Some(exchange_first(&mut self.entries, last, count))
     }
 }

@@ -3,5 +3,6 @@
 
 mod agenda;
 mod heap;
+mod series;
 
 pub use agenda::Agenda;

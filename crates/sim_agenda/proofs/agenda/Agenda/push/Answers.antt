@@ -1,17 +1,27 @@
-use Rattle.std.proofs.Common.{◌≡◌, length, refl, ◌∙◌, subst, rules}
-use Rattle.sim_agenda.specs.Comparisons.{ComparesAtLevels}
-use Rattle.sim_agenda.proofs.Comparing.{once_within}
-use Rattle.sim_agenda.proofs.Writing.{pushed}
+use Rattle.std.proofs.Common.{◌≡◌, ◌+◌, ◌++◌, length, length-append, arith}
+use Rattle.sim_agenda.proofs.Comparing.{once_only, once_and_up}
+use Rattle.sim_agenda.proofs.Joining.{put_behind, put_among}
 use Rattle.sim_agenda.proofs.agenda.Agenda.push.Goals as goal
 
-pub returns-clause-entries : goal.returns-clause-entries
-returns-clause-entries c =
-    let new = c.put_from.ensures in
-    let at : c.len-place.result ≡ length c.self.inside.entries.items = search rules in
-    rw (← c.self.view_is) (pushed c.self.inside.entries.items c.push_reserved.new.self.items c.put_from.new.entries _ _ c.push_reserved.new.self.len
-    c.len-place.result c.args.entry c.push_reserved.ensures.items at (rw c.deref_mut.ensures.value at new.moved) (new.len ∙ c.deref_mut.ensures.len) refl)
+pub returns-then-goes_behind-clause-entries : goal.returns-then-goes_behind-clause-entries
+returns-then-goes_behind-clause-entries c =
+    rw (← c.self.view_is) (put_behind c.self.inside.heap.items c.self.inside.series.items _ c.args.entry c.push_back_reserved.ensures.items)
 
-pub returns-clause-count : goal.returns-clause-count
-returns-clause-count c =
-    let at : c.len-place.result ≡ length c.args.self.now.entries = search rules in
-    once_within (length c.args.self.now.entries) _ _ (subst (λ n. ComparesAtLevels n c.args.count.now c.put_from.new.count) at c.put_from.ensures.count)
+pub returns-else-goes_behind-clause-entries : goal.returns-else-goes_behind-clause-entries
+returns-else-goes_behind-clause-entries c =
+    rw (← c.self.view_is) (put_among c.self.inside.heap.items c.self.inside.series.items _ c.args.entry c.push.ensures.moved)
+
+pub returns-then-goes_behind-clause-count : goal.returns-then-goes_behind-clause-count
+returns-then-goes_behind-clause-count c =
+    let xs = c.self.inside.heap.items in
+    let ys = c.self.inside.series.items in
+    let all : length (xs ++ ys) ≡ length xs + length ys = length-append xs ys in
+    rw (← c.self.view_is) (once_only ys (length (xs ++ ys)) c.args.count.now _ (omega arith) c.goes_behind.ensures.once c.goes_behind.ensures.alone)
+
+pub returns-else-goes_behind-clause-count : goal.returns-else-goes_behind-clause-count
+returns-else-goes_behind-clause-count c =
+    let xs = c.self.inside.heap.items in
+    let ys = c.self.inside.series.items in
+    let all : length (xs ++ ys) ≡ length xs + length ys = length-append xs ys in
+    rw (← c.self.view_is) (once_and_up ys (length (xs ++ ys)) _ c.args.count.now c.goes_behind.new.count _ (omega arith) c.goes_behind.ensures.once
+    c.goes_behind.ensures.alone c.push.ensures.count)

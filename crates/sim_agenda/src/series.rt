@@ -1,0 +1,41 @@
+//! Entries that came in rising order, in a queue: each comes before all that stand behind it, so the front is due first.
+//! Where processes sleep for one and the same time again and again, most entries come so, and none of them has to find
+//! its place among the others.
+ghost use Rattle.std.specs.Prelude.{◌≡◌, ◌+◌, ◌<◌, ◌≤◌, ◌^◌, [], ◌∷◌, ◌++◌, IsTrue, IsFalse};
+ghost use Rattle.sim_agenda.specs.Heaps.{IsHeap};
+ghost use Rattle.sim_agenda.specs.Series.{Rises, FrontIsDue, FirstIsDue};
+
+use sim_types::{Count, Entry};
+use std::collections::VecDeque;
+
+/// Whether an entry may stand behind the last: all others come before it.
+pub(crate) fn goes_behind(series: &VecDeque<Entry>, entry: &Entry, count: &mut Count) -> bool
+    requires rises { Rises series.now.items }
+    requires count { count.old ≤ 2 ^ 63 }
+    ensures rises { IsTrue result → Rises (series.now.items ++ entry.now ∷ []) }
+    ensures once { count.new ≤ count.old + 1 }
+    ensures counts { count.old ≤ count.new }
+    ensures alone { series.now.items ≡ [] → count.new ≡ count.old }
+{
+    match series.back() {
+        Some(last) => last.key.less(&entry.key, count),
+        None => true,
+    }
+}
+
+/// Whether the front of the series is due, and not the first of the heap.
+pub(crate) fn front_is_due(series: &VecDeque<Entry>, heap: &[Entry], count: &mut Count) -> bool
+    requires rises { Rises series.now.items }
+    requires heap { IsHeap heap.now }
+    requires count { count.old ≤ 2 ^ 63 }
+    ensures front { IsTrue result → FrontIsDue series.now.items heap.now }
+    ensures first { IsFalse result → FirstIsDue series.now.items heap.now }
+    ensures once { count.new ≤ count.old + 1 }
+    ensures counts { count.old ≤ count.new }
+    ensures alone { heap.now ≡ [] → count.new ≡ count.old }
+{
+    match (series.front(), heap.first()) {
+        (Some(front), Some(first)) => front.key.less(&first.key, count),
+        (front, _) => front.is_some(),
+    }
+}
