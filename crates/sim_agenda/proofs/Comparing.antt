@@ -63,14 +63,19 @@ most_rises m n few =
 most_some : (n : ℕ) → 1 ≤ n → 4 ≤ most_comparisons n
 most_some n some = levels_within n 1 (omega arith)
 
+-- more where there are two
+most_more : (n : ℕ) → 2 ≤ n → 8 ≤ most_comparisons n
+most_more n some = levels_within n 2 (omega arith)
+
 -- at most one comparison, and none where there is nothing to compare with
-pub once_only : {X : Type 0} (xs : List X) (n old mid : ℕ) → length xs ≤ n → mid ≤ old + 1 → (xs ≡ [] → mid ≡ old) → mid ≤ old + most_comparisons n
+pub once_only : {X : Type 0} (xs : List X) (n old mid : ℕ) → length xs ≤ n → mid ≤ old + 1 → (xs ≡ [] → mid ≡ old)
+    → 2 * mid ≤ 2 * old + most_comparisons n
 once_only [] n old mid few once none = omega (arith, none refl)
 once_only (x ∷ xs) n old mid few once none = omega (arith, most_some n (omega (arith, few)))
 
 -- and then one for each level
 pub once_and_up : {X : Type 0} (xs : List X) (n place old mid new : ℕ) → length xs + place ≤ n → mid ≤ old + 1 → (xs ≡ [] → mid ≡ old)
-    → ComparesAtLevels place mid new → new ≤ old + most_comparisons n
+    → ComparesAtLevels place mid new → 2 * new ≤ 2 * old + most_comparisons n
 once_and_up [] n place old mid new few once none up =
     omega (arith, none refl, up.rises, levels_within n (new - mid) (omega (arith, up.levels, few)))
 once_and_up (x ∷ xs) n place old mid new few once none up =
@@ -82,6 +87,22 @@ pub once_and_half : {X : Type 0} (xs : List X) (m n old mid new : ℕ) → lengt
 once_and_half [] m n old mid new few fewer once none half = omega (arith, none refl, most_rises m n fewer)
 once_and_half (x ∷ xs) m n old mid new few fewer once none half =
     omega (arith, most_some n (omega (arith, few)), most_rises m n fewer)
+
+-- at most one comparison, and then half of what is allowed
+pub one_and_half : (m n old mid new : ℕ) → m ≤ n → mid ≤ old + 1 → 2 * new ≤ 2 * mid + most_comparisons m → 2 * new ≤ 2 * old + most_comparisons n + 2
+one_and_half m n old mid new fewer once half = omega (arith, most_rises m n fewer)
+
+-- two comparisons, and where there is nothing to compare with none; then half of what is allowed and one more
+pub twice_and_half : {X : Type 0} (xs ys : List X) (n old mid new : ℕ) → n ≡ length ys + length xs → (ys ≡ [] → xs ≡ []) → mid ≤ old + 2 → (xs ≡ [] → mid ≡ old)
+    → new ≤ mid + most_comparisons (length ys) → 2 * new ≤ 2 * mid + most_comparisons (length ys) + 2 → new ≤ old + most_comparisons n
+twice_and_half [] ys n old mid new all none twice alone within half = omega (arith, alone refl, most_rises (length ys) n (omega (arith, all)))
+twice_and_half (x ∷ xs) [] n old mid new all none twice alone within half = absurd (cc (none refl))
+twice_and_half (x ∷ xs) (y ∷ ys) n old mid new all none twice alone within half =
+    omega (arith, most_more n (omega (arith, all)), most_rises (length (y ∷ ys)) n (omega (arith, all)))
+
+-- two comparisons, where there is an entry
+pub twice_only : (n old new : ℕ) → 1 ≤ n → new ≤ old + 2 → new ≤ old + most_comparisons n
+twice_only n old new some twice = omega (arith, most_some n some)
 
 -- once down and once up
 pub both_within : (n place old mid new : ℕ) → place ≤ n → ComparesAtLevels place old mid → ComparesAtLevels place mid new

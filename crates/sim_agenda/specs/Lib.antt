@@ -2,3 +2,4 @@ pub mod Agendas
 pub mod Comparisons
 pub mod Heaps
 pub mod Series
+pub mod Windows

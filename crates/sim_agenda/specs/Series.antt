@@ -12,6 +12,12 @@ Rises = AllPairs (λ x y. IsLess x.key y.key)
 abbrev pub IsDue : Entry → List Entry → Type 0
 IsDue x = All (λ y. ¬ IsLess y.key x.key)
 
+-- no entry comes before this one, and it does not come before another of which this is so
+pub record IsFirst (x : Entry) (xs : List Entry) : Type 0 where
+  pub some : 0 < length xs
+  pub due : IsDue x xs
+  pub among : (y : Entry) → IsDue y xs → ¬ IsLess x.key y.key
+
 -- the series has a front, and none of the others comes before it
 pub record FrontIsDue (series others : List Entry) : Type 0 where
   pub some : 0 < length series

@@ -1,39 +1,60 @@
-ghost use Rattle.std.specs.Prelude.{◌≡◌, ◌↔◌, ◌+◌, ◌<◌, ◌≤◌, ◌^◌, [], ◌∷◌, length, IsTrue, IsOk, OnOk, IfSome};
+ghost use Rattle.std.specs.Prelude.{◌≡◌, ◌↔◌, ◌+◌, ◌<◌, ◌≤◌, ◌^◌, [], ◌∷◌, length, IsTrue, IsFalse, IsOk, OnOk, IfSome};
 ghost use Rattle.std.specs.List.Sorted.{IsPermutation};
 ghost use Rattle.sim_agenda.specs.Agendas.{PopsFirst};
 ghost use Rattle.sim_agenda.specs.Comparisons.{most_comparisons};
+ghost use Rattle.sim_agenda.specs.Series.{FirstIsDue};
 
-use crate::heap;
-use crate::series::{front_is_due, goes_behind};
+use crate::backlog::Backlog;
+use crate::window::Window;
 use sim_types::{Count, Entry};
 use std::alloc::{AllocError, Global};
-use std::collections::VecDeque;
 use std::marker::Model;
 
-/// The entries of what is scheduled, in no order that counts. One that comes after all of the series when it is put in
-/// goes behind them, and any other into the heap. Either has room for all.
+// The queue of one time has room for one in so many of the entries that the agenda has room for.
+const SHARE: usize = 32;
+
+/// The entries of what is scheduled, in no order that counts.
 #[derive(Drop)]
 pub struct Agenda {
-    heap: Vec<Entry>,
-    series: VecDeque<Entry>,
+    // those of the next times that came in rising order
+    window: Window,
+    // the others, with room for all
+    backlog: Backlog,
 }
 
 impl Model for Agenda {
-    ghost use Rattle.std.specs.Prelude.{◌+◌, ◌-◌, ◌++◌, min, vec_len, vec_capacity};
-    ghost use Rattle.std.specs.VecDeque.{deque_len, deque_capacity};
+    ghost use Rattle.std.specs.Prelude.{◌-◌, ◌++◌, length};
     ghost use Rattle.sim_agenda.specs.Agendas.{AgendaOf};
-    ghost use Rattle.sim_agenda.specs.Series.{IsArranged};
+    ghost use Rattle.sim_agenda.specs.Windows.{IsSpread};
 
     ghost Value = { AgendaOf };
 
     ghost view = { λ a. record {
-      entries = a.heap.items ++ a.series.items;
-      spare = min (vec_capacity a.heap) (deque_capacity a.series)
-          - (vec_len a.heap + deque_len a.series);
+      entries = a.backlog.entries ++ a.window;
+      spare = a.backlog.spare - length a.window;
     } };
 
-    ghost invariant = { λ a. IsArranged a.heap.items a.series.items
-        (vec_capacity a.heap) (deque_capacity a.series) };
+    ghost invariant = { λ a. IsSpread a.backlog a.window };
+}
+
+// Whether the first of the window is due, and not the first of the backlog.
+fn window_is_due(window: &Window, backlog: &Backlog, count: &mut Count) -> bool
+    requires count { count.old ≤ 2 ^ 63 }
+    ensures some { IsTrue result → 0 < length window.now }
+    ensures window { IsTrue result → FirstIsDue backlog.now.entries window.now }
+    ensures backlog { IsFalse result → FirstIsDue window.now backlog.now.entries }
+    ensures twice { count.new ≤ count.old + 2 }
+    ensures rises { count.old ≤ count.new }
+    ensures alone { window.now ≡ [] → count.new ≡ count.old }
+{
+    let near = match window.first() {
+        Some(near) => near,
+        None => return false,
+    };
+    match backlog.first(count) {
+        Some(other) => near.key.less(&other.key, count),
+        None => true,
+    }
 }
 
 impl Agenda {
@@ -42,8 +63,8 @@ impl Agenda {
         ensures { result.entries ≡ [] }
     {
         Agenda {
-            heap: Vec::new(alloc),
-            series: VecDeque::new(alloc),
+            window: Window::new(alloc),
+            backlog: Backlog::new(alloc),
         }
     }
 
@@ -57,8 +78,10 @@ impl Agenda {
         if more <= self.spare() {
             return Ok(());
         }
-        self.heap.reserve(more.saturating_add(self.series.len()))?;
-        self.series.reserve(more.saturating_add(self.heap.len()))
+        let all = more.checked_add(self.window.len()).ok_or(AllocError)?;
+        self.backlog.reserve(all)?;
+        let room = self.backlog.len() + self.backlog.spare();
+        self.window.reserve(room / SHARE)
     }
 
     /// An entry more. It takes no memory.
@@ -70,10 +93,8 @@ impl Agenda {
         ensures rises { count.old ≤ count.new }
         ensures count { count.new ≤ count.old + most_comparisons (length self.old.entries) }
     {
-        if goes_behind(&self.series, &entry, count) {
-            self.series.push_back_reserved(entry);
-        } else {
-            heap::push(&mut self.heap, entry, count);
+        if !self.window.push(&entry, count) {
+            self.backlog.push(entry, count);
         }
     }
 
@@ -81,15 +102,14 @@ impl Agenda {
     pub fn len(&self) -> u64
         ensures { result ≡ length self.now.entries }
     {
-        (self.heap.len() + self.series.len()) as u64
+        (self.backlog.len() + self.window.len()) as u64
     }
 
     /// For how many more entries there is room.
     pub fn spare(&self) -> usize
         ensures { result ≡ self.now.spare }
     {
-        let room = self.heap.capacity().min(self.series.capacity());
-        room - self.heap.len() - self.series.len()
+        self.backlog.spare() - self.window.len()
     }
 
     /// Whether nothing is scheduled.
@@ -107,10 +127,12 @@ impl Agenda {
         ensures rises { count.old ≤ count.new }
         ensures count { count.new ≤ count.old + most_comparisons (length self.old.entries) }
     {
-        if front_is_due(&self.series, &self.heap, count) {
-            self.series.pop_front()
-        } else {
-            heap::pop(&mut self.heap, count)
+        if window_is_due(&self.window, &self.backlog, count) {
+            return self.window.pop();
         }
+        let entry = self.backlog.pop(count)?;
+        let (time, _, _) = entry.key.parts();
+        self.window.restart(time);
+        Some(entry)
     }
 }

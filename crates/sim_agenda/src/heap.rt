@@ -84,7 +84,7 @@ fn put_from(entries: &mut [Entry], bottom: usize, entry: Entry, count: &mut Coun
 fn exchange_first(entries: &mut [Entry], entry: Entry, count: &mut Count) -> Entry
     requires heap { IsHeap entries.old }
     requires some { 0 < length entries.old }
-    requires count { count.old ≤ 2 ^ 63 + 1 }
+    requires count { count.old ≤ 2 ^ 63 + 3 }
     ensures heap { IsHeap entries.new }
     ensures len { length entries.new ≡ length entries.old }
     ensures moved { IsPermutation (entry ∷ entries.old) (result ∷ entries.new) }
@@ -102,7 +102,7 @@ fn exchange_first(entries: &mut [Entry], entry: Entry, count: &mut Count) -> Ent
 pub(crate) fn push(entries: &mut Vec<Entry>, entry: Entry, count: &mut Count)
     requires heap { IsHeap entries.old.items }
     requires room { vec_len entries.old < vec_capacity entries.old }
-    requires count { count.old ≤ 2 ^ 63 + 1 }
+    requires count { count.old ≤ 2 ^ 63 + 3 }
     ensures heap { IsHeap entries.new.items }
     ensures moved { IsPermutation (entry ∷ entries.old.items) entries.new.items }
     ensures len { vec_len entries.new ≡ vec_len entries.old + 1 }
@@ -119,7 +119,7 @@ pub(crate) fn push(entries: &mut Vec<Entry>, entry: Entry, count: &mut Count)
 /// Takes the first out. It takes no memory, and compares at most half as often as an agenda may.
 pub(crate) fn pop(entries: &mut Vec<Entry>, count: &mut Count) -> Option<Entry>
     requires heap { IsHeap entries.old.items }
-    requires count { count.old ≤ 2 ^ 63 + 1 }
+    requires count { count.old ≤ 2 ^ 63 + 3 }
     ensures heap { IsHeap entries.new.items }
     ensures due { MatchOption result ((entries.old.items ≡ []) × (entries.new.items ≡ []))
         (λ x. TakesFirst entries.old.items x entries.new.items) }

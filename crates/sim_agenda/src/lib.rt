@@ -2,7 +2,9 @@
 #![tactic(auto)]
 
 mod agenda;
+mod backlog;
 mod heap;
 mod series;
+mod window;
 
 pub use agenda::Agenda;

@@ -1,49 +1,51 @@
-use Rattle.std.proofs.Common.{◌≡◌, ◌+◌, ◌-◌, ◌++◌, length, min, length-append, arith, rules}
-use Rattle.std.specs.Prelude.{IsSome, vec_capacity}
-use Rattle.std.specs.VecDeque.{deque_len, deque_capacity}
-use Rattle.sim_agenda.specs.Series.{FrontIsDue, FirstIsDue}
-use Rattle.sim_agenda.proofs.Comparing.{once_only, once_and_half}
-use Rattle.sim_agenda.proofs.Joining.{series_pops, heap_pops, none_keeps}
-use Rattle.sim_agenda.proofs.Rising.{rises_left}
+use Rattle.std.proofs.Common.{◌≡◌, ◌+◌, ◌<◌, ◌++◌, length, length-append, arith}
+use Rattle.sim_agenda.specs.Series.{FirstIsDue}
+use Rattle.sim_agenda.proofs.Comparing.{twice_only, twice_and_half}
+use Rattle.sim_agenda.proofs.Joining.{latter_pops, top_taken}
+use Rattle.sim_agenda.proofs.Spreading.{window_pop_spread, window_pop_spare, backlog_pop}
 use Rattle.sim_agenda.proofs.agenda.Agenda.pop.Goals as goal
 
 pub invariant_of-self : goal.invariant_of-self
 invariant_of-self c =
-    let i = c.self.invariant in
-    record {
-      heap = i.heap;
-      series = rises_left c.pop_front.result c.self.inside.series.items c.pop_front.new.self.items c.pop_front.ensures.items i.series;
-      heap_room = search rules;
-      series_room = search rules;
-    }
+    window_pop_spread c.pop.result c.self.inside.backlog c.self.inside.window c.pop.new.self c.pop.ensures c.self.invariant
 
-pub returns-then-front_is_due-clause-due : goal.returns-then-front_is_due-clause-due
-returns-then-front_is_due-clause-due c =
+pub returns-then-window_is_due-clause-due : goal.returns-then-window_is_due-clause-due
+returns-then-window_is_due-clause-due c =
     let old = c.self.inside in
-    let left = c.pop_front.new.self in
-    let front : FrontIsDue old.series.items old.heap.items = rw c.deref.ensures.value at (c.front_is_due.ensures.front c.if-front_is_due.true) in
-    let some : IsSome c.pop_front.result = c.pop_front.ensures.variant.1 (omega (arith, front.some)) in
-    rw (← c.self.view_is) (series_pops c.pop_front.result old.heap.items old.series.items left.items _ _ some c.pop_front.ensures.items c.self.invariant.series front)
+    let due = c.window_is_due.ensures in
+    let yes = c.if-window_is_due.true in
+    rw (← c.self.view_is) (latter_pops c.pop.result old.backlog.entries old.window c.pop.new.self _ _ (due.some yes) c.pop.ensures (due.window yes))
 
-pub returns-then-front_is_due-clause-count : goal.returns-then-front_is_due-clause-count
-returns-then-front_is_due-clause-count c =
-    let xs = c.self.inside.heap.items in
-    let ys = c.self.inside.series.items in
-    let all : length (xs ++ ys) ≡ length xs + length ys = length-append xs ys in
-    rw (← c.self.view_is) (once_only xs (length (xs ++ ys)) c.args.count.now _ (omega arith) c.front_is_due.ensures.once (rw c.deref.ensures.value at c.front_is_due.ensures.alone))
-
-pub returns-else-front_is_due-clause-due : goal.returns-else-front_is_due-clause-due
-returns-else-front_is_due-clause-due c =
+pub returns-then-window_is_due-clause-spare : goal.returns-then-window_is_due-clause-spare
+returns-then-window_is_due-clause-spare c =
     let old = c.self.inside in
-    let left = c.pop.new.entries in
-    let first : FirstIsDue old.series.items old.heap.items = rw c.deref.ensures.value at (c.front_is_due.ensures.first c.if-front_is_due.false) in
-    rw (← c.self.view_is) (heap_pops c.pop.result old.heap.items old.series.items left.items _ _ c.pop.ensures.due
-    (rw c.pop.ensures.capacity (none_keeps c.pop.result _ (λ n. min (vec_capacity old.heap) (deque_capacity old.series) - (n + deque_len old.series)) _ _ c.pop.ensures.len)) first)
+    rw (← c.self.view_is) (window_pop_spare c.pop.result old.backlog.spare old.window c.pop.new.self c.self.invariant.room c.pop.ensures)
 
-pub returns-else-front_is_due-clause-count : goal.returns-else-front_is_due-clause-count
-returns-else-front_is_due-clause-count c =
-    let xs = c.self.inside.heap.items in
-    let ys = c.self.inside.series.items in
+pub returns-then-window_is_due-clause-count : goal.returns-then-window_is_due-clause-count
+returns-then-window_is_due-clause-count c =
+    let xs = c.self.inside.backlog.entries in
+    let ys = c.self.inside.window in
     let all : length (xs ++ ys) ≡ length xs + length ys = length-append xs ys in
-    rw (← c.self.view_is) (once_and_half xs _ (length (xs ++ ys)) c.args.count.now c.front_is_due.new.count _ (omega arith) (omega arith) c.front_is_due.ensures.once
-    (rw c.deref.ensures.value at c.front_is_due.ensures.alone) c.pop.ensures.count)
+    let some : 0 < length ys = c.window_is_due.ensures.some c.if-window_is_due.true in
+    rw (← c.self.view_is) (twice_only (length (xs ++ ys)) c.args.count.now c.window_is_due.new.count (omega arith) c.window_is_due.ensures.twice)
+
+pub invariant_of-self-2 : goal.invariant_of-self-2
+invariant_of-self-2 c =
+    let old = c.self.inside in
+    let due = c.in_ok-entry.ensures in
+    backlog_pop old.backlog c.pop-2.new.self old.window c.restart.new.self c.in_ok-entry.entry due.due due.spare c.restart.ensures c.self.invariant
+
+pub returns-clause-due : goal.returns-clause-due
+returns-clause-due c =
+    let old = c.self.inside in
+    let first : FirstIsDue old.window old.backlog.entries = c.window_is_due.ensures.backlog c.if-window_is_due.false in
+    rw (← c.self.view_is, c.restart.ensures) (top_taken old.backlog.entries old.window c.pop-2.new.self.entries c.in_ok-entry.entry c.in_ok-entry.ensures.due first)
+
+pub returns-clause-count : goal.returns-clause-count
+returns-clause-count c =
+    let xs = c.self.inside.backlog.entries in
+    let ys = c.self.inside.window in
+    let all : length (xs ++ ys) ≡ length xs + length ys = length-append xs ys in
+    let first : FirstIsDue ys xs = c.window_is_due.ensures.backlog c.if-window_is_due.false in
+    rw (← c.self.view_is) (twice_and_half ys xs (length (xs ++ ys)) c.args.count.now c.window_is_due.new.count _ all first.none c.window_is_due.ensures.twice
+    c.window_is_due.ensures.alone c.in_ok-entry.ensures.count c.in_ok-entry.ensures.half)
