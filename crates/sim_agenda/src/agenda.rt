@@ -10,8 +10,10 @@ use sim_types::{Count, Entry};
 use std::alloc::{AllocError, Global};
 use std::marker::Model;
 
-// The queue of one time has room for one in so many of the entries that the agenda has room for.
+// The queue of one time has room for one in so many of the entries that the agenda has room for,
 const SHARE: usize = 32;
+// and for no more than so many: what is touched again and again stays small.
+const MOST_AT_A_TIME: usize = 256;
 
 /// The entries of what is scheduled, in no order that counts.
 #[derive(Drop)]
@@ -81,7 +83,7 @@ impl Agenda {
         let all = more.checked_add(self.window.len()).ok_or(AllocError)?;
         self.backlog.reserve(all)?;
         let room = self.backlog.len() + self.backlog.spare();
-        self.window.reserve(room / SHARE)
+        self.window.reserve((room / SHARE).min(MOST_AT_A_TIME))
     }
 
     /// An entry more. It takes no memory.
