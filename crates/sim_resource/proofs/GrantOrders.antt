@@ -1,231 +1,180 @@
--- Users that are ranked by their keys, beside their requests in the order of grant: one more of them, and one fewer.
-use Rattle.std.proofs.Common.{◌≡◌, ◌≢◌, ℕ, ◌<◌, Bool, true, false, not, List, [], ◌∷◌, ◌++◌, length, refl, sym, ap, subst, ◌∙◌, filter, map, arith, All, AllPairs, append_assoc}
+-- Users with the numbers of their grants: one more of them, and one fewer.
+use Rattle.std.proofs.Common.{◌≡◌, ◌≢◌, ◌||◌, ℕ, ◌+◌, ◌<◌, Bool, true, false, not, nat_lt, List, [], ◌∷◌, ◌++◌, length, refl, sym, ap, subst, ◌∙◌, filter, map, arith, All, AllPairs, get_or}
+use Rattle.std.specs.Cmp.{IsStrictWeakOrder}
 use Rattle.std.specs.List.{list_any}
-use Rattle.std.proofs.lemmas.List.{append-nil, map-append, length-map}
-use Rattle.std.proofs.lemmas.List.Elements.{All-head, All-tail, All-map, All-weaker, filter-append}
-use Rattle.std.proofs.lemmas.List.Sorted.{All-permutation, length_permutation, list_any-IsPermutation}
-use Rattle.std.proofs.lemmas.List.Kept.{AllPairs-cons}
-use Rattle.sim_types.proofs.Permutations.{AllPairs-head, AllPairs-tail, AllPairs-IsPermutation}
+use Rattle.std.proofs.lemmas.Bool.Decides.{nat_tests}
+use Rattle.std.proofs.lemmas.List.{map-append, length-map, get_or-map}
+use Rattle.std.proofs.lemmas.List.Elements.{All-head, All-tail, All-nil, All-cons, All-weaker, All-filter, All-push}
+use Rattle.std.proofs.lemmas.List.Sorted.{All-permutation, length_permutation, list_any-IsPermutation, IsPermutation-sym}
+use Rattle.sim_types.proofs.Permutations.{AllPairs-IsPermutation}
 use Rattle.sim_types.specs.declared.event.EventId.{EventId}
 use Rattle.sim_machine.specs.State.{User}
 use Rattle.sim_machine.specs.Events.{is_same}
 use Rattle.sim_resource.specs.Attempts.{users_but}
-use Rattle.sim_resource.specs.Sorting.{put_behind, sorted_by, ranks_before, IsInOrderBy}
-use Rattle.sim_resource.specs.GrantOrder.{in_grant_order, as_granted, IsSoundUsers}
+use Rattle.sim_resource.specs.declared.user.NumberedUser.{NumberedUser}
+use Rattle.sim_resource.specs.Sorting.{put_behind, put_ahead, sorted_by, ranks_before, IsInOrderBy}
+use Rattle.sim_resource.specs.GrantOrder.{was_granted_before, stands_before, as_granted, numbered_but, IsSoundUsers}
 use Rattle.sim_resource.proofs.Keys.{ranks_ordered}
-use Rattle.sim_resource.proofs.StableSorts.{same_sorted, filter_behind, filter_behind_alone, sorted_joined, sorted_filtered, sorted_in_order}
-use Rattle.sim_resource.proofs.Removals.{same_yes, same_self, same_no, all_left_out}
+use Rattle.sim_resource.proofs.StableSorts.{by_test, same_sorted, same_behind, sorted_joined, sorted_filtered, sorted_in_order}
 
--- ---- requests in the order of grant
-
--- a request comes last
-granted_last : (rs : List EventId) (r : EventId) (us : List User) →
-    in_grant_order (rs ++ r ∷ []) us ≡ in_grant_order rs us ++ filter (λ u. is_same u.request r) us
-granted_last [] r us = append-nil (filter (λ u. is_same u.request r) us)
-granted_last (e ∷ rs) r us =
-    ap (λ vs. filter (λ u. is_same u.request e) us ++ vs) (granted_last rs r us)
-    ∙ sym (append_assoc (filter (λ u. is_same u.request e) us) (in_grant_order rs us) (filter (λ u. is_same u.request r) us))
-
--- one more user of another request stands nowhere among them
-others_granted : (rs : List EventId) (u : User) (us : List User) → All (λ r. r ≢ u.request) rs →
-    in_grant_order rs (put_behind ranks_before u us) ≡ in_grant_order rs us
-others_granted [] u us h = refl
-others_granted (r ∷ rs) u us h =
-    let other : is_same u.request r ≡ false = same_no u.request r (λ same. All-head (λ e. e ≢ u.request) r rs h (sym same)) in
-    rw (filter_behind ranks_before (λ v. is_same v.request r) u us other)
-    (ap (λ vs. filter (λ v. is_same v.request r) us ++ vs) (others_granted rs u us (All-tail (λ e. e ≢ u.request) r rs h)))
-
--- a request and its users leave
-filter_both : {X : Type 0} (p q : X → Bool) (xs : List X) → filter p (filter q xs) ≡ filter q (filter p xs)
-filter_both p q [] = refl
-filter_both {X} p q (x ∷ xs) = by (p x) (q x) refl refl (filter_both p q xs)
+pub grants_ordered : IsStrictWeakOrder was_granted_before
+grants_ordered =
+    record {
+      one_way = λ g h first. less_one_way g.grant h.grant first;
+      chain = λ g h k first second. less_chain g.grant h.grant k.grant first second;
+    }
   where
-    by : (a b : Bool) → p x ≡ a → q x ≡ b → filter p (filter q xs) ≡ filter q (filter p xs) → filter p (filter q (x ∷ xs)) ≡ filter q (filter p (x ∷ xs))
-    by true true h k e = simp (h, k) (ap (λ ys. x ∷ ys) e)
-    by true false h k e = simp (h, k) e
-    by false true h k e = simp (h, k) e
-    by false false h k e = simp (h, k) e
+    less_one_way : (a b : ℕ) → nat_lt a b ≡ true → nat_lt b a ≡ false
+    less_one_way a b h = grind (arith, nat_tests)
 
--- users of a request that has left are none
-gone : (request r : EventId) (us : List User) → is_same r request ≡ true → users_but request (filter (λ u. is_same u.request r) us) ≡ []
-gone request r [] h = refl
-gone request r (u ∷ us) h = by (is_same u.request r) refl (gone request r us h)
+    less_chain : (a b c : ℕ) → nat_lt a b ≡ false → nat_lt b c ≡ false → nat_lt a c ≡ false
+    less_chain a b c h k = grind (arith, nat_tests)
+
+less_yes : (a b : ℕ) → a < b → nat_lt a b ≡ true
+less_yes a b h = grind (arith, nat_tests)
+
+less_no : (a b : ℕ) → b < a → nat_lt a b ≡ false
+less_no a b h = grind (arith, nat_tests)
+
+-- ---- one more, who was granted last
+
+last_ahead : (g : NumberedUser) (gs : List NumberedUser) → All (λ h. was_granted_before h g ≡ true) gs → put_ahead was_granted_before g gs ≡ gs ++ g ∷ []
+last_ahead g [] all = refl
+last_ahead g (h ∷ hs) all =
+    rw (All-head (λ k. was_granted_before k g ≡ true) h hs all)
+    (ap (λ ks. h ∷ ks) (last_ahead g hs (All-tail (λ k. was_granted_before k g ≡ true) h hs all)))
+
+ahead_of_last : (g h : NumberedUser) (gs : List NumberedUser) → was_granted_before g h ≡ false →
+    put_ahead was_granted_before h (gs ++ g ∷ []) ≡ put_ahead was_granted_before h gs ++ g ∷ []
+ahead_of_last g h [] off = rw off refl
+ahead_of_last g h (k ∷ ks) off = by (was_granted_before k h) refl (ahead_of_last g h ks off)
   where
-    by : (b : Bool) → is_same u.request r ≡ b → users_but request (filter (λ v. is_same v.request r) us) ≡ [] →
-        users_but request (filter (λ v. is_same v.request r) (u ∷ us)) ≡ []
-    by true is rest =
-        let same : is_same u.request request ≡ true = subst (λ e. is_same u.request e ≡ true) (same_yes r request h) is in
-        rw is (rw same rest)
+    by : (b : Bool) → was_granted_before k h ≡ b → put_ahead was_granted_before h (ks ++ g ∷ []) ≡ put_ahead was_granted_before h ks ++ g ∷ [] →
+        put_ahead was_granted_before h (k ∷ (ks ++ g ∷ [])) ≡ put_ahead was_granted_before h (k ∷ ks) ++ g ∷ []
+    by true is rest = rw is (ap (λ us. k ∷ us) rest)
+    by false is rest = rw is refl
+
+last_pushed : (g : NumberedUser) (gs : List NumberedUser) → All (λ h. h.grant < g.grant) gs →
+    sorted_by was_granted_before (gs ++ g ∷ []) ≡ sorted_by was_granted_before gs ++ g ∷ []
+last_pushed g [] all = refl
+last_pushed g (h ∷ hs) all =
+    ap (put_ahead was_granted_before h) (last_pushed g hs (All-tail (λ k. k.grant < g.grant) h hs all))
+    ∙ ahead_of_last g h (sorted_by was_granted_before hs) (less_no g.grant h.grant (All-head (λ k. k.grant < g.grant) h hs all))
+
+last_put : (g : NumberedUser) (gs : List NumberedUser) → All (λ h. h.grant < g.grant) gs →
+    sorted_by was_granted_before (put_behind stands_before g gs) ≡ sorted_by was_granted_before gs ++ g ∷ []
+last_put g [] all = refl
+last_put g (h ∷ hs) all =
+    by_test stands_before (λ ks. sorted_by was_granted_before ks ≡ sorted_by was_granted_before (h ∷ hs) ++ g ∷ []) (stands_before g h) (g ∷ h ∷ hs) (h ∷ put_behind stands_before g hs)
+    (λ first. last_ahead g (sorted_by was_granted_before (h ∷ hs)) (All-permutation (λ k. was_granted_before k g ≡ true) (h ∷ hs) (sorted_by was_granted_before (h ∷ hs)) (same_sorted was_granted_before (h ∷ hs)) (All-weaker (λ k. k.grant < g.grant) (λ k. was_granted_before k g ≡ true) (λ k less. less_yes k.grant g.grant less) (h ∷ hs) all)))
+    (λ later. ap (put_ahead was_granted_before h) (last_put g hs (All-tail (λ k. k.grant < g.grant) h hs all))
+    ∙ ahead_of_last g h (sorted_by was_granted_before hs) (less_no g.grant h.grant (All-head (λ k. k.grant < g.grant) h hs all)))
+
+pub pushed_shown : (g : NumberedUser) (gs : List NumberedUser) → All (λ h. h.grant < g.grant) gs → as_granted (gs ++ g ∷ []) ≡ as_granted gs ++ g.user ∷ []
+pushed_shown g gs all = ap (map (λ h. h.user)) (last_pushed g gs all) ∙ map-append (λ h. h.user) (sorted_by was_granted_before gs) (g ∷ [])
+
+pub put_shown : (g : NumberedUser) (gs : List NumberedUser) → All (λ h. h.grant < g.grant) gs →
+    as_granted (put_behind stands_before g gs) ≡ as_granted gs ++ g.user ∷ []
+put_shown g gs all = ap (map (λ h. h.user)) (last_put g gs all) ∙ map-append (λ h. h.user) (sorted_by was_granted_before gs) (g ∷ [])
+
+users_put : (g : NumberedUser) (gs : List NumberedUser) → map (λ h. h.user) (put_behind stands_before g gs) ≡ put_behind ranks_before g.user (map (λ h. h.user) gs)
+users_put g [] = refl
+users_put g (h ∷ hs) = by (stands_before g h) refl (users_put g hs)
+  where
+    by : (b : Bool) → stands_before g h ≡ b → map (λ k. k.user) (put_behind stands_before g hs) ≡ put_behind ranks_before g.user (map (λ k. k.user) hs) →
+        map (λ k. k.user) (put_behind stands_before g (h ∷ hs)) ≡ put_behind ranks_before g.user (map (λ k. k.user) (h ∷ hs))
+    by true is rest = rw is refl
+    by false is rest = rw is (ap (λ us. h.user ∷ us) rest)
+
+-- ---- one fewer
+
+map_filter : {X Y : Type 0} (f : X → Y) (q : Y → Bool) (xs : List X) → map f (filter (λ x. q (f x)) xs) ≡ filter q (map f xs)
+map_filter f q [] = refl
+map_filter {X} {Y} f q (x ∷ xs) = by (q (f x)) refl (map_filter f q xs)
+  where
+    by : (b : Bool) → q (f x) ≡ b → map f (filter (λ y. q (f y)) xs) ≡ filter q (map f xs) → map f (filter (λ y. q (f y)) (x ∷ xs)) ≡ filter q (map f (x ∷ xs))
+    by true is rest = rw is (ap (λ ys. f x ∷ ys) rest)
     by false is rest = rw is rest
 
-left_granted : (rs : List EventId) (request : EventId) (us : List User) →
-    in_grant_order (filter (λ e. not (is_same e request)) rs) (users_but request us) ≡ users_but request (in_grant_order rs us)
-left_granted [] request us = refl
-left_granted (r ∷ rs) request us = by (is_same r request) refl (left_granted rs request us)
-  where
-    leaves : User → Bool
-    leaves u = not (is_same u.request request)
+pub left_shown : (request : EventId) (gs : List NumberedUser) → as_granted (numbered_but request gs) ≡ users_but request (as_granted gs)
+left_shown request gs =
+    ap (map (λ g. g.user)) (sorted_filtered was_granted_before grants_ordered (λ g. not (is_same g.user.request request)) gs)
+    ∙ map_filter (λ g. g.user) (λ u. not (is_same u.request request)) (sorted_by was_granted_before gs)
 
-    apart : users_but request (in_grant_order (r ∷ rs) us)
-        ≡ users_but request (filter (λ u. is_same u.request r) us) ++ users_but request (in_grant_order rs us)
-    apart = filter-append leaves (filter (λ u. is_same u.request r) us) (in_grant_order rs us)
+-- ---- the same users in either order
 
-    by : (b : Bool) → is_same r request ≡ b →
-        in_grant_order (filter (λ e. not (is_same e request)) rs) (users_but request us) ≡ users_but request (in_grant_order rs us) →
-        in_grant_order (filter (λ e. not (is_same e request)) (r ∷ rs)) (users_but request us) ≡ users_but request (in_grant_order (r ∷ rs) us)
-    by true is rest = rw is (rest ∙ sym (apart ∙ ap (λ vs. vs ++ users_but request (in_grant_order rs us)) (gone request r us is)))
-    by false is rest =
-        rw is (ap (λ vs. filter (λ u. is_same u.request r) (users_but request us) ++ vs) rest
-        ∙ ap (λ vs. vs ++ users_but request (in_grant_order rs us)) (filter_both (λ u. is_same u.request r) leaves us) ∙ sym apart)
+pub length_shown : (gs : List NumberedUser) → length (as_granted gs) ≡ length gs
+length_shown gs =
+    length-map (sorted_by was_granted_before gs) (λ g. g.user) ∙ length_permutation gs (sorted_by was_granted_before gs) (same_sorted was_granted_before gs)
 
--- the requests of those that are left
-requests_left : (request : EventId) (us : List User) →
-    map (λ u. u.request) (users_but request us) ≡ filter (λ e. not (is_same e request)) (map (λ u. u.request) us)
-requests_left request [] = refl
-requests_left request (u ∷ us) = by (is_same u.request request) refl (requests_left request us)
-  where
-    by : (b : Bool) → is_same u.request request ≡ b →
-        map (λ v. v.request) (users_but request us) ≡ filter (λ e. not (is_same e request)) (map (λ v. v.request) us) →
-        map (λ v. v.request) (users_but request (u ∷ us)) ≡ filter (λ e. not (is_same e request)) (map (λ v. v.request) (u ∷ us))
-    by true is rest = rw is rest
-    by false is rest = rw is (ap (λ es. u.request ∷ es) rest)
+any_of_map : {X Y : Type 0} (f : X → Y) (p : Y → Bool) (xs : List X) → list_any (λ x. p (f x)) xs ≡ list_any p (map f xs)
+any_of_map f p [] = refl
+any_of_map f p (x ∷ xs) = ap (λ b. p (f x) || b) (any_of_map f p xs)
 
--- requests of which no two users are
-requests_apart : (us : List User) → AllPairs (λ u v. u.request ≢ v.request) us → AllPairs (λ e f. e ≢ f) (map (λ u. u.request) us)
-requests_apart [] h = λ i j d before below. absurd (none_below j below)
-  where
-    none_below : (j : ℕ) → j < 0 → ⊥
-    none_below j below = omega arith
-requests_apart (u ∷ us) h =
-    let R : User → User → Type 0 = λ v w. v.request ≢ w.request in
-    AllPairs-cons (λ e f. e ≢ f) u.request (map (λ v. v.request) us) (All-map (λ e. u.request ≢ e) (λ v. v.request) us (AllPairs-head R u us h)) (requests_apart us (AllPairs-tail R u us h))
+pub any_shown : (p : User → Bool) (gs : List NumberedUser) → list_any (λ g. p g.user) gs ≡ list_any p (as_granted gs)
+any_shown p gs =
+    list_any-IsPermutation (λ g. p g.user) gs (sorted_by was_granted_before gs) (same_sorted was_granted_before gs)
+    ∙ any_of_map (λ g. g.user) p (sorted_by was_granted_before gs)
+
+pairs_of_map : {X Y : Type 0} (f : X → Y) (R : Y → Y → Type 0) (xs : List X) → AllPairs R (map f xs) → AllPairs (λ x y. R (f x) (f y)) xs
+pairs_of_map f R xs h =
+    λ i j d first below. subst (λ y. R y (f (get_or xs j d))) (get_or-map f xs i d (f d) (omega arith)) (subst (R (get_or (map f xs) i (f d))) (get_or-map f xs j d (f d) below) (h i j (f d) first (omega (arith, below, length-map xs f))))
+
+pub shown_apart : (gs : List NumberedUser) → AllPairs (λ u v. u.request ≢ v.request) (as_granted gs) → AllPairs (λ g h. g.user.request ≢ h.user.request) gs
+shown_apart gs h =
+    let R : NumberedUser → NumberedUser → Type 0 = λ g k. g.user.request ≢ k.user.request in
+    let gs' : List NumberedUser = sorted_by was_granted_before gs in
+    AllPairs-IsPermutation R (λ g k differ same. differ (sym same)) gs' gs (IsPermutation-sym gs gs' (same_sorted was_granted_before gs)) (pairs_of_map (λ g. g.user) (λ u v. u.request ≢ v.request) gs' h)
 
 -- ---- sound users
 
--- no user yet
-pub none_sound : (ranked : Bool) → IsSoundUsers ranked [] []
-none_sound ranked = record { requests = λ h. refl; by_keys = λ h. refl }
+pub none_sound : (ranked : Bool) → IsSoundUsers ranked 0 []
+none_sound ranked = record { numbered = All-nil (λ g. g.grant < 0); by_keys = λ h. refl }
 
-pub plain_sound : (granted : List EventId) (us : List User) → IsSoundUsers false granted us
-plain_sound granted us = record { requests = λ h. absurd (not_both h); by_keys = λ h. absurd (not_both h) }
-  where
-    not_both : false ≡ true → ⊥
-    not_both h = cc
+pub ranked_in_order : (ranked : Bool) (next : ℕ) (gs : List NumberedUser) → ranked ≡ true → IsSoundUsers ranked next gs → IsInOrderBy stands_before gs
+ranked_in_order ranked next gs h s =
+    pairs_of_map (λ g. g.user) (λ u v. ranks_before v u ≡ false) gs (subst (IsInOrderBy ranks_before) (sym (s.by_keys h)) (sorted_in_order ranks_before ranks_ordered (as_granted gs)))
 
-module _ (granted : List EventId) (us : List User) (s : IsSoundUsers true granted us) where
-  -- what holds of the users in the order of grant holds of them by their keys, and the other way round
-  pub ranked_all : (P : User → Type 0) → All P (in_grant_order granted us) → All P us
-  ranked_all P h = subst (All P) (sym (s.by_keys refl)) (All-permutation P (in_grant_order granted us) (sorted_by ranks_before (in_grant_order granted us)) (same_sorted ranks_before (in_grant_order granted us)) h)
+-- numbered anew, they are as sound
+pub sound_anew : (ranked : Bool) (next new_next : ℕ) (gs hs : List NumberedUser) → IsSoundUsers ranked next gs →
+    map (λ g. g.user) hs ≡ map (λ g. g.user) gs → as_granted hs ≡ as_granted gs → All (λ g. g.grant < new_next) hs → IsSoundUsers ranked new_next hs
+sound_anew ranked next new_next gs hs s users order all = record { numbered = all; by_keys = λ h. rw (users, order) (s.by_keys h) }
 
-  pub ranked_pairs : AllPairs (λ u v. u.request ≢ v.request) (in_grant_order granted us) → AllPairs (λ u v. u.request ≢ v.request) us
-  ranked_pairs h =
-      let R : User → User → Type 0 = λ u v. u.request ≢ v.request in
-      subst (AllPairs R) (sym (s.by_keys refl)) (AllPairs-IsPermutation R (λ u v differ same. differ (sym same)) (in_grant_order granted us) (sorted_by ranks_before (in_grant_order granted us)) (same_sorted ranks_before (in_grant_order granted us)) h)
+module _ (ranked : Bool) (next : ℕ) (gs : List NumberedUser) (s : IsSoundUsers ranked next gs) (u : User) where
+  abbrev pub one_more : NumberedUser
+  one_more = record { user = u; grant = next }
 
-  pub length_ranked : length (in_grant_order granted us) ≡ length us
-  length_ranked =
-      sym (length_permutation (in_grant_order granted us) (sorted_by ranks_before (in_grant_order granted us)) (same_sorted ranks_before (in_grant_order granted us))) ∙ ap length (sym (s.by_keys refl))
+  wider : All (λ g. g.grant < next + 1) gs
+  wider = All-weaker (λ g. g.grant < next) (λ g. g.grant < next + 1) (λ g less. further g.grant less) gs s.numbered
+    where
+      further : (n : ℕ) → n < next → n < next + 1
+      further n h = omega arith
 
-  pub length_granted : length granted ≡ length us
-  length_granted = ap length (s.requests refl) ∙ length-map (in_grant_order granted us) (λ u. u.request) ∙ length_ranked
+  all_more : All (λ g. g.grant < next + 1) (one_more ∷ gs)
+  all_more = All-cons (λ g. g.grant < next + 1) one_more gs (omega arith) wider
 
-  pub granted_apart : AllPairs (λ u v. u.request ≢ v.request) (in_grant_order granted us) → AllPairs (λ e f. e ≢ f) granted
-  granted_apart h = subst (AllPairs (λ e f. e ≢ f)) (sym (s.requests refl)) (requests_apart (in_grant_order granted us) h)
-
-  -- one more, who was granted last
-  pub put_shown : (u : User) → All (λ v. v.request ≢ u.request) (in_grant_order granted us) →
-      in_grant_order (granted ++ u.request ∷ []) (put_behind ranks_before u us) ≡ in_grant_order granted us ++ u ∷ []
-  put_shown u h =
-      let shown : List User = in_grant_order granted us in
-      let others : All (λ e. e ≢ u.request) granted = subst (All (λ e. e ≢ u.request)) (sym (s.requests refl)) (All-map (λ e. e ≢ u.request) (λ v. v.request) shown h) in
-      let none : filter (λ v. is_same v.request u.request) us ≡ [] = all_left_out (λ v. is_same v.request u.request) us (All-weaker (λ v. v.request ≢ u.request) (λ v. is_same v.request u.request ≡ false) (λ v differ. same_no v.request u.request differ) us (ranked_all (λ v. v.request ≢ u.request) h)) in
-      granted_last granted u.request (put_behind ranks_before u us)
-      ∙ (ap (λ vs. vs ++ filter (λ v. is_same v.request u.request) (put_behind ranks_before u us)) (others_granted granted u us others)
-      ∙ ap (λ vs. shown ++ vs) (filter_behind_alone ranks_before (λ v. is_same v.request u.request) u us (same_self u.request) none))
-
-  pub put_sound : (u : User) → All (λ v. v.request ≢ u.request) (in_grant_order granted us) →
-      IsSoundUsers true (granted ++ u.request ∷ []) (put_behind ranks_before u us)
-  put_sound u h =
-      let shown : List User = in_grant_order granted us in
+  pub put_sound : ranked ≡ true → IsSoundUsers ranked (next + 1) (put_behind stands_before one_more gs)
+  put_sound h =
       record {
-        requests = λ yes. rw (put_shown u h) (ap (λ es. es ++ u.request ∷ []) (s.requests refl) ∙ sym (map-append (λ v. v.request) shown (u ∷ [])));
-        by_keys = λ yes. rw (put_shown u h) (ap (put_behind ranks_before u) (s.by_keys refl) ∙ sym (sorted_joined ranks_before ranks_ordered shown u));
+        numbered = All-permutation (λ g. g.grant < next + 1) (one_more ∷ gs) (put_behind stands_before one_more gs) (same_behind stands_before one_more gs) all_more;
+        by_keys = λ yes. users_put one_more gs ∙ (ap (put_behind ranks_before u) (s.by_keys yes) ∙ (sym (sorted_joined ranks_before ranks_ordered (as_granted gs) u) ∙ ap (sorted_by ranks_before) (sym (put_shown one_more gs s.numbered))));
       }
 
-  -- one fewer
-  pub left_shown : (request : EventId) →
-      in_grant_order (filter (λ e. not (is_same e request)) granted) (users_but request us) ≡ users_but request (in_grant_order granted us)
-  left_shown request = left_granted granted request us
-
-  pub left_sound : (request : EventId) → IsSoundUsers true (filter (λ e. not (is_same e request)) granted) (users_but request us)
-  left_sound request =
-      let shown : List User = in_grant_order granted us in
-      let leaves : User → Bool = λ u. not (is_same u.request request) in
+  pub pushed_sound : ranked ≡ false → IsSoundUsers ranked (next + 1) (gs ++ one_more ∷ [])
+  pushed_sound h =
       record {
-        requests = λ yes. rw (left_shown request) (ap (λ es. filter (λ e. not (is_same e request)) es) (s.requests refl) ∙ sym (requests_left request shown));
-        by_keys = λ yes. rw (left_shown request) (ap (filter leaves) (s.by_keys refl) ∙ sym (sorted_filtered ranks_before ranks_ordered leaves shown));
+        numbered = All-push (λ g. g.grant < next + 1) gs one_more wider (omega arith);
+        by_keys = λ yes. absurd (not_both (sym h ∙ yes));
       }
+    where
+      not_both : false ≡ true → ⊥
+      not_both h = cc
 
--- ---- by whether they are ranked
-
-pub length_as_granted : (ranked : Bool) (granted : List EventId) (us : List User) → IsSoundUsers ranked granted us →
-    length (as_granted ranked granted us) ≡ length us
-length_as_granted true granted us s = length_ranked granted us s
-length_as_granted false granted us s = refl
-
-pub unranked_sound : (ranked : Bool) (granted : List EventId) (us : List User) → ranked ≡ false → IsSoundUsers ranked granted us
-unranked_sound true granted us h = absurd (cc)
-unranked_sound false granted us h = plain_sound granted us
-
-pub ranked_in_order : (ranked : Bool) (granted : List EventId) (us : List User) → ranked ≡ true → IsSoundUsers ranked granted us → IsInOrderBy ranks_before us
-ranked_in_order true granted us h s = subst (IsInOrderBy ranks_before) (sym (s.by_keys refl)) (sorted_in_order ranks_before ranks_ordered (in_grant_order granted us))
-ranked_in_order false granted us h s = absurd (cc)
-
-pub ranked_length : (ranked : Bool) (granted : List EventId) (us : List User) → ranked ≡ true → IsSoundUsers ranked granted us → length granted ≡ length us
-ranked_length true granted us h s = length_granted granted us s
-ranked_length false granted us h s = absurd (cc)
-
-pub ranked_apart : (ranked : Bool) (granted : List EventId) (us : List User) → ranked ≡ true → IsSoundUsers ranked granted us →
-    AllPairs (λ u v. u.request ≢ v.request) (as_granted ranked granted us) → AllPairs (λ e f. e ≢ f) granted
-ranked_apart true granted us h s k = granted_apart granted us s k
-ranked_apart false granted us h s k = absurd (cc)
-
-pub users_apart : (ranked : Bool) (granted : List EventId) (us : List User) → IsSoundUsers ranked granted us →
-    AllPairs (λ u v. u.request ≢ v.request) (as_granted ranked granted us) → AllPairs (λ u v. u.request ≢ v.request) us
-users_apart true granted us s k = ranked_pairs granted us s k
-users_apart false granted us s k = k
-
--- a test that looks at requests alone answers the same in either order
-pub any_as_granted : (ranked : Bool) (granted : List EventId) (us : List User) → IsSoundUsers ranked granted us → (p : User → Bool) →
-    list_any p us ≡ list_any p (as_granted ranked granted us)
-any_as_granted true granted us s p =
-    ap (list_any p) (s.by_keys refl) ∙ sym (list_any-IsPermutation p (in_grant_order granted us) (sorted_by ranks_before (in_grant_order granted us)) (same_sorted ranks_before (in_grant_order granted us)))
-any_as_granted false granted us s p = refl
-
--- one more
-pub put_ranked : (ranked : Bool) (granted : List EventId) (us : List User) (u : User) → ranked ≡ true → IsSoundUsers ranked granted us →
-    All (λ v. v.request ≢ u.request) (as_granted ranked granted us) →
-    as_granted ranked (granted ++ u.request ∷ []) (put_behind ranks_before u us) ≡ as_granted ranked granted us ++ u ∷ []
-put_ranked true granted us u h s k = put_shown granted us s u k
-put_ranked false granted us u h s k = absurd (cc)
-
-pub put_ranked_sound : (ranked : Bool) (granted : List EventId) (us : List User) (u : User) → ranked ≡ true → IsSoundUsers ranked granted us →
-    All (λ v. v.request ≢ u.request) (as_granted ranked granted us) → IsSoundUsers ranked (granted ++ u.request ∷ []) (put_behind ranks_before u us)
-put_ranked_sound true granted us u h s k = put_sound granted us s u k
-put_ranked_sound false granted us u h s k = absurd (cc)
-
--- one fewer
-pub left_ranked : (ranked : Bool) (granted : List EventId) (us : List User) (request : EventId) → ranked ≡ true →
-    as_granted ranked (filter (λ e. not (is_same e request)) granted) (users_but request us) ≡ users_but request (as_granted ranked granted us)
-left_ranked true granted us request h = left_granted granted request us
-left_ranked false granted us request h = absurd (cc)
-
-pub left_unranked : (ranked : Bool) (granted : List EventId) (us : List User) (request : EventId) → ranked ≡ false →
-    as_granted ranked granted (users_but request us) ≡ users_but request (as_granted ranked granted us)
-left_unranked true granted us request h = absurd (cc)
-left_unranked false granted us request h = refl
-
-pub left_ranked_sound : (ranked : Bool) (granted : List EventId) (us : List User) (request : EventId) → ranked ≡ true → IsSoundUsers ranked granted us →
-    IsSoundUsers ranked (filter (λ e. not (is_same e request)) granted) (users_but request us)
-left_ranked_sound true granted us request h s = left_sound granted us s request
-left_ranked_sound false granted us request h s = absurd (cc)
+pub left_sound : (ranked : Bool) (next : ℕ) (gs : List NumberedUser) (request : EventId) → IsSoundUsers ranked next gs →
+    IsSoundUsers ranked next (numbered_but request gs)
+left_sound ranked next gs request s =
+    let stays : User → Bool = λ u. not (is_same u.request request) in
+    record {
+      numbered = All-filter (λ g. stays g.user) (λ g. g.grant < next) gs s.numbered;
+      by_keys = λ yes. map_filter (λ g. g.user) stays gs ∙ (ap (filter stays) (s.by_keys yes) ∙ (sym (sorted_filtered ranks_before ranks_ordered stays (as_granted gs)) ∙ ap (sorted_by ranks_before) (sym (left_shown request gs))));
+    }

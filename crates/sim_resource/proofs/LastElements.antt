@@ -1,21 +1,19 @@
 -- The best of a list, where of equals the later one is better, is the last of it in order.
-use Rattle.std.proofs.Common.{◌≡◌, ◌≢◌, ℕ, ◌+◌, ◌-◌, ◌<◌, Bool, true, false, not, List, [], ◌∷◌, ◌++◌, length, Some, refl, sym, ap, subst, ◌∙◌, if◌then◌else◌, arith, get_or, All, AllPairs, append_assoc}
+use Rattle.std.proofs.Common.{◌≡◌, ◌≢◌, ℕ, ◌+◌, ◌-◌, ◌<◌, Bool, true, false, not, List, [], ◌∷◌, ◌++◌, length, Some, refl, sym, ap, subst, ◌∙◌, map, if◌then◌else◌, arith, get_or, All, AllPairs, append_assoc}
 use Rattle.std.specs.Prelude.{slice_get}
 use Rattle.std.specs.Cmp.{IsStrictWeakOrder}
 use Rattle.std.proofs.lemmas.Bool.{false≢true}
 use Rattle.std.proofs.lemmas.Option.{slice_get-get_or}
-use Rattle.std.proofs.lemmas.List.{get_or_push, length_push, append-nil}
+use Rattle.std.proofs.lemmas.List.{get_or_push, length_push, append-nil, length-map, map-append}
 use Rattle.std.proofs.lemmas.List.Elements.{All-head, All-tail, All-nil, All-cons, filter-append}
 use Rattle.std.proofs.lemmas.List.Kept.{AllPairs-cons}
 use Rattle.sim_types.proofs.Permutations.{AllPairs-head, AllPairs-tail}
-use Rattle.sim_types.specs.declared.event.EventId.{EventId}
-use Rattle.sim_machine.specs.State.{User}
 use Rattle.sim_machine.specs.Events.{is_same}
 use Rattle.sim_machine.specs.Choices.{best_from, best}
 use Rattle.sim_machine.specs.Users.{last_served}
-use Rattle.sim_resource.specs.Attempts.{users_but}
 use Rattle.sim_resource.specs.Sorting.{put_behind, sorted_by, ranks_before, IsInOrderBy}
-use Rattle.sim_resource.specs.GrantOrder.{in_grant_order, as_granted, IsSoundUsers}
+use Rattle.sim_resource.specs.declared.user.NumberedUser.{NumberedUser}
+use Rattle.sim_resource.specs.GrantOrder.{as_granted, numbered_but, IsSoundUsers}
 use Rattle.sim_resource.proofs.Keys.{ranks_ordered}
 use Rattle.sim_resource.proofs.StableSorts.{by_test, sorted_joined, behind_in_order}
 use Rattle.sim_resource.proofs.Removals.{same_no, same_self, none_left_out}
@@ -86,33 +84,36 @@ module _ {X : Type 0} (before : X → X → Bool) (order : IsStrictWeakOrder bef
 -- ---- users
 
 -- the user who is preempted first is the last of the ranked ones
-pub last_of_ranked : (ranked : Bool) (granted : List EventId) (us : List User) → ranked ≡ true → IsSoundUsers ranked granted us →
-    last_served (as_granted ranked granted us) ≡ slice_get us (length us - 1)
-last_of_ranked true granted us h s =
-    let shown : List User = in_grant_order granted us in
-    best_is_last ranks_before ranks_ordered shown ∙ ap (λ vs. slice_get vs (length vs - 1)) (sym (s.by_keys refl))
-last_of_ranked false granted us h s = absurd (cc)
+pub last_of_ranked : (ranked : Bool) (next : ℕ) (gs : List NumberedUser) → ranked ≡ true → IsSoundUsers ranked next gs →
+    last_served (as_granted gs) ≡ slice_get (map (λ g. g.user) gs) (length gs - 1)
+last_of_ranked ranked next gs h s =
+    best_is_last ranks_before ranks_ordered (as_granted gs)
+    ∙ (ap (λ us. slice_get us (length us - 1)) (sym (s.by_keys h)) ∙ ap (λ n. slice_get (map (λ g. g.user) gs) (n - 1)) (length-map gs (λ g. g.user)))
 
 -- without the last there are the others
-others_differ : (front : List User) (u : User) → AllPairs (λ v w. v.request ≢ w.request) (front ++ u ∷ []) →
-    All (λ v. is_same v.request u.request ≡ false) front
-others_differ [] u h = All-nil (λ v. is_same v.request u.request ≡ false)
-others_differ (v ∷ front) u h =
-    All-cons (λ w. is_same w.request u.request ≡ false) v front (same_no v.request u.request (last_of_all front (AllPairs-head (λ x y. x.request ≢ y.request) v (front ++ u ∷ []) h)))
-    (others_differ front u (AllPairs-tail (λ x y. x.request ≢ y.request) v (front ++ u ∷ []) h))
+others_differ : (front : List NumberedUser) (g : NumberedUser) → AllPairs (λ h k. h.user.request ≢ k.user.request) (front ++ g ∷ []) →
+    All (λ h. is_same h.user.request g.user.request ≡ false) front
+others_differ [] g apart = All-nil (λ h. is_same h.user.request g.user.request ≡ false)
+others_differ (h ∷ front) g apart =
+    All-cons (λ k. is_same k.user.request g.user.request ≡ false) h front (same_no h.user.request g.user.request (last_of_all front (AllPairs-head (λ x y. x.user.request ≢ y.user.request) h (front ++ g ∷ []) apart)))
+    (others_differ front g (AllPairs-tail (λ x y. x.user.request ≢ y.user.request) h (front ++ g ∷ []) apart))
   where
-    last_of_all : (front : List User) → All (λ w. v.request ≢ w.request) (front ++ u ∷ []) → v.request ≢ u.request
-    last_of_all [] h = All-head (λ w. v.request ≢ w.request) u [] h
-    last_of_all (w ∷ front) h = last_of_all front (All-tail (λ w. v.request ≢ w.request) w (front ++ u ∷ []) h)
+    last_of_all : (front : List NumberedUser) → All (λ k. h.user.request ≢ k.user.request) (front ++ g ∷ []) → h.user.request ≢ g.user.request
+    last_of_all [] all = All-head (λ k. h.user.request ≢ k.user.request) g [] all
+    last_of_all (k ∷ front) all = last_of_all front (All-tail (λ l. h.user.request ≢ l.user.request) k (front ++ g ∷ []) all)
 
-pub last_left_out : (front us : List User) (u : User) → us ≡ front ++ u ∷ [] → AllPairs (λ v w. v.request ≢ w.request) us → front ≡ users_but u.request us
-last_left_out front us u is h =
-    let differ : All (λ v. is_same v.request u.request ≡ false) front = others_differ front u (subst (AllPairs (λ v w. v.request ≢ w.request)) is h) in
-    subst (λ vs. front ≡ users_but u.request vs) (sym is)
-    (sym (filter-append (λ v. not (is_same v.request u.request)) front (u ∷ []) ∙ (ap (λ vs. vs ++ users_but u.request (u ∷ [])) (none_left_out (λ v. is_same v.request u.request) front differ) ∙ alone front)))
+pub last_left_out : (front gs : List NumberedUser) (g : NumberedUser) → gs ≡ front ++ g ∷ [] → AllPairs (λ h k. h.user.request ≢ k.user.request) gs →
+    front ≡ numbered_but g.user.request gs
+last_left_out front gs g is apart =
+    let differ : All (λ h. is_same h.user.request g.user.request ≡ false) front = others_differ front g (subst (AllPairs (λ h k. h.user.request ≢ k.user.request)) is apart) in
+    subst (λ hs. front ≡ numbered_but g.user.request hs) (sym is)
+    (sym (filter-append (λ h. not (is_same h.user.request g.user.request)) front (g ∷ []) ∙ (ap (λ hs. hs ++ numbered_but g.user.request (g ∷ [])) (none_left_out (λ h. is_same h.user.request g.user.request) front differ) ∙ alone front)))
   where
-    alone : (front : List User) → front ++ users_but u.request (u ∷ []) ≡ front
-    alone front = rw (same_self u.request) (append-nil front)
+    alone : (front : List NumberedUser) → front ++ numbered_but g.user.request (g ∷ []) ≡ front
+    alone front = rw (same_self g.user.request) (append-nil front)
 
-pub last_got : (front us : List User) (u : User) → us ≡ front ++ u ∷ [] → slice_get us (length us - 1) ≡ Some u
-last_got front us u is = last_at ranks_before ranks_ordered us u (record { front = front; is = is })
+-- the last of the ranked ones is the one that is preempted first
+pub last_user : (front gs : List NumberedUser) (g : NumberedUser) → gs ≡ front ++ g ∷ [] → slice_get (map (λ h. h.user) gs) (length gs - 1) ≡ Some g.user
+last_user front gs g is =
+    ap (λ n. slice_get (map (λ h. h.user) gs) (n - 1)) (sym (length-map gs (λ h. h.user)))
+    ∙ last_at ranks_before ranks_ordered (map (λ h. h.user) gs) g.user (record { front = map (λ h. h.user) front; is = ap (map (λ h. h.user)) is ∙ map-append (λ h. h.user) front (g ∷ []) })

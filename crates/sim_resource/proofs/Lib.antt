@@ -2,8 +2,8 @@ pub mod Keys
 pub mod StableSorts
 pub mod Removals
 pub mod GrantOrders
+pub mod NewNumbers
 pub mod LastElements
-pub mod Slots
 pub mod MachineQueues
 pub mod DeskChanges
 pub mod WaitersInOrder

@@ -35,10 +35,6 @@ pub none_left_out : {X : Type 0} (p : X → Bool) (xs : List X) → All (λ x. p
 none_left_out p [] h = refl
 none_left_out p (x ∷ xs) h = rw (All-head (λ y. p y ≡ false) x xs h) (ap (λ ys. x ∷ ys) (none_left_out p xs (All-tail (λ y. p y ≡ false) x xs h)))
 
-pub all_left_out : {X : Type 0} (p : X → Bool) (xs : List X) → All (λ x. p x ≡ false) xs → filter p xs ≡ []
-all_left_out p [] h = refl
-all_left_out p (x ∷ xs) h = rw (All-head (λ y. p y ≡ false) x xs h) (all_left_out p xs (All-tail (λ y. p y ≡ false) x xs h))
-
 first_taken : {X : Type 0} (p : X → Bool) (xs : List X) → position_or_len p xs < length xs → remove xs (position_or_len p xs) ≡ without_first p xs
 first_taken p [] h = refl
 first_taken {X} p (x ∷ xs) h = by (p x) refl (first_taken p xs) h

@@ -37,29 +37,6 @@ module _ {X : Type 0} (before : X → X → Bool) where
   same_sorted (w ∷ ws) =
       IsPermutation-trans (w ∷ ws) (w ∷ sorted_by before ws) (put_ahead before w (sorted_by before ws)) (IsPermutation-cons w ws (sorted_by before ws) (same_sorted ws)) (same_ahead w (sorted_by before ws))
 
-  -- what a test leaves out, where one joins
-  pub filter_behind : (p : X → Bool) (w : X) (vs : List X) → p w ≡ false → filter p (put_behind before w vs) ≡ filter p vs
-  filter_behind p w [] off = rw off refl
-  filter_behind p w (v ∷ vs) off =
-      by_test (λ us. filter p us ≡ filter p (v ∷ vs)) (before w v) (w ∷ v ∷ vs) (v ∷ put_behind before w vs)
-      (λ first. rw off refl)
-      (λ later. ap (λ us. if p v then v ∷ us else us) (filter_behind p w vs off))
-
-  pub filter_behind_alone : (p : X → Bool) (w : X) (vs : List X) → p w ≡ true → filter p vs ≡ [] → filter p (put_behind before w vs) ≡ w ∷ []
-  filter_behind_alone p w [] on none = rw on refl
-  filter_behind_alone p w (v ∷ vs) on none =
-      by_test (λ us. filter p us ≡ w ∷ []) (before w v) (w ∷ v ∷ vs) (v ∷ put_behind before w vs)
-      (λ first. rw on (ap (λ us. w ∷ us) none))
-      (λ later. alone_later p w v vs (p v) refl none (filter_behind_alone p w vs on))
-    where
-      alone_later : (p : X → Bool) (w v : X) (vs : List X) (b : Bool) → p v ≡ b → filter p (v ∷ vs) ≡ [] →
-          (filter p vs ≡ [] → filter p (put_behind before w vs) ≡ w ∷ []) → filter p (v ∷ put_behind before w vs) ≡ w ∷ []
-      alone_later p w v vs true is none later = absurd (no_first (filter p vs) (rw is at none))
-        where
-          no_first : (us : List X) → v ∷ us ≡ [] → ⊥
-          no_first us h = cc
-      alone_later p w v vs false is none later = rw is (later (rw is at none))
-
   -- ---- in place
 
   -- where all before place i are not after w and all from there on are, w stands there

@@ -1,8 +1,10 @@
--- How users are kept where one may be preempted: by their keys, beside their requests in the order of grant.
-use Rattle.std.specs.Prelude.{◌≡◌, Bool, true, ℕ, min, List, [], ◌∷◌, ◌++◌, map, filter, if◌then◌else◌}
+-- How users are kept: each with the number of its grant, and where one may be preempted by their keys.
+use Rattle.std.specs.Prelude.{◌≡◌, ◌<◌, ◌≤◌, ◌++◌, ◌==◌, Bool, true, not, nat_lt, ℕ, List, Option, Some, None, [], ◌∷◌, map, filter, All, if◌then◌else◌}
+use Rattle.std.specs.List.{list_any}
 use Rattle.sim_types.specs.declared.event.EventId.{EventId}
 use Rattle.sim_machine.specs.State.{User}
 use Rattle.sim_machine.specs.Events.{is_same}
+use Rattle.sim_resource.specs.declared.user.NumberedUser.{NumberedUser}
 use Rattle.sim_resource.specs.Sorting.{sorted_by, ranks_before}
 
 -- the users in the order of grant, whether they are ranked by their keys, and for how many more there is room
@@ -11,20 +13,43 @@ pub record UsersOf : Type 0 where
   pub users : List User
   pub spare : ℕ
 
--- the users of these requests, in the order of the requests
-abbrev pub in_grant_order : List EventId → List User → List User
-in_grant_order [] us = []
-in_grant_order (r ∷ rs) us = filter (λ u. is_same u.request r) us ++ in_grant_order rs us
+-- whether one was granted before another
+abbrev pub was_granted_before : NumberedUser → NumberedUser → Bool
+was_granted_before g h = nat_lt g.grant h.grant
 
--- the users in the order of grant; where they are not ranked they stand so already
-abbrev pub as_granted : Bool → List EventId → List User → List User
-as_granted ranked granted us = if ranked then in_grant_order granted us else us
+-- whether the key of one comes before that of another
+abbrev pub stands_before : NumberedUser → NumberedUser → Bool
+stands_before g h = ranks_before g.user h.user
 
--- for how many more users there is room, where so many have room, and so many requests in the order of grant
-abbrev pub slots_left : Bool → ℕ → ℕ → ℕ
-slots_left ranked users granted = if ranked then min users granted else users
+-- the users in the order of grant
+abbrev pub as_granted : List NumberedUser → List User
+as_granted gs = map (λ g. g.user) (sorted_by was_granted_before gs)
 
--- where users are ranked, the requests are theirs, and they stand by their keys, among equals as granted
-pub record IsSoundUsers (ranked : Bool) (granted : List EventId) (us : List User) : Type 0 where
-  pub requests : ranked ≡ true → granted ≡ map (λ u. u.request) (in_grant_order granted us)
-  pub by_keys : ranked ≡ true → us ≡ sorted_by ranks_before (in_grant_order granted us)
+-- all grants have lower numbers than the next; ranked users stand by their keys, among equals as granted
+pub record IsSoundUsers (ranked : Bool) (next : ℕ) (gs : List NumberedUser) : Type 0 where
+  pub numbered : All (λ g. g.grant < next) gs
+  pub by_keys : ranked ≡ true → map (λ g. g.user) gs ≡ sorted_by ranks_before (as_granted gs)
+
+-- the users but the one of this request
+abbrev pub numbered_but : EventId → List NumberedUser → List NumberedUser
+numbered_but request gs = filter (λ g. not (is_same g.user.request request)) gs
+
+-- the users without the last
+pub record IsWithoutLast (gs others : List NumberedUser) : Type 0 where
+  pub last : NumberedUser
+  pub is : gs ≡ others ++ last ∷ []
+
+-- a user whose number is the other one, if it was this
+abbrev pub with_number : ℕ → ℕ → NumberedUser → NumberedUser
+with_number from to g = if g.grant == from then record g { grant = to } else g
+
+-- the least number of a grant that is not below this
+pub record IsLeastFrom (next : ℕ) (gs : List NumberedUser) (n : ℕ) : Type 0 where
+  pub not_below : next ≤ n
+  pub there : list_any (λ g. g.grant == n) gs ≡ true
+  pub least : All (λ g. next ≤ g.grant → n ≤ g.grant) gs
+
+-- the least number of a grant that is not below this, if there is one
+pub record IsNextGrant (next : ℕ) (gs : List NumberedUser) (answer : Option ℕ) : Type 0 where
+  pub none_left : answer ≡ None → All (λ g. g.grant < next) gs
+  pub one_left : (n : ℕ) → answer ≡ Some n → IsLeastFrom next gs n

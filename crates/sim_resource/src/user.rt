@@ -76,3 +76,11 @@ impl User {
         self.since
     }
 }
+
+/// A user beside the number of its grant.
+#[derive(Clone, Copy)]
+pub(crate) struct NumberedUser {
+    pub(crate) user: User,
+    /// Greater than the numbers of all others that were granted before.
+    pub(crate) grant: u64,
+}

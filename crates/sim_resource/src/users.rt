@@ -1,5 +1,5 @@
 //! The users of a desk.
-ghost use Rattle.std.specs.Prelude.{◌≡◌, ◌≢◌, ◌+◌, ◌-◌, ◌<◌, ◌≤◌, ◌==◌, [], ◌∷◌, ◌++◌, true, false, not, filter, Some, length, All, AllPairs, IsTrue, IsOk, OnOk, HoldsAt, vec_len, vec_capacity};
+ghost use Rattle.std.specs.Prelude.{◌≡◌, ◌≢◌, ◌+◌, ◌-◌, ◌<◌, ◌≤◌, ◌==◌, ◌^◌, [], ◌∷◌, ◌++◌, true, false, not, map, Some, length, All, AllPairs, IsTrue, IsOk, OnOk, HoldsAt, vec_len, vec_capacity};
 ghost use Rattle.std.specs.List.{list_any, position};
 ghost use Rattle.std.specs.List.Sorted.{IsPartitionPoint, IsPartitionedBy};
 ghost use Rattle.sim_machine.specs.State.{User};
@@ -7,11 +7,12 @@ ghost use Rattle.sim_machine.specs.Keys as keys;
 ghost use Rattle.sim_machine.specs.Events.{is_same};
 ghost use Rattle.sim_machine.specs.Users.{last_served};
 ghost use Rattle.sim_resource.specs.Attempts.{users_but};
-ghost use Rattle.sim_resource.specs.Sorting.{IsInOrderBy, put_behind, ranks_before};
+ghost use Rattle.sim_resource.specs.Sorting.{IsInOrderBy, put_behind};
+ghost use Rattle.sim_resource.specs.GrantOrder.{as_granted, stands_before, numbered_but, IsWithoutLast, IsNextGrant, with_number};
 
 use crate::ends::place_from_ends;
 use crate::key::is_served_first;
-use crate::user::User;
+use crate::user::{NumberedUser, User};
 use sim_types::{EventId, RequestKey};
 use std::alloc::{AllocError, Global};
 use std::marker::Model;
@@ -22,51 +23,50 @@ pub(crate) struct Users {
     // Whether they stand by their keys, so that the one who is preempted first is the last.
     ranked: bool,
     // In the order of grant; where they are ranked, by their keys, and those with equal keys in the order of grant.
-    users: Vec<User>,
-    // Where they are ranked: their requests, in the order of grant.
-    granted: Vec<EventId>,
+    users: Vec<NumberedUser>,
+    // The number of the next grant.
+    next: u64,
 }
 
 impl Model for Users {
     ghost use Rattle.std.specs.Prelude.{◌-◌, vec_len, vec_capacity};
-    ghost use Rattle.sim_resource.specs.GrantOrder.{UsersOf, as_granted, slots_left, IsSoundUsers};
+    ghost use Rattle.sim_resource.specs.GrantOrder.{UsersOf, as_granted, IsSoundUsers};
 
     ghost Value = { UsersOf };
 
     ghost view = { λ a. record {
       ranked = a.ranked;
-      users = as_granted a.ranked a.granted.items a.users.items;
-      spare = slots_left a.ranked (vec_capacity a.users - vec_len a.users)
-          (vec_capacity a.granted - vec_len a.granted);
+      users = as_granted a.users.items;
+      spare = vec_capacity a.users - vec_len a.users;
     } };
 
-    ghost invariant = { λ a. IsSoundUsers a.ranked a.granted.items a.users.items };
+    ghost invariant = { λ a. IsSoundUsers a.ranked a.next a.users.items };
 }
 
 // How many users a request of this key does not come before: they stand before all others.
-fn place_of_key(users: &[User], key: RequestKey) -> usize
-    requires { IsInOrderBy ranks_before users.now }
+fn place_of_key(users: &[NumberedUser], key: RequestKey) -> usize
+    requires { IsInOrderBy stands_before users.now }
     ensures within { result ≤ length users.now }
-    ensures place { IsPartitionPoint (λ u. keys.is_served_first key u.key ≡ false)
-        (λ u. keys.is_served_first key u.key ≡ true) users.now result }
+    ensures place { IsPartitionPoint (λ g. keys.is_served_first key g.user.key ≡ false)
+        (λ g. keys.is_served_first key g.user.key ≡ true) users.now result }
 {
     users.partition_point(
-        |user: &User| -> bool
-            ensures { result ≡ not (keys.is_served_first key user.now.key) }
-        { !is_served_first(key, user.key()) },
+        |numbered: &NumberedUser| -> bool
+            ensures { result ≡ not (keys.is_served_first key numbered.now.user.key) }
+        { !is_served_first(key, numbered.user.key()) },
     )
 }
 
 // One more user, ranked by its key.
-fn put_by_key(users: &mut Vec<User>, user: User)
-    requires in_order { IsInOrderBy ranks_before users.old.items }
+fn put_by_key(users: &mut Vec<NumberedUser>, numbered: NumberedUser)
+    requires in_order { IsInOrderBy stands_before users.old.items }
     requires room { vec_len users.old < vec_capacity users.old }
-    ensures put { users.new.items ≡ put_behind ranks_before user users.old.items }
+    ensures put { users.new.items ≡ put_behind stands_before numbered users.old.items }
     ensures len { vec_len users.new ≡ vec_len users.old + 1 }
     ensures capacity { vec_capacity users.new ≡ vec_capacity users.old }
 {
-    let place = place_of_key(users.as_slice(), user.key());
-    match users.insert(place, user) {
+    let place = place_of_key(users.as_slice(), numbered.user.key());
+    match users.insert(place, numbered) {
         Ok(()) => {}
         Err(_) => unreachable!(),
     }
@@ -74,24 +74,25 @@ fn put_by_key(users: &mut Vec<User>, user: User)
 
 // The place of the user of a request. It is looked for from both ends: who is released was mostly granted just now, or
 // longest ago.
-fn place_of(users: &[User], request: EventId) -> Option<usize>
-    requires apart { AllPairs (λ u v. u.request ≢ v.request) users.now }
-    ensures { result ≡ position (λ u. is_same u.request request) users.now }
+fn place_of(users: &[NumberedUser], request: EventId) -> Option<usize>
+    requires apart { AllPairs (λ g h. g.user.request ≢ h.user.request) users.now }
+    ensures { result ≡ position (λ g. is_same g.user.request request) users.now }
 {
     place_from_ends(
         users.len(),
         |place: usize| -> bool
             requires { place < length users.now }
-            ensures { HoldsAt (λ u. result ≡ (u.request.0 == request.0)) users.entry.now place }
-        { users[place].request().0 == request.0 },
+            ensures { HoldsAt (λ g. result ≡ (g.user.request.0 == request.0))
+                users.entry.now place }
+        { users[place].user.request().0 == request.0 },
     )
 }
 
 // A request is a user no longer. Whether it was.
-fn take_out(users: &mut Vec<User>, request: EventId) -> bool
-    requires apart { AllPairs (λ u v. u.request ≢ v.request) users.old.items }
-    ensures used { result ≡ list_any (λ u. is_same u.request request) users.old.items }
-    ensures others { users.new.items ≡ users_but request users.old.items }
+fn take_out(users: &mut Vec<NumberedUser>, request: EventId) -> bool
+    requires apart { AllPairs (λ g h. g.user.request ≢ h.user.request) users.old.items }
+    ensures used { result ≡ list_any (λ g. is_same g.user.request request) users.old.items }
+    ensures others { users.new.items ≡ numbered_but request users.old.items }
     ensures no_more { vec_len users.new ≤ vec_len users.old }
     ensures capacity { vec_capacity users.new ≡ vec_capacity users.old }
 {
@@ -105,40 +106,75 @@ fn take_out(users: &mut Vec<User>, request: EventId) -> bool
 }
 
 // The last is a user no longer.
-fn take_last(users: &mut Vec<User>) -> User
+fn take_last(users: &mut Vec<NumberedUser>)
     requires { 0 < length users.old.items }
-    ensures last { users.old.items ≡ users.new.items ++ result ∷ [] }
+    ensures last { IsWithoutLast users.old.items users.new.items }
     ensures fewer { vec_len users.new + 1 ≡ vec_len users.old }
     ensures capacity { vec_capacity users.new ≡ vec_capacity users.old }
 {
     match users.pop() {
-        Some(user) => user,
+        Some(_) => {}
         None => unreachable!(),
     }
 }
 
-// The place of a request in the order of grant, likewise looked for from both ends.
-fn place_granted(granted: &[EventId], request: EventId) -> Option<usize>
-    requires apart { AllPairs (λ e f. e ≢ f) granted.now }
-    ensures { result ≡ position (λ r. is_same r request) granted.now }
+// The least number of a grant that is not below `next`.
+fn least_from(users: &[NumberedUser], next: u64) -> Option<u64>
+    ensures { IsNextGrant next users.now result }
 {
-    place_from_ends(
-        granted.len(),
-        |place: usize| -> bool
-            requires { place < length granted.now }
-            ensures { HoldsAt (λ e. result ≡ (e.0 == request.0)) granted.entry.now place }
-        { granted[place].0 == request.0 },
-    )
+    let mut least = None;
+    for numbered in users {
+        match least {
+            Some(grant) if grant <= numbered.grant => {}
+            _ if numbered.grant < next => {}
+            _ => least = Some(numbered.grant),
+        }
+    }
+    least
 }
 
-// A request stands no longer in the order of grant.
-fn forget(granted: &mut Vec<EventId>, request: EventId)
-    requires apart { AllPairs (λ e f. e ≢ f) granted.old.items }
-    ensures others { granted.new.items ≡ filter (λ e. not (is_same e request)) granted.old.items }
-    ensures capacity { vec_capacity granted.new ≡ vec_capacity granted.old }
+// Who has the number `from` has the number `to` from now on.
+fn change_number(users: &mut [NumberedUser], from: u64, to: u64)
+    ensures { users.new ≡ map (with_number from to) users.old }
 {
-    if let Some(place) = place_granted(granted.as_slice(), request) {
-        granted.remove(place);
+    for numbered in users.iter_mut() {
+        if numbered.grant == from {
+            numbered.grant = to;
+        }
+    }
+}
+
+// Numbers the users anew from 0, in the same order. The number of the next grant.
+#[cold]
+fn number_anew(users: &mut [NumberedUser]) -> u64
+    ensures users { map (λ g. g.user) users.new ≡ map (λ g. g.user) users.old }
+    ensures order { as_granted users.new ≡ as_granted users.old }
+    ensures numbered { All (λ g. g.grant < result) users.new }
+    ensures few { result ≤ length users.old }
+{
+    let mut next = 0;
+    while let Some(least) = least_from(users, next) {
+        change_number(users, least, next);
+        next += 1;
+    }
+    next
+}
+
+// The number of the next grant, which is not the greatest that there is: where the numbers have come to their end, the
+// users are numbered anew.
+fn number_next(users: &mut Vec<NumberedUser>, next: u64) -> u64
+    requires numbered { All (λ g. g.grant < next) users.old.items }
+    ensures users { map (λ g. g.user) users.new.items ≡ map (λ g. g.user) users.old.items }
+    ensures order { as_granted users.new.items ≡ as_granted users.old.items }
+    ensures numbered { All (λ g. g.grant < result) users.new.items }
+    ensures not_last { result < 2 ^ 64 - 1 }
+    ensures len { vec_len users.new ≡ vec_len users.old }
+    ensures capacity { vec_capacity users.new ≡ vec_capacity users.old }
+{
+    if next < u64::MAX {
+        next
+    } else {
+        number_anew(users.as_mut_slice())
     }
 }
 
@@ -151,7 +187,7 @@ impl Users {
         Users {
             ranked,
             users: Vec::new(alloc),
-            granted: Vec::new(alloc),
+            next: 0,
         }
     }
 
@@ -162,9 +198,6 @@ impl Users {
         ensures never_less { self.old.spare ≤ self.new.spare }
         ensures succeeds { more ≤ self.old.spare → IsOk result }
     {
-        if self.ranked {
-            self.granted.reserve(more)?;
-        }
         self.users.reserve(more)
     }
 
@@ -180,7 +213,8 @@ impl Users {
         requires ranked { IsTrue self.now.ranked }
         ensures { result ≡ last_served self.now.users }
     {
-        self.users.last().copied()
+        let last = self.users.last().copied()?;
+        Some(last.user)
     }
 
     /// One more user, who was granted last.
@@ -191,11 +225,13 @@ impl Users {
         ensures ranked { self.new.ranked ≡ self.old.ranked }
         ensures spare { self.new.spare + 1 ≡ self.old.spare }
     {
+        let grant = number_next(&mut self.users, self.next);
+        self.next = grant + 1;
+        let numbered = NumberedUser { user, grant };
         if self.ranked {
-            put_by_key(&mut self.users, user);
-            self.granted.push_reserved(user.request());
+            put_by_key(&mut self.users, numbered);
         } else {
-            self.users.push_reserved(user);
+            self.users.push_reserved(numbered);
         }
     }
 
@@ -208,11 +244,7 @@ impl Users {
         ensures spare { self.new.spare + length self.new.users
             ≡ self.old.spare + length self.old.users }
     {
-        let used = take_out(&mut self.users, request);
-        if self.ranked {
-            forget(&mut self.granted, request);
-        }
-        used
+        take_out(&mut self.users, request)
     }
 
     /// The one who is preempted first is a user no longer.
@@ -226,7 +258,6 @@ impl Users {
         ensures fewer { length self.new.users + 1 ≡ length self.old.users }
         ensures spare { self.new.spare ≡ self.old.spare + 1 }
     {
-        let user = take_last(&mut self.users);
-        forget(&mut self.granted, user.request());
+        take_last(&mut self.users);
     }
 }

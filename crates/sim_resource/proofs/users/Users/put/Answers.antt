@@ -1,25 +1,48 @@
-use Rattle.sim_resource.proofs.GrantOrders.{put_ranked, put_ranked_sound, ranked_in_order}
-use Rattle.sim_resource.proofs.Slots.{slots_taken}
+use Rattle.std.proofs.Common.{ap, ◌∙◌, ◌++◌, [], ◌∷◌}
+use Rattle.sim_resource.proofs.GrantOrders.{ranked_in_order, sound_anew, put_shown, pushed_shown, put_sound, pushed_sound}
 use Rattle.sim_resource.proofs.users.Users.put.Goals as goal
 
 pub put_by_key-requires-clause-in_order : goal.put_by_key-requires-clause-in_order
-put_by_key-requires-clause-in_order c = ranked_in_order c.self.inside.ranked c.self.inside.granted.items c.self.inside.users.items c.if-self.true c.self.invariant
+put_by_key-requires-clause-in_order c =
+    let a = c.self.inside in
+    let n = c.number_next-grant.ensures in
+    let gs = c.number_next-grant.new.users.items in
+    let grant = c.number_next-grant.result in
+    let s = sound_anew a.ranked a.next grant a.users.items gs c.self.invariant n.users n.order n.numbered in
+    ranked_in_order a.ranked grant gs c.if-self.true s
 
 pub invariant_of-self : goal.invariant_of-self
 invariant_of-self c =
-    let others = rw (← c.self.view_is) at c.requires.apart in
-    rw (c.push_reserved.ensures.items, c.put_by_key.ensures.put, c.request.ensures)
-    (put_ranked_sound c.self.inside.ranked c.self.inside.granted.items c.self.inside.users.items c.args.user c.if-self.true c.self.invariant others)
+    let a = c.self.inside in
+    let n = c.number_next-grant.ensures in
+    let gs = c.number_next-grant.new.users.items in
+    let grant = c.number_next-grant.result in
+    let s = sound_anew a.ranked a.next grant a.users.items gs c.self.invariant n.users n.order n.numbered in
+    rw c.put_by_key.ensures.put (put_sound a.ranked grant gs s c.args.user c.if-self.true)
+
+pub invariant_of-self-else-self : goal.invariant_of-self-else-self
+invariant_of-self-else-self c =
+    let a = c.self.inside in
+    let n = c.number_next-grant.ensures in
+    let gs = c.number_next-grant.new.users.items in
+    let grant = c.number_next-grant.result in
+    let s = sound_anew a.ranked a.next grant a.users.items gs c.self.invariant n.users n.order n.numbered in
+    rw c.push_reserved.ensures.items (pushed_sound a.ranked grant gs s c.args.user c.if-self.false)
 
 pub returns-then-self-clause-users : goal.returns-then-self-clause-users
 returns-then-self-clause-users c =
-    let others = rw (← c.self.view_is) at c.requires.apart in
-    rw (← c.self.view_is, c.push_reserved.ensures.items, c.put_by_key.ensures.put, c.request.ensures)
-    (put_ranked c.self.inside.ranked c.self.inside.granted.items c.self.inside.users.items c.args.user c.if-self.true c.self.invariant others)
-
-pub returns-then-self-clause-spare : goal.returns-then-self-clause-spare
-returns-then-self-clause-spare c =
     let a = c.self.inside in
-    let room = rw (← c.self.view_is) at c.requires.room in
-    rw (← c.self.view_is)
-    (slots_taken a.ranked _ _ _ _ _ _ _ _ c.if-self.true room c.put_by_key.ensures.capacity c.put_by_key.ensures.len c.push_reserved.ensures.capacity c.push_reserved.ensures.len)
+    let n = c.number_next-grant.ensures in
+    let gs = c.number_next-grant.new.users.items in
+    let grant = c.number_next-grant.result in
+    rw (← c.self.view_is, c.put_by_key.ensures.put)
+    (put_shown (record { user = c.args.user; grant = grant }) gs n.numbered ∙ ap (λ us. us ++ c.args.user ∷ []) n.order)
+
+pub returns-else-self-clause-users : goal.returns-else-self-clause-users
+returns-else-self-clause-users c =
+    let a = c.self.inside in
+    let n = c.number_next-grant.ensures in
+    let gs = c.number_next-grant.new.users.items in
+    let grant = c.number_next-grant.result in
+    rw (← c.self.view_is, c.push_reserved.ensures.items)
+    (pushed_shown (record { user = c.args.user; grant = grant }) gs n.numbered ∙ ap (λ us. us ++ c.args.user ∷ []) n.order)
