@@ -14,7 +14,7 @@ use Rattle.sim_types.specs.declared.event.ProcId.{ProcId}
 use Rattle.sim_types.proofs.Permutations.{AllPairs-tail}
 use Rattle.sim_index.specs.IndexOf.{place_of_number, with_number}
 use Rattle.sim_procs.specs.RecordOf.{RecordOf, HasOtherId, record_of, change_at, change_record, StandsAt}
-use Rattle.sim_procs.specs.Indexed.{AreIndexed, AreStored, HavePlaces, IsFoundSomewhere, SetsPlace, found_there, numbers}
+use Rattle.sim_procs.specs.Indexed.{AreIndexed, AreStored, HasNumberAt, HavePlaces, IsFoundSomewhere, SetsPlace, found_there, numbers}
 use Rattle.sim_procs.proofs.Records.{first_stands, later_stands, none_found, found_number, taken}
 
 -- ---- the place of one number is set
@@ -110,6 +110,12 @@ pub found_at : {B : Type 0} (p : ProcId) (places : List (Option ℕ)) (live : Li
 found_at p places live None h none =
     none_found p live (λ i r below same. none-some i (none ∙ ap (λ n. place_of_number n places) (sym same ∙ sym (number_at live i 0 r below)) ∙ h.placed i 0 (omega (arith, below, few live))))
 found_at p places live (Some i) h is = stands_there p places live i h (sym is)
+
+-- what stands at a place and has the number is the record that the index gives for it
+pub guessed_at : {B : Type 0} (p : ProcId) (places : List (Option ℕ)) (live : List (RecordOf B)) (at : ℕ) → AreIndexed places live
+    → HasNumberAt p live at → StandsAt p live at
+guessed_at p places [] at h has = absurd (omega (arith, has.below))
+guessed_at p places (x ∷ xs) at h has = stands_by_number p (x ∷ xs) at x (apart places (x ∷ xs) h) has.below (has.number x)
 
 -- ---- one more
 

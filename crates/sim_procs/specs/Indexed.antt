@@ -1,5 +1,6 @@
 -- How the records of live processes are found by their numbers.
 use Rattle.std.specs.Prelude.{◌≡◌, ◌≢◌, ℕ, ◌<◌, List, length, map, slice_index_or, slice_set, nat_lt, if◌then◌else◌, Option, Some, All, IsSome}
+use Rattle.sim_types.specs.declared.event.ProcId.{ProcId}
 use Rattle.sim_index.specs.IndexOf.{place_of_number}
 use Rattle.sim_procs.specs.RecordOf.{RecordOf}
 
@@ -21,6 +22,11 @@ AreIndexed places live = HavePlaces places (numbers live)
 pub record AreStored {B : Type 0} (places : List (Option ℕ)) (room : ℕ) (live : List (RecordOf B)) : Type 0 where
   pub indexed : AreIndexed places live
   pub rooms : All (λ r. r.room ≡ room) live
+
+-- a record with the number of this process stands at this place
+pub record HasNumberAt {B : Type 0} (p : ProcId) (live : List (RecordOf B)) (at : ℕ) : Type 0 where
+  pub below : at < length live
+  pub number : (d : RecordOf B) → (slice_index_or live at d).id.0 ≡ p.0
 
 -- the place of one number is set, or it has none; the others are as before
 pub record SetsPlace (n : ℕ) (place : Option ℕ) (old new : List (Option ℕ)) : Type 0 where

@@ -4,7 +4,7 @@ ghost use Rattle.std.specs.List.Sorted.{IsPermutation};
 ghost use Rattle.sim_machine.specs.NumberBounds.{most_events};
 ghost use Rattle.sim_procs.specs.RecordOf.{record_of, begun_record, with_record, scope_of, innermost, without_innermost, KeepsOthers, StandsAt};
 ghost use Rattle.sim_index.specs.IndexOf.{place_of_number};
-ghost use Rattle.sim_procs.specs.Indexed.{IsFoundSomewhere, SetsPlace, found_there, numbers};
+ghost use Rattle.sim_procs.specs.Indexed.{IsFoundSomewhere, SetsPlace, found_there, numbers, HasNumberAt};
 
 use crate::record::ProcRecord;
 use crate::scopes::Scopes;
@@ -17,11 +17,21 @@ use std::marker::Model;
 /// The live processes, each with its body, its target and its open scopes. It must be spent by `abandon`.
 pub struct Procs<B> {
     records: Vec<ProcRecord<B>>,
+    // Where the record stood of the process that was sought last.
+    sought: usize,
+    // Where records stood when the index was last asked for them by `seek`, each at the slot that the lowest bits of half
+    // the number of its process name. There are no slots, or as many as a power of two. A hint, like `sought`, is only a
+    // guess, tested by the number of the record there: records move, and numbers share slots. Processes that go on in no
+    // order of their numbers are found by theirs, without the index.
+    hints: Vec<usize>,
     // Where the record of each process stands.
     index: Index,
     // How many scopes find room in each record.
     room: Memo<usize>,
 }
+
+// How many hints there are at least, once there is room: among few, too many numbers would share theirs.
+const LEAST_HINTS: usize = 64;
 
 impl<B> Model for Procs<B> {
     ghost use Rattle.std.specs.Prelude.{◌-◌, min, vec_len, vec_capacity};
@@ -47,6 +57,8 @@ impl<B> Procs<B> {
     {
         Ok(Procs {
             records: Vec::new(alloc),
+            sought: 0,
+            hints: Vec::new(alloc),
             index: Index::new(alloc),
             room: Memo::of(&room),
         })
@@ -67,8 +79,14 @@ impl<B> Procs<B> {
         ensures never_less { self.old.spare ≤ self.new.spare }
         ensures succeeds { 1 ≤ self.old.spare → IsOk result }
     {
+        if self.has_room() {
+            return Ok(());
+        }
         self.records.reserve(1)?;
-        self.index.reserve(1)
+        self.index.reserve(1)?;
+        // A hint for each record that there is room for.
+        let hints = self.records.capacity().max(LEAST_HINTS).next_power_of_two();
+        self.hints.resize(hints, 0)
     }
 
     /// A process more is alive.
@@ -95,26 +113,55 @@ impl<B> Procs<B> {
             .push_reserved(ProcRecord::new(id, body, target, scopes));
     }
 
-    // The place of a record, found by its number.
+    // The place of a record, found by its number: at once for the process that was sought last.
     #[tactic(auto, using(crate::proofs::Places::found_at))]
     fn place(&self, id: ProcId) -> Option<usize>
         ensures { MatchOption result (record_of id self.now.live ≡ None)
             (λ i. StandsAt id self.now.live i) }
     {
-        let _ = &self.records;
+        if is_at(self.records.as_slice(), id, self.sought) {
+            return Some(self.sought);
+        }
         self.index.get(id.0)
     }
 
-    // The same, for a process that runs and is looked up again and again: until another one is sought, it is found at once.
-    #[tactic(auto, using(crate::proofs::Places::found_at))]
+    // The same, for a process that runs and is looked up again and again: until another one is sought, it is found at once,
+    // and after that mostly without the index.
     fn seek(&mut self, id: ProcId) -> Option<usize>
         ensures place { MatchOption result (record_of id self.old.live ≡ None)
             (λ i. StandsAt id self.old.live i) }
         ensures room { IfSome (record_of id self.old.live) (λ r. r.room ≡ self.old.room) }
         ensures same { self.new ≡ self.old }
     {
-        let _ = &self.records;
-        self.index.seek(id.0)
+        if is_at(self.records.as_slice(), id, self.sought) {
+            return Some(self.sought);
+        }
+        self.seek_other(id)
+    }
+
+    // The same, where the process is not the one that was sought last.
+    #[inline(never)]
+    #[tactic(auto, using(crate::proofs::Places::found_at))]
+    fn seek_other(&mut self, id: ProcId) -> Option<usize>
+        ensures place { MatchOption result (record_of id self.old.live ≡ None)
+            (λ i. StandsAt id self.old.live i) }
+        ensures same { self.new ≡ self.old }
+    {
+        // A process and the event that begins it have numbers in a row, so numbers of processes are two apart at least.
+        let lowest_bits = self.hints.len().wrapping_sub(1);
+        match self.hints.get_mut((id.0 / 2) as usize & lowest_bits) {
+            Some(hint) => {
+                if is_at(self.records.as_slice(), id, *hint) {
+                    self.sought = *hint;
+                    return Some(*hint);
+                }
+                let at = self.index.get(id.0)?;
+                *hint = at;
+                self.sought = at;
+                Some(at)
+            }
+            None => self.index.get(id.0),
+        }
     }
 
     /// Whether the process has not ended.
@@ -245,6 +292,8 @@ impl<B> Procs<B> {
     {
         let Procs {
             mut records,
+            sought: _,
+            hints: _,
             index: _,
             room: _,
         } = self;
@@ -253,6 +302,13 @@ impl<B> Procs<B> {
         }
         records.destroy_empty();
     }
+}
+
+// Whether the record of a process stands at a place.
+fn is_at<B>(records: &[ProcRecord<B>], id: ProcId, at: usize) -> bool
+    ensures { IsTrue result → HasNumberAt id records.now at }
+{
+    at < records.len() && records[at].id().0 == id.0
 }
 
 // Gives a place to a number that has none. Numbers mostly rise, and then no entry of the index moves.
