@@ -16,15 +16,9 @@ pub(crate) enum Stage {
 /// An event that is kept, with its callbacks and how many hold it.
 ///
 /// The outcome stands in three fields, so that it is read and written in place: a copy of an enum with payloads waits
-/// for its bytes. What is looked at most comes first.
+/// for its bytes. What is looked at when an event is popped comes first, so that it mostly lies together.
 #[derive(Drop)]
 pub(crate) struct Slot {
-    /// The value of the outcome, which counts only where there is one.
-    pub(crate) value: i64,
-    pub(crate) holders: u64,
-    pub(crate) callbacks: Chain,
-    /// The key of what it has as a condition, which counts only where it is one.
-    pub(crate) part: usize,
     pub(crate) kind: EventKind,
     pub(crate) stage: Stage,
     /// The kind of what was thrown, which counts only where the event failed.
@@ -33,6 +27,12 @@ pub(crate) struct Slot {
     pub(crate) processed: bool,
     pub(crate) cancelled: bool,
     pub(crate) is_condition: bool,
+    /// The value of the outcome, which counts only where there is one.
+    pub(crate) value: i64,
+    pub(crate) holders: u64,
+    pub(crate) callbacks: Chain,
+    /// The key of what it has as a condition, which counts only where it is one.
+    pub(crate) part: usize,
 }
 
 impl Slot {
@@ -42,10 +42,6 @@ impl Slot {
         ensures none { IsEmpty result.callbacks }
     {
         Slot {
-            value: 0,
-            holders: 0,
-            callbacks: Chain::new(),
-            part: 0,
             kind,
             stage: Stage::Pending,
             throw: 0,
@@ -53,6 +49,10 @@ impl Slot {
             processed: false,
             cancelled: false,
             is_condition: false,
+            value: 0,
+            holders: 0,
+            callbacks: Chain::new(),
+            part: 0,
         }
     }
 
@@ -68,6 +68,7 @@ impl Slot {
     }
 
     /// The outcome of the event, if it has one.
+    #[inline(always)]
     pub(crate) fn outcome(&self) -> Option<Outcome>
         ensures { result ≡ outcome_in self.now }
     {

@@ -211,6 +211,7 @@ impl Table {
     }
 
     /// How an event turned out. None where it is pending.
+    #[inline(always)]
     pub fn outcome(&self, event: EventId) -> Option<Outcome>
         requires kept { IsKept self.now.events event }
         ensures outcome { result ≡ (kept_at self.now.events event).event.outcome }

@@ -25,6 +25,9 @@ use std::marker::Model;
 pub struct Script {
     /// The scenario that its kind and its statements stand in, which contracts alone see.
     scenario: Memo<Scenario>,
+    /// What it asked for last, which contracts alone see. Each poll writes that it asked, so it stands where polls begin.
+    asked: Option<Memo<Op>>,
+    kind: u32,
     /// The statement that comes next.
     place: usize,
     mode: Mode,
@@ -35,11 +38,8 @@ pub struct Script {
     /// Which variables are numbers, by their bits.
     numbers: u64,
     me: ProcId,
-    kind: u32,
     /// The classes of its variables, which contracts alone see.
     classes: Memo<Classes>,
-    /// What it asked for last, which contracts alone see.
-    asked: Option<Memo<Op>>,
 }
 
 impl Model for Script {
@@ -76,15 +76,15 @@ impl Script {
         let variables = scenario.last_variable() + 1;
         Ok(Script {
             scenario: Memo::of(scenario),
+            asked: None,
+            kind: 0,
             place: 0,
             mode: Mode::Running,
             variables: Vec::from_slice(alloc, &[0; 64][..variables])?,
             frames: Frames::new(alloc, scenario.most_frames())?,
             numbers: u64::MAX,
             me: ProcId(0),
-            kind: 0,
             classes: Memo::of(&Classes::new()),
-            asked: None,
         })
     }
 

@@ -37,6 +37,7 @@ impl Script {
     }
 
     /// Does a statement that asks for nothing. The answer is whether it is one: else nothing changes.
+    #[inline(always)]
     pub(crate) fn do_quietly(&mut self, statement: &Stmt, time: i64) -> bool
         requires variables { IsTrue (keeps_given self.old statement.now) }
         requires room { IsTrue (enters_room self.old statement.now) }
