@@ -108,8 +108,8 @@ impl Body for Car {
         *asked = Op::Finish(0);
     }
 
-    fn poll_quietly(&mut self, _code: &Road, _now: i64, _signal: Signal) -> bool {
-        false
+    fn poll_quietly(&mut self, _code: &Road, _now: i64, _signal: Signal, _most: u32) -> u32 {
+        0
     }
 
     fn place(&self, _at: u8) -> EventId {

@@ -102,8 +102,8 @@ impl Body for Clock {
         self.last = Some(again(asked));
     }
 
-    fn poll_quietly(&mut self, _code: &Pace, _now: i64, _signal: Signal) -> bool {
-        false
+    fn poll_quietly(&mut self, _code: &Pace, _now: i64, _signal: Signal, _most: u32) -> u32 {
+        0
     }
 
     fn place(&self, _at: u8) -> EventId {

@@ -109,8 +109,8 @@ impl Body for Traveller {
         self.last = Some(again(asked));
     }
 
-    fn poll_quietly(&mut self, _code: &Land, _now: i64, _signal: Signal) -> bool {
-        false
+    fn poll_quietly(&mut self, _code: &Land, _now: i64, _signal: Signal, _most: u32) -> u32 {
+        0
     }
 
     fn place(&self, _at: u8) -> EventId {

@@ -1,7 +1,7 @@
 -- A unit of the kernel is a step of the machine, whose line is counted.
 use Rattle.std.proofs.Common.{◌≡◌, ℕ, ◌+◌, ℤ, ◌+ℤ◌, List, [], ◌∷◌, ◌++◌, length, refl, sym, ap, ◌∙◌, subst}
-use Rattle.std.proofs.Math.IntN.{+ℤ_assoc, +ℤ_idl, +ℤ_idr}
-use Rattle.std.proofs.Common.{length-append, add-zero}
+use Rattle.std.proofs.Math.IntN.{+ℤ_assoc, +ℤ_idl}
+use Rattle.std.proofs.Common.{length-append}
 use Rattle.sim_types.specs.Scenarios.{ScenarioOf}
 use Rattle.sim_types.specs.declared.line.Line.{Line}
 use Rattle.sim_types.specs.declared.line.Line.TheVariants as line
@@ -11,7 +11,6 @@ use Rattle.sim_machine.specs.Units.{arrive}
 use Rattle.sim_steps_model.specs.PartsOf.{PartsOf, plan_of}
 use Rattle.sim_steps_model.specs.StandsFor.{StandsFor, LawfulOf, lines_of}
 use Rattle.sim_steps_model.specs.declared.mode.Unit.{Unit}
-use Rattle.sim_steps_model.specs.declared.mode.Unit.TheVariants as unit
 use Rattle.sim_kernel.specs.Stepping.{MakesStep, StepsFrom}
 use Rattle.sim_kernel.specs.Arriving.{MakesArrival, ArrivesFrom}
 use Rattle.sim_script_model.specs.Scripts.{Script}
@@ -70,31 +69,14 @@ unit_stands old new answer t stands lawful makes =
       lines = ap (λ u. u.lines) (sym is) ∙ next.lines;
     }
 
-module _ (old new : SessionOf) (before : PartsOf Script ScenarioOf) (same : before ≡ old.parts) where
-  -- a unit that writes nothing
-  pub quiet_at : (answer : Unit) → MakesStep script_body before answer new.parts → answer ≡ unit.Quiet → new.logs ≡ old.logs → new.total ≡ old.total
-      → (t : State Script) → IsAt old t → IsAt new (steps_in old.parts 1 t)
-  quiet_at answer makes is logs sum t at =
-      let stepped = unit_stands old.parts new.parts answer t at.stands at.lawful (subst (λ p. MakesStep script_body p answer new.parts) same makes) in
-      let lines : (steps_in old.parts 1 t).lines ≡ t.lines ++ [] = stepped.lines ∙ ap (λ a. t.lines ++ lines_of a) is in
-      now_at old new t (steps_in old.parts 1 t) [] at stepped.stands stepped.lawful lines (logs ∙ sym (add-zero old.logs)) (sum ∙ sym (+ℤ_idr old.total))
-
-  -- a unit that writes a line
-  pub line_at : (answer : Unit) (x : Line) → MakesStep script_body before answer new.parts → answer ≡ unit.Line x
-      → new.logs ≡ old.logs + length (logged (x ∷ [])) → new.total ≡ old.total +ℤ total (logged (x ∷ []))
-      → (t : State Script) → IsAt old t → IsAt new (steps_in old.parts 1 t)
-  line_at answer x makes is logs sum t at =
-      let stepped = unit_stands old.parts new.parts answer t at.stands at.lawful (subst (λ p. MakesStep script_body p answer new.parts) same makes) in
-      let lines : (steps_in old.parts 1 t).lines ≡ t.lines ++ x ∷ [] = stepped.lines ∙ ap (λ a. t.lines ++ lines_of a) is in
-      now_at old new t (steps_in old.parts 1 t) (x ∷ []) at stepped.stands stepped.lawful lines logs sum
-
-  -- something arrives
-  pub arrives_at : (port : ℕ) (value : ℤ) (x : Line) → MakesArrival script_body port value before x new.parts
-      → new.logs ≡ old.logs + length (logged (x ∷ [])) → new.total ≡ old.total +ℤ total (logged (x ∷ []))
-      → (t : State Script) → IsAt old t → IsAt new (arrive (plan_of script_body old.parts) port value t)
-  arrives_at port value x makes logs sum t at =
-      let arrived : ArrivesFrom script_body port value old.parts t x new.parts = (subst (λ p. MakesArrival script_body port value p x new.parts) same makes).each t at.lawful at.stands in
-      now_at old new t (arrive (plan_of script_body old.parts) port value t) (x ∷ []) at arrived.stands arrived.lawful arrived.lines logs sum
+-- something arrives
+pub arrives_at : (old new : SessionOf) (before : PartsOf Script ScenarioOf) → before ≡ old.parts → (port : ℕ) (value : ℤ) (x : Line)
+    → MakesArrival script_body port value before x new.parts
+    → new.logs ≡ old.logs + length (logged (x ∷ [])) → new.total ≡ old.total +ℤ total (logged (x ∷ []))
+    → (t : State Script) → IsAt old t → IsAt new (arrive (plan_of script_body old.parts) port value t)
+arrives_at old new before same port value x makes logs sum t at =
+    let arrived : ArrivesFrom script_body port value old.parts t x new.parts = (subst (λ p. MakesArrival script_body port value p x new.parts) same makes).each t at.lawful at.stands in
+    now_at old new t (arrive (plan_of script_body old.parts) port value t) (x ∷ []) at arrived.stands arrived.lawful arrived.lines logs sum
 
 -- ---- the text of a unit
 

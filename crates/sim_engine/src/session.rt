@@ -139,9 +139,9 @@ impl Session {
             (self.new.units - self.old.units) t) }
         ensures unflushed { IsUnflushed (K.tells out.old) (K.tells out.new) }
     {
-        self.unit(scenario, out)?;
-        while self.goes_on() {
-            self.unit(scenario, out)?;
+        self.go_on(scenario, out)?;
+        while self.is_under_way() {
+            self.go_on(scenario, out)?;
         }
         Ok(self.state())
     }
@@ -247,33 +247,36 @@ impl Session {
 
     /// Whether an event is being processed and a unit may be made.
     #[inline(always)]
-    fn goes_on(&self) -> bool
+    fn is_under_way(&self) -> bool
         ensures { result ≡ is_under_way self.now }
     {
         self.units < self.limit && matches!(self.kernel.rest(), Rest::Busy)
     }
 
-    /// Makes one unit in which nothing arrives, and writes its line if it has one.
+    /// Makes at least one unit in which nothing arrives: all that come next in which a process asks for nothing, and one more
+    /// where one is left, whose line is written if it has one.
     #[inline(always)]
-    fn unit<K: Sink>(&mut self, scenario: &Scenario, out: &mut K) -> Result<(), EngineFault>
+    fn go_on<K: Sink>(&mut self, scenario: &Scenario, out: &mut K) -> Result<(), EngineFault>
         requires code { scenario.now ≡ self.old.parts.code }
         requires can { CanStep self.old.parts }
         requires left { self.old.units < self.old.limit }
         ensures goes_on { GoesOn self.old self.new }
         ensures refused { self.new.refused ≡ self.old.refused }
+        ensures within { self.new.units ≤ self.old.limit }
         ensures never_fewer { self.old.units ≤ self.new.units }
-        ensures at_most_one { self.new.units ≤ self.old.units + 1 }
-        ensures units { OnOk result (self.new.units ≡ self.old.units + 1) }
+        ensures more { OnOk result (self.old.units < self.new.units) }
+        ensures busy { (t : State Script) → IsAt self.old t →
+            IsBusyBetween self.old.parts (self.new.units - self.old.units) t }
         ensures steps { OnOk result ((t : State Script) → IsAt self.old t →
-            IsAt self.new (steps_in self.old.parts 1 t)) }
+            IsAt self.new (steps_in self.old.parts (self.new.units - self.old.units) t)) }
         ensures writes { (t : State Script) → IsAt self.old t →
             Writes is_write (K.tells out.old) (K.tells out.new) result
             (text_of_steps scenario.now.port_names self.old.parts
             (self.new.units - self.old.units) t) }
         ensures unflushed { IsUnflushed (K.tells out.old) (K.tells out.new) }
     {
-        if self.kernel.unit_quietly(scenario) {
-            self.units += 1;
+        self.units += self.kernel.units_quietly(scenario, self.limit - self.units);
+        if self.units == self.limit {
             return Ok(());
         }
         let unit = self.kernel.unit(scenario)?;

@@ -4,4 +4,5 @@ pub mod Stopping
 pub mod OpeningHolds
 -- the units
 pub mod Units
+pub mod QuietUnits
 pub mod Arrivals

@@ -2,9 +2,12 @@
 use Rattle.std.specs.Prelude.{◌≡◌, ◌++◌}
 use Rattle.sim_machine.specs.State.{State}
 use Rattle.sim_machine.specs.Bodies.{BodyOf}
-use Rattle.sim_steps_model.specs.PartsOf.{PartsOf}
+use Rattle.sim_steps_model.specs.PartsOf.{PartsOf, IsOpenedAs}
 use Rattle.sim_steps_model.specs.StandsFor.{StandsFor, LawfulOf, StepOf, lines_of}
+use Rattle.sim_steps_model.specs.Resting.{rest_in}
+use Rattle.sim_steps_model.specs.declared.mode.Rest.TheVariants as rest
 use Rattle.sim_steps_model.specs.declared.mode.Unit.{Unit}
+use Rattle.sim_steps_model.specs.declared.mode.Unit.TheVariants as unit
 use Rattle.sim_kernel.specs.Accounting.{HasAccounts}
 
 -- a step leads from s, a state of the machine that the old kernel was opened with, to a lawful state that the new one
@@ -24,3 +27,9 @@ pub record MakesStep {B Code : Type 0}
     (body : BodyOf B Code) (old : PartsOf B Code) (answer : Unit)
     (new : PartsOf B Code) : Type 0 where
   pub each : (s : State B) → LawfulOf body old s → StandsFor old s → StepsFrom body old s answer new
+
+-- so it is, it adds no line, what the kernel was opened with stays, and it is busy then
+pub record MakesQuietStep {B Code : Type 0} (body : BodyOf B Code) (old new : PartsOf B Code) : Type 0 where
+  pub makes : MakesStep body old unit.Quiet new
+  pub opened : IsOpenedAs old new
+  pub busy : rest_in new ≡ rest.Busy

@@ -1,16 +1,16 @@
 //! A kernel stands for a lawful state of the machine, and makes one unit of it at a time.
-ghost use Rattle.std.specs.Prelude.{◌≡◌, ◌+◌, ◌<◌, ◌^◌, length, IfOk, OnOk, OnErr, IsFalse, IsTrue};
+ghost use Rattle.std.specs.Prelude.{◌≡◌, ◌+◌, ◌<◌, ◌≤◌, ◌^◌, length, IfOk, OnOk, OnErr};
 ghost use Rattle.sim_machine.specs.Setups.{FitsCode};
 ghost use Rattle.sim_machine.specs.Runs.{opening};
 ghost use Rattle.sim_machine.specs.State.{State};
+ghost use Rattle.sim_procs.specs.QuietPolls.{InARow};
 ghost use Rattle.sim_steps_model.specs.PartsOf.{IsOpenedAs, plan_of};
 ghost use Rattle.sim_steps_model.specs.Resting.{CanArrive, CanStep, rest_in};
 ghost use Rattle.sim_steps_model.specs.StandsFor.{IsLawfulOpening, StandsFor, StandsForOpening};
-ghost use Rattle.sim_steps_model.specs.declared.mode.Unit.TheVariants as unit;
 ghost use Rattle.sim_kernel.specs.Accounting.{HasAccounts, kept_of};
 ghost use Rattle.sim_kernel.specs.Arriving.{MakesArrival};
 ghost use Rattle.sim_kernel.specs.KernelOf.{IsAsBefore};
-ghost use Rattle.sim_kernel.specs.Stepping.{MakesStep};
+ghost use Rattle.sim_kernel.specs.Stepping.{MakesQuietStep, MakesStep};
 
 use crate::opening::open;
 use sim_procs::Body;
@@ -97,27 +97,22 @@ impl<B: Body> Kernel<B> {
         Ok(unit)
     }
 
-    /// Makes the unit in which the running process asks for nothing, where its body can tell so beforehand, as it can of most
-    /// statements of a script. The answer is whether it was made: else all is as before. It takes no memory. `unit` makes such
-    /// a unit too, so whoever makes units may leave this out; it is there for speed.
+    /// Makes units in a row in which the running process asks for nothing, as long as its body can tell so beforehand, as it
+    /// can of most statements of a script, and at most so many. The answer is how many were made. It takes no memory. `unit`
+    /// makes such a unit too, so whoever makes units may leave this out; it is there for speed.
     #[inline(always)]
-    pub fn unit_quietly(&mut self, code: &B::Code) -> bool
+    pub fn units_quietly(&mut self, code: &B::Code, most: u32) -> u32
         requires code { code.now ≡ self.old.parts.code }
-        requires units { self.old.units < 2 ^ 32 }
-        // From each lawful state that it stood for, and by the invariant there is one.
-        ensures steps { IsTrue result
-            → MakesStep B.body self.old.parts unit.Quiet self.new.parts }
-
+        requires units { self.old.units + most ≤ 2 ^ 32 }
+        ensures most { result ≤ most }
+        ensures steps { InARow (MakesQuietStep B.body) result self.old.parts self.new.parts }
         ensures opened { IsOpenedAs self.old.parts self.new.parts }
-        ensures units { IsTrue result → self.new.units ≡ self.old.units + 1 }
-        ensures kept { IsFalse result → self.new ≡ self.old }
+        ensures units { self.new.units ≡ self.old.units + result }
     {
-        if !self.parts.unit_quietly(code) {
-            return false;
-        }
+        let made = self.parts.units_quietly(code, most);
         let _kept = self.parts.slots();
-        self.units += 1;
-        true
+        self.units += u64::from(made);
+        made
     }
 
     /// A value comes in by a port: a process of the port's kind is made, which begins with it. This is a unit too. All

@@ -1,10 +1,10 @@
-ghost use Rattle.std.specs.Prelude.{◌≤◌, ◌≡◌, ◌<◌, ℕ, ℤ, List, Option, Some, length, slice_index_or, IfOk, IsFalse, IsTrue};
+ghost use Rattle.std.specs.Prelude.{◌≤◌, ◌≡◌, ◌<◌, ℕ, ℤ, List, Option, Some, length, slice_index_or, IfOk};
 ghost use Rattle.sim_types.specs.declared.event.EventId.{EventId};
 ghost use Rattle.sim_types.specs.declared.event.Signal.TheVariants as signal;
 ghost use Rattle.sim_types.specs.declared.op.Op.{Op};
-ghost use Rattle.sim_types.specs.declared.op.Op.TheVariants as op;
 ghost use Rattle.sim_machine.specs.NumberBounds.{most_events};
 ghost use Rattle.sim_procs.specs.Premises.{CanBegin, CanBeTold, ChangesOnly, EntersWithin, events_in_places};
+ghost use Rattle.sim_procs.specs.QuietPolls.{QuietPolls};
 
 use sim_machine::LawfulBody;
 use sim_types::{Args, EventId, Op, ProcId, Signal};
@@ -50,13 +50,13 @@ pub trait Body: LawfulBody + Sized + Drop {
         requires { CanBeTold Self.body code.now self.old signal }
         ensures { Self.body.turn code.now self.old now signal asked.new self.new };
 
-    /// The same poll, where the body asks for nothing in it (`Nop`) and can tell so beforehand. The answer is whether it was
-    /// made: else all is as before. A body may always answer that it was not.
-    fn poll_quietly(&mut self, code: &Self::Code, now: i64, signal: Signal) -> bool
+    /// Polls in a row, as long as the body asks for nothing in them (`Nop`) and can tell so beforehand: it is told this in the
+    /// first, and in all others that its operation is done. The answer is how many were made, at most as many as these. A body
+    /// may always answer that none was, and then all is as before.
+    fn poll_quietly(&mut self, code: &Self::Code, now: i64, signal: Signal, most: u32) -> u32
         requires { CanBeTold Self.body code.now self.old signal }
-        ensures done { IsTrue result
-            → Self.body.turn code.now self.old now signal op.Nop self.new }
-        ensures kept { IsFalse result → self.new ≡ self.old };
+        ensures most { result ≤ most }
+        ensures polls { QuietPolls Self.body code.now now signal result self.old self.new };
 
     /// The event in a place, or event 0.
     fn place(&self, at: u8) -> EventId

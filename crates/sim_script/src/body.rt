@@ -69,8 +69,19 @@ impl Body for Script {
     }
 
     #[inline(always)]
-    fn poll_quietly(&mut self, code: &Scenario, now: i64, signal: Signal) -> bool {
-        self.turn_quietly(code.code(), now, signal)
+    fn poll_quietly(&mut self, code: &Scenario, now: i64, signal: Signal, most: u32) -> u32 {
+        let statements = code.code();
+        if most == 0 || !self.turn_quietly(statements, now, signal) {
+            return 0;
+        }
+        let mut made = 1;
+        while made < most {
+            if !self.turn_quietly(statements, now, Signal::Done) {
+                return made;
+            }
+            made += 1;
+        }
+        made
     }
 
     fn place(&self, at: u8) -> EventId {

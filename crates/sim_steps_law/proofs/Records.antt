@@ -6,7 +6,7 @@ use Rattle.std.specs.List.Sorted.{IsPermutation}
 use Rattle.std.specs.Option.{option_map}
 use Rattle.std.proofs.lemmas.Bool.{cases_eq}
 use Rattle.std.proofs.lemmas.Bool.Decides.{nat_tests}
-use Rattle.std.proofs.lemmas.Option.{same_Some}
+use Rattle.std.proofs.lemmas.Option.{none-some, same_Some}
 use Rattle.std.proofs.lemmas.List.Elements.{All-cons, All-head, All-tail, All-nil}
 use Rattle.sim_types.specs.declared.event.ProcId.{ProcId}
 use Rattle.sim_types.specs.declared.event.Scope.{Scope}
@@ -113,3 +113,32 @@ unchanged_body {B} p b live processes shown apart found =
     let Apart : ProcessOf B → ProcessOf B → Type 0 = λ x y. x.id ≢ y.id in
     same_bodies p b live
     (all_have p b live (AllPairs-IsPermutation Apart (λ x y differ. λ e. differ (sym e)) processes (map process_of live) shown apart) found)
+
+-- ---- a body that changes twice
+
+one_again : {B : Type 0} (p : ProcId) (b d : B) (r : RecordOf B) (v : Bool) → (r.id.0 == p.0) ≡ v →
+    let x : RecordOf B = (if v then record r { body = b } else r) in
+    (if x.id.0 == p.0 then record x { body = d } else x) ≡ (if v then record r { body = d } else r)
+one_again p b d r true h = rw h refl
+one_again p b d r false h = rw h refl
+
+-- only the second change counts
+pub changed_again : {B : Type 0} (p : ProcId) (b d : B) (live : List (RecordOf B)) →
+    change_record p (λ r. record r { body = d }) (change_record p (λ r. record r { body = b }) live) ≡ change_record p (λ r. record r { body = d }) live
+changed_again p b d [] = refl
+changed_again p b d (r ∷ live) = cons_same _ _ _ _ (one_again p b d r (r.id.0 == p.0) refl) (changed_again p b d live)
+
+one_found : {B : Type 0} (p : ProcId) (b before : B) (r : RecordOf B) (q o : Option (RecordOf B)) (v : Bool) → (r.id.0 == p.0) ≡ v →
+    (option_map (λ r. r.body) o ≡ Some before → option_map (λ r. r.body) q ≡ Some b) →
+    option_map (λ r. r.body) (cond v (Some r) o) ≡ Some before →
+    let x : RecordOf B = (if v then record r { body = b } else r) in option_map (λ r. r.body) (cond (x.id.0 == p.0) (Some x) q) ≡ Some b
+one_found p b before r q o true h later found = rw h refl
+one_found p b before r q o false h later found = rw h (later found)
+
+-- and the body is found that the process got
+pub changed_found : {B : Type 0} (p : ProcId) (b before : B) (live : List (RecordOf B)) → option_map (λ r. r.body) (record_of p live) ≡ Some before →
+    option_map (λ r. r.body) (record_of p (change_record p (λ r. record r { body = b }) live)) ≡ Some b
+changed_found p b before [] h = absurd (none-some before h)
+changed_found p b before (r ∷ live) h =
+    one_found p b before r (record_of p (change_record p (λ x. record x { body = b }) live)) (record_of p live) (r.id.0 == p.0) refl
+    (changed_found p b before live) h

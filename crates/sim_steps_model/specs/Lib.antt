@@ -7,6 +7,7 @@ pub mod Calling
 pub mod Conditions
 pub mod Dropping
 pub mod Polling
+pub mod QuietUnits
 pub mod Waiting
 pub mod Resting
 pub mod Opening

@@ -1,4 +1,3 @@
-use Rattle.sim_steps_law.proofs.Records.{unchanged_body}
 use Rattle.sim_steps_law.proofs.Running.{running_alive, running_can_be_told}
 use Rattle.sim_steps.proofs.parts.Parts.poll_body_quietly.Goals as goal
 
@@ -15,12 +14,3 @@ poll_quietly-requires g c =
     let events = rw (← c.self.view_is) at c.requires.events in
     rw (c.requires.code, ← c.self.view_is)
     (running_can_be_told g.B.LawfulBody.body _ c.args.event c.args.process c.args.told c.body_mut.result.now stands running c.body_mut.ensures.value events)
-
-pub returns-clause-kept : goal.returns-clause-kept
-returns-clause-kept g c = λ not.
-    let stands = c.requires.stands in
-    let live = c.self.inside.processes.live in
-    let shown = rw (← c.self.view_is) at stands.stands.processes in
-    let same = c.poll_quietly.ensures.kept not in
-    let unchanged = unchanged_body c.args.process c.body_mut.result.now live stands.state.processes shown stands.lawful.processes.distinct c.body_mut.ensures.value in
-    rw (same, unchanged) c.self.view_is
