@@ -1,8 +1,9 @@
 -- A queue for each of the next times.
-use Rattle.std.proofs.Common.{◌≡◌, ◌≢◌, ℕ, zero, suc, ℤ, pos, ◌+ℤ◌, ◌+◌, ◌<◌, ◌≤◌, List, [], ◌∷◌, ◌++◌, length, get_or, set, min, refl, sym, ap, subst, ◌∙◌, inl, inr, append_assoc, arith, All, length-append, map, Global, Bor, Option, Some, None, IfSome, MatchOption}
+use Rattle.std.proofs.Common.{◌≡◌, ◌≢◌, ℕ, zero, suc, ℤ, pos, ◌+ℤ◌, ◌+◌, ◌<◌, List, [], ◌∷◌, ◌++◌, length, get_or, set, min}
+use Rattle.std.proofs.Common.{refl, sym, ap, subst, ◌∙◌, inl, inr, append_assoc, arith, All, length-append, map, Global, Bor, Option, Some, None, IfSome, MatchOption}
 use Rattle.std.specs.declared.collections.VecDeque.{VecDeque}
 use Rattle.std.proofs.Math.Seq.{map-set_same}
-use Rattle.std.specs.Prelude.{option_to_list, IsSome}
+use Rattle.std.specs.Prelude.{IsSome}
 use Rattle.std.specs.List.Sorted.{IsPermutation}
 use Rattle.std.proofs.lemmas.Bool.{cases_eq, cases_lt}
 use Rattle.std.proofs.lemmas.Grind.{get_or-set_at}
@@ -13,7 +14,6 @@ use Rattle.std.proofs.lemmas.List.Sorted.{IsPermutation-trans, IsPermutation-ref
 use Rattle.sim_types.specs.Keys.{IsLess}
 use Rattle.sim_types.specs.declared.event.Entry.{Entry}
 use Rattle.sim_types.proofs.KeyLemmas.{IsLess-irrefl}
-use Rattle.sim_types.proofs.Permutations.{AllPairs-tail}
 use Rattle.sim_agenda.specs.Agendas.{TakesFirst}
 use Rattle.sim_agenda.specs.Series.{Rises, IsDue, IsFirst}
 use Rattle.sim_agenda.specs.Windows.{joined, IsWindow}
@@ -115,32 +115,6 @@ module _ (xss : List (List Entry)) (start : ℤ) (first many : ℕ) (h : IsWindo
         );
       }
 
-  -- one entry fewer, and all queues up to another one are empty
-  pub window_left : (x : Entry) (rest : List Entry) (next left : ℕ) → get_or xss first [] ≡ x ∷ rest → first ≤ next
-      → ((i : ℕ) → first ≤ i → i < next → get_or (set xss first rest) i [] ≡ []) → (next < length xss → 0 < length (get_or (set xss first rest) next []))
-      → left + 1 ≡ many → IsWindow (set xss first rest) start next left
-  window_left x rest next left at more empty some fewer =
-      let within : first < length xss = (elim (cases_lt first (length xss)) [ inl less ↦ less | inr past ↦ absurd (cc (get_or_past xss first [] past)) ]) in
-      let here : (j : ℕ) → j ≡ first → get_or (set xss first rest) j [] ≡ rest = λ j same. get_or-set_at xss first j rest [] same within in
-      let there : (j : ℕ) → j ≢ first → get_or (set xss first rest) j [] ≡ get_or xss j [] = λ j other. get_or-set_other xss first j rest [] other in
-      record {
-        rises = λ j. elim (cases_eq j first) [
-          | inl same ↦ subst Rises (sym (here j same)) (AllPairs-tail (λ (u v : Entry). IsLess u.key v.key) x rest (subst Rises at (h.rises first)))
-          | inr other ↦ subst Rises (sym (there j other)) (h.rises j)
-        ];
-        times = λ j. elim (cases_eq j first) [
-          | inl same ↦ subst (All (λ u. u.key.time ≡ start +ℤ pos j)) (sym (here j same)) (subst (λ n. All (λ u. u.key.time ≡ start +ℤ pos n) rest) (sym same)
-              (All-tail (λ u. u.key.time ≡ start +ℤ pos first) x rest (subst (All (λ u. u.key.time ≡ start +ℤ pos first)) at (h.times first))))
-          | inr other ↦ subst (All (λ u. u.key.time ≡ start +ℤ pos j)) (sym (there j other)) (h.times j)
-        ];
-        before = λ j less. elim (cases_lt j first) [
-          | inl under ↦ there j (λ same. absurd (omega arith)) ∙ h.before j under
-          | inr over ↦ empty j over less
-        ];
-        filled = λ less. some (omega (arith, less, length-set xss first rest));
-        all = omega (arith, h.all, ap length (taken_joined xss first x rest h.before at));
-      }
-
   -- with no entries, it may begin at any time
   pub window_moved : (time : ℤ) → many ≡ 0 → IsWindow xss time first many
   window_moved time none =
@@ -180,19 +154,6 @@ module _ (xss : List (List Entry)) (start : ℤ) (first many : ℕ) (h : IsWindo
         due = All-cons (λ y. ¬ IsLess y.key x.now.key) x.now (joined (set xss first rest)) (IsLess-irrefl x.now.key) (front_due x.now rest here);
         among = λ z due. All-head (λ y. ¬ IsLess y.key z.key) x.now (joined (set xss first rest)) due;
       })
-
-  -- what is taken from the first queue
-  pub window_pops : (result : Option Entry) (rest : List Entry) → get_or xss first [] ≡ option_to_list result ++ rest → first < length xss
-      → (0 < length (get_or xss first []) → IsSome result) → MatchOption result ((joined xss ≡ []) × (joined (set xss first rest) ≡ []))
-      (λ x. TakesFirst (joined xss) x (joined (set xss first rest)))
-  window_pops None rest at within some = absurd (cc (some (h.filled within)))
-  window_pops (Some x) rest at within some = window_takes x rest at
-
-  pub window_rest : (result : Option Entry) (rest : List Entry) (next left : ℕ) → get_or xss first [] ≡ option_to_list result ++ rest → first < length xss
-      → (0 < length (get_or xss first []) → IsSome result) → first ≤ next → ((i : ℕ) → first ≤ i → i < next → get_or (set xss first rest) i [] ≡ [])
-      → (next < length xss → 0 < length (get_or (set xss first rest) next [])) → left + 1 ≡ many → IsWindow (set xss first rest) start next left
-  window_rest None rest next left at within some more empty filled fewer = absurd (cc (some (h.filled within)))
-  window_rest (Some x) rest next left at within some more empty filled fewer = window_left x rest next left at more empty filled fewer
 
 -- empty queues
 pub window_opens : (xss : List (List Entry)) (start : ℤ) (first many : ℕ) → ((i : ℕ) → get_or xss i [] ≡ []) → length xss ≡ first → many ≡ 0

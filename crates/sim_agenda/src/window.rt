@@ -1,9 +1,12 @@
 //! The entries of the next times, a queue for each time: of these the first is found without a comparison, however many
-//! there are.
-ghost use Rattle.std.specs.Prelude.{◌≡◌, ℕ, ◌+◌, ◌<◌, ◌≤◌, ◌^◌, ◌+ℤ◌, pos, [], ◌∷◌, ◌++◌, map, length, slice_index_or, IsTrue, IsFalse, IfSome, IfOk, MatchOption, All, vec_len};
+//! there are. The queues are a ring, and the window slides with the time: where an entry is taken, the queues of the times
+//! before it have none left, and they become those of as many later times.
+ghost use Rattle.std.specs.Prelude.{◌≡◌, ℕ, ◌+◌, ◌%◌, ◌<◌, ◌≤◌, ◌^◌, ◌+ℤ◌, pos, [], ◌∷◌, ◌++◌, map, length};
+ghost use Rattle.std.specs.Prelude.{slice_index_or, IsTrue, IsFalse, IfSome, IfOk, MatchOption, All, vec_len};
 ghost use Rattle.std.specs.List.Sorted.{IsPermutation};
 ghost use Rattle.sim_agenda.specs.Agendas.{TakesFirst};
 ghost use Rattle.sim_agenda.specs.Series.{IsFirst};
+ghost use Rattle.sim_agenda.specs.Windows.{joined, turned};
 
 use crate::series::{put_behind, take_front};
 use sim_types::{Count, Entry};
@@ -14,14 +17,17 @@ use std::marker::Model;
 // How many times there is a queue for.
 const TIMES: usize = 64;
 
-/// Entries of the times from a start on.
+/// Entries of the times from a start on. The start is never later than the entry that was taken last, so that others of
+/// its time find their queue.
 #[derive(Drop)]
 pub(crate) struct Window {
-    // one for each time, with its entries in rising order; none before the first `reserve`
+    // a ring with one for each time, with its entries in rising order; none before the first `reserve`
     queues: Vec<VecDeque<Entry>>,
-    // the time of the first queue
+    // the place of the start's queue; those of the times after it follow, and after the last place comes the first
+    turn: usize,
+    // the time that the window begins at
     start: i64,
-    // the place of the first queue that is not empty, or the number of all queues
+    // from the start on, the number of the first queue that is not empty, or the number of all queues
     first: usize,
     // how many entries there are in all queues
     len: usize,
@@ -31,21 +37,31 @@ pub(crate) struct Window {
 impl Model for Window {
     ghost use Rattle.std.specs.Prelude.{List, map};
     ghost use Rattle.sim_types.specs.declared.event.Entry.{Entry};
-    ghost use Rattle.sim_agenda.specs.Windows.{joined, IsWindow};
+    ghost use Rattle.sim_agenda.specs.Windows.{joined, turned, IsRing};
 
     ghost Value = { List Entry };
 
-    ghost view = { λ a. joined (map (λ q. q.items) a.queues.items) };
+    ghost view = { λ a. joined (turned a.turn (map (λ q. q.items) a.queues.items)) };
 
-    ghost invariant = { λ a. IsWindow (map (λ q. q.items) a.queues.items) a.start a.first a.len };
+    ghost invariant = { λ a. IsRing (map (λ q. q.items) a.queues.items) a.turn
+        a.start a.first a.len };
 }
 
-// The place of the queue of a time, of so many queues.
-fn place_of(queues: usize, start: i64, time: i64) -> Option<usize>
+// The number of the queue of a time, of so many queues from the start on.
+fn number_of(queues: usize, start: i64, time: i64) -> Option<usize>
     ensures { IfSome result (λ i. (i < queues) × (time ≡ start +ℤ pos i)) }
 {
-    let place = usize::try_from(time.checked_sub(start)?).ok()?;
-    if place < queues { Some(place) } else { None }
+    let number = usize::try_from(time.checked_sub(start)?).ok()?;
+    if number < queues { Some(number) } else { None }
+}
+
+// The place in the ring of the queue with a number.
+fn place_in_ring(turn: usize, number: usize) -> usize
+    requires turn { turn < 64 }
+    requires number { number < 64 }
+    ensures { result ≡ (turn + number) % 64 }
+{
+    (turn + number) % TIMES
 }
 
 // Makes room for so many entries in all in a queue.
@@ -81,19 +97,25 @@ fn empty_queues(alloc: Global, each: usize) -> Result<Vec<VecDeque<Entry>>, Allo
     Ok(queues)
 }
 
-// The first queue from a place on that is not empty, or the number of all.
-fn next_filled(queues: &[VecDeque<Entry>], from: usize) -> usize
-    ensures from { from ≤ result }
-    ensures before { (i : ℕ) → from ≤ i → i < result
-        → slice_index_or (map (λ q. q.items) queues.now) i [] ≡ [] }
-    ensures filled { result < length queues.now
-        → 0 < length (slice_index_or (map (λ q. q.items) queues.now) result []) }
+// From a place of the ring on, the number of the first queue that is not empty, or the number of all. Where there are no
+// entries, no queue is looked at.
+fn next_filled(queues: &[VecDeque<Entry>], turn: usize, len: usize) -> usize
+    requires all { length queues.now ≡ 64 }
+    requires turn { turn < 64 }
+    requires len { len ≡ length (joined (turned turn (map (λ q. q.items) queues.now))) }
+    ensures before { (i : ℕ) → i < result
+        → slice_index_or (turned turn (map (λ q. q.items) queues.now)) i [] ≡ [] }
+    ensures filled { result < 64
+        → 0 < length (slice_index_or (turned turn (map (λ q. q.items) queues.now)) result []) }
 {
-    let mut place = from;
-    while place < queues.len() && queues[place].is_empty() {
-        place += 1;
+    if len == 0 {
+        return TIMES;
     }
-    place
+    let mut number = 0;
+    while number < TIMES && queues[place_in_ring(turn, number)].is_empty() {
+        number += 1;
+    }
+    number
 }
 
 impl Window {
@@ -103,6 +125,7 @@ impl Window {
     {
         Window {
             queues: Vec::new(alloc),
+            turn: 0,
             start: 0,
             first: 0,
             len: 0,
@@ -141,15 +164,16 @@ impl Window {
         ensures alone { self.old ≡ [] → count.new ≡ count.old }
     {
         let (time, _, _) = entry.key.parts();
-        let place = match place_of(self.queues.len(), self.start, time) {
-            Some(place) => place,
+        let number = match number_of(self.queues.len(), self.start, time) {
+            Some(number) => number,
             None => return false,
         };
+        let place = place_in_ring(self.turn, number);
         if !put_behind(&mut self.queues[place], entry, count) {
             return false;
         }
         self.len += 1;
-        self.first = self.first.min(place);
+        self.first = self.first.min(number);
         true
     }
 
@@ -160,10 +184,10 @@ impl Window {
         if self.len == 0 {
             return None;
         }
-        self.queues[self.first].front()
+        self.queues[place_in_ring(self.turn, self.first)].front()
     }
 
-    /// Takes the first entry out. It takes no memory.
+    /// Takes the first entry out, and begins at its time. It takes no memory.
     pub(crate) fn pop(&mut self) -> Option<Entry>
         ensures { MatchOption result ((self.old ≡ []) × (self.new ≡ []))
             (λ x. TakesFirst self.old x self.new) }
@@ -171,10 +195,14 @@ impl Window {
         if self.len == 0 {
             return None;
         }
-        let popped = take_front(&mut self.queues[self.first]);
+        let place = place_in_ring(self.turn, self.first);
+        let popped = take_front(&mut self.queues[place])?;
+        let (time, _, _) = popped.key.parts();
         self.len -= 1;
-        self.first = next_filled(&self.queues, self.first);
-        popped
+        self.turn = place;
+        self.start = time;
+        self.first = next_filled(&self.queues, place, self.len);
+        Some(popped)
     }
 
     /// Begins at another time, if there are no entries.
