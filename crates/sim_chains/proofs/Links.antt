@@ -66,6 +66,36 @@ module _ (nodes : Slab Node) (owner rank : ℕ → ℕ) (o : ℕ) where
   last_key zero low at last l = l.0.ends refl
   last_key (suc n) low at last l = last_key n (suc (rank at)) (node_at nodes at).next last l.1
 
+-- ---- a chain as a ring: its first node is the one that its last node names
+
+module _ (old new : Slab Node) (owner rank owner' rank' : ℕ → ℕ) (o : ℕ) where
+  -- where the nodes of a chain stay, its last node names the same first
+  pub ring_first : (n at last : ℕ) → ((k : ℕ) → owner k ≡ o → IsSome (get old k) → Stays old new rank owner' rank' o k)
+      → AreLinked old owner rank o 0 (suc n) at last → (node_at new last).next ≡ (node_at old last).next
+  ring_first n at last stays l =
+      let final = last_mine old owner rank o n 0 at last l in
+      let s = stays last final.mine final.there in
+      rw s.same refl
+
+  pub ring_links : (n last : ℕ) → ((k : ℕ) → owner k ≡ o → IsSome (get old k) → Stays old new rank owner' rank' o k)
+      → AreLinked old owner rank o 0 n (node_at old last).next last → AreLinked new owner' rank' o 0 n (node_at new last).next last
+  ring_links zero last stays l = tt
+  ring_links (suc n) last stays l =
+      let first = (node_at old last).next in
+      let links : AreLinked new owner' rank' o 0 (suc n) first last =
+      other old new owner rank owner' rank' o (suc n) 0 first last (λ k m a t. stays k m t) l in
+      rw (ring_first n first last stays l) links
+
+  pub ring_callbacks : (n last : ℕ) → ((k : ℕ) → owner k ≡ o → IsSome (get old k) → Stays old new rank owner' rank' o k)
+      → AreLinked old owner rank o 0 n (node_at old last).next last
+      → callbacks_from new n (node_at new last).next ≡ callbacks_from old n (node_at old last).next
+  ring_callbacks zero last stays l = refl
+  ring_callbacks (suc n) last stays l =
+      let first = (node_at old last).next in
+      let rest : callbacks_from new (suc n) first ≡ callbacks_from old (suc n) first =
+      other_callbacks old new owner rank owner' rank' o (suc n) 0 first last (λ k m a t. stays k m t) l in
+      rw (ring_first n first last stays l) rest
+
 -- ---- how many nodes a chain has
 
 taken : Slab Node → ℕ → Slab Node
@@ -131,17 +161,47 @@ module _ (old new : Slab Node) (owner rank owner' rank' : ℕ → ℕ) (o last k
 -- ---- a node is taken out
 
 module _ (old new : Slab Node) (owner rank : ℕ → ℕ) (o : ℕ) where
-  -- the rest of a chain whose first node goes
-  pub first_links : (n low at last : ℕ) → ((k : ℕ) → k ≢ at → IsSome (get old k) → get new k ≡ get old k)
-      → AreLinked old owner rank o low (suc n) at last → AreLinked new owner rank o low n (node_at old at).next last
-  first_links n low at last stays l =
-      weaken new owner rank o (suc (rank at)) low n (node_at old at).next last (omega (arith, l.0.after))
-      (other old new owner rank owner rank o n (suc (rank at)) (node_at old at).next last (λ k m a t. record { same = stays k (λ s. omega (arith, a, ap rank s)) t; mine = m; after = refl }) l.1)
+  -- the last node names another, and the chain's other nodes stay
+  pub turn_links : (n low at last f : ℕ) → ((k : ℕ) → low ≤ rank k → k ≢ last → IsSome (get old k) → get new k ≡ get old k)
+      → get new last ≡ Some (record (node_at old last) { next = f })
+      → AreLinked old owner rank o low n at last → AreLinked new owner rank o low n at last
+  turn_links zero low at last f stays turned l = tt
+  turn_links (suc zero) low at last f stays turned l =
+      (record { there = rw (l.0.ends refl, turned) refl; mine = l.0.mine; after = l.0.after; ends = l.0.ends }, tt)
+  turn_links (suc (suc n)) low at last f stays turned l =
+      let later = last_mine old owner rank o n (suc (rank at)) (node_at old at).next last l.1 in
+      let same = stays at l.0.after (λ e. omega (arith, later.after, ap rank e)) l.0.there in
+      let rest : AreLinked new owner rank o (suc (rank at)) (suc n) (node_at old at).next last =
+      turn_links (suc n) (suc (rank at)) (node_at old at).next last f
+      (λ k a differs t. stays k (omega (arith, a, l.0.after)) differs t) turned l.1 in
+      (record { there = rw same l.0.there; mine = l.0.mine; after = l.0.after; ends = l.0.ends }, rw same rest)
 
-  pub first_from : (n low at last : ℕ) → ((k : ℕ) → k ≢ at → IsSome (get old k) → get new k ≡ get old k)
+  pub turn_from : (n low at last f : ℕ) → ((k : ℕ) → low ≤ rank k → k ≢ last → IsSome (get old k) → get new k ≡ get old k)
+      → get new last ≡ Some (record (node_at old last) { next = f })
+      → AreLinked old owner rank o low n at last → callbacks_from new n at ≡ callbacks_from old n at
+  turn_from zero low at last f stays turned l = refl
+  turn_from (suc zero) low at last f stays turned l = rw (l.0.ends refl, turned) refl
+  turn_from (suc (suc n)) low at last f stays turned l =
+      let later = last_mine old owner rank o n (suc (rank at)) (node_at old at).next last l.1 in
+      let same = stays at l.0.after (λ e. omega (arith, later.after, ap rank e)) l.0.there in
+      let rest : callbacks_from new (suc n) (node_at old at).next ≡ callbacks_from old (suc n) (node_at old at).next =
+      turn_from (suc n) (suc (rank at)) (node_at old at).next last f
+      (λ k a differs t. stays k (omega (arith, a, l.0.after)) differs t) turned l.1 in
+      rw same (ap (λ cs. (node_at old at).callback ∷ cs) rest)
+
+  -- the rest of a chain whose first node goes, and whose last node names another
+  pub first_links : (n low at last f : ℕ) → ((k : ℕ) → k ≢ at → k ≢ last → IsSome (get old k) → get new k ≡ get old k)
+      → get new last ≡ Some (record (node_at old last) { next = f })
+      → AreLinked old owner rank o low (suc n) at last → AreLinked new owner rank o low n (node_at old at).next last
+  first_links n low at last f stays turned l =
+      weaken new owner rank o (suc (rank at)) low n (node_at old at).next last (omega (arith, l.0.after))
+      (turn_links n (suc (rank at)) (node_at old at).next last f (λ k a differs t. stays k (λ s. omega (arith, a, ap rank s)) differs t) turned l.1)
+
+  pub first_from : (n low at last f : ℕ) → ((k : ℕ) → k ≢ at → k ≢ last → IsSome (get old k) → get new k ≡ get old k)
+      → get new last ≡ Some (record (node_at old last) { next = f })
       → AreLinked old owner rank o low (suc n) at last → callbacks_from new n (node_at old at).next ≡ callbacks_from old n (node_at old at).next
-  first_from n low at last stays l =
-      other_callbacks old new owner rank owner rank o n (suc (rank at)) (node_at old at).next last (λ k m a t. record { same = stays k (λ s. omega (arith, a, ap rank s)) t; mine = m; after = refl }) l.1
+  first_from n low at last f stays turned l =
+      turn_from n (suc (rank at)) (node_at old at).next last f (λ k a differs t. stays k (λ s. omega (arith, a, ap rank s)) differs t) turned l.1
 
   -- p is the node before q, and names what q named; q is gone
   pub record Unlinks (p q : ℕ) : Type 0 where
@@ -231,11 +291,13 @@ pub key_next : (nodes : Slab Node) (i at : ℕ) → key_at nodes (suc i) at ≡ 
 key_next nodes zero at = refl
 key_next nodes (suc i) at = key_next nodes i (node_at nodes at).next
 
--- the rank rises along a chain, so a node and the next are two
-pub key_apart : (nodes : Slab Node) (owner rank : ℕ → ℕ) (o i n low at last : ℕ) → suc i < n → AreLinked nodes owner rank o low n at last
-    → key_at nodes i at ≢ key_at nodes (suc i) at
-key_apart nodes owner rank o i zero low at last h l = absurd (omega arith)
-key_apart nodes owner rank o zero (suc n) low at last h l = λ same.
-    let next = key_mine nodes owner rank o 0 n (suc (rank at)) (node_at nodes at).next last (omega arith) l.1 in
-    omega (arith, next.after, ap rank same)
-key_apart nodes owner rank o (suc i) (suc n) low at last h l = key_apart nodes owner rank o i n (suc (rank at)) (node_at nodes at).next last (omega arith) l.1
+-- the rank rises along a chain, so its nodes are all different
+pub key_apart : (nodes : Slab Node) (owner rank : ℕ → ℕ) (o i j n low at last : ℕ) → i < j → j < n → AreLinked nodes owner rank o low n at last
+    → key_at nodes i at ≢ key_at nodes j at
+key_apart nodes owner rank o i zero n low at last h h' l = absurd (omega arith)
+key_apart nodes owner rank o i (suc j) zero low at last h h' l = absurd (omega arith)
+key_apart nodes owner rank o zero (suc j) (suc n) low at last h h' l = λ same.
+    let later = key_mine nodes owner rank o j n (suc (rank at)) (node_at nodes at).next last (omega arith) l.1 in
+    omega (arith, later.after, ap rank same)
+key_apart nodes owner rank o (suc i) (suc j) (suc n) low at last h h' l =
+    key_apart nodes owner rank o i j n (suc (rank at)) (node_at nodes at).next last (omega arith) (omega arith) l.1

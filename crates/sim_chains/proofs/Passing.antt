@@ -1,10 +1,10 @@
 -- A chain is empty, stays as its nodes stay, or passes from one owner to another.
-use Rattle.std.proofs.Common.{◌≡◌, ◌≢◌, ℕ, zero, suc, ◌∷◌, cond, eqb, refl, sym, ap, ◌∙◌}
+use Rattle.std.proofs.Common.{◌≡◌, ◌≢◌, ℕ, zero, suc, ◌∷◌, Option, cond, eqb, refl, sym, ap, ◌∙◌}
 use Rattle.std.proofs.lemmas.Bool.{eq-eqb, ne_eqb}
 use Rattle.slab.specs.Slab.{Slab, get}
 use Rattle.sim_chains.specs.declared.chain.Node.{Node}
 use Rattle.sim_chains.specs.declared.chain.Chain.{Chain}
-use Rattle.sim_chains.specs.Chains.{node_at, callbacks_from, Owners, AreLinked, IsLinked, IsEmpty}
+use Rattle.sim_chains.specs.Chains.{node_or_blank, node_at, callbacks_from, first_key, Owners, AreLinked, IsLinked, IsEmpty}
 use Rattle.sim_chains.specs.Keeping.{KeepsAll, PassedOn, MayBePassedOn}
 
 pub empty_chain : (chain : Chain) → chain.count ≡ 0 → IsEmpty chain
@@ -13,12 +13,15 @@ empty_chain chain none = record { none = λ nodes. rw none refl; anyones = λ no
 -- the same nodes, with more room or not
 pub keeps_all : (old new : Slab Node) → new ≡ record old { capacity = new.capacity } → KeepsAll old new
 keeps_all old new same = record {
-  linked = λ w o c l. record { links = links w o c.count 0 c.first c.last l.links };
-  same = λ c. callbacks c.count c.first;
+  linked = λ w o c l. record { links = rw (first c) (links w o c.count 0 (first_key old c) c.last l.links) };
+  same = λ c. ap (λ k. callbacks_from new c.count k) (first c) ∙ callbacks c.count (first_key old c);
 }
   where
     node : (k : ℕ) → get new k ≡ get old k
     node k = ap (λ s. get s k) same
+
+    first : (c : Chain) → first_key new c ≡ first_key old c
+    first c = ap (λ (s : Option Node). (node_or_blank s).next) (node c.last)
 
     links : (w : Owners) (o n low at last : ℕ) → AreLinked old w.owner w.rank o low n at last → AreLinked new w.owner w.rank o low n at last
     links w o zero low at last l = tt
@@ -49,8 +52,12 @@ module _ (w : Owners) (o p : ℕ) where
   pub passed_on : (nodes : Slab Node) (chain : Chain) → IsLinked nodes w o chain → PassedOn nodes w o p chain
   passed_on nodes chain l = record {
     owners = record { owner = passed; rank = w.rank };
-    here = record { links = handed nodes w.owner w.rank passed o p (λ k m. passed_own k m) chain.count 0 chain.first chain.last l.links };
-    others = λ q c apart h. record { links = handed nodes w.owner w.rank passed q q (λ k m. passed_other q k apart m) c.count 0 c.first c.last h.links };
+    here = record {
+      links = handed nodes w.owner w.rank passed o p (λ k m. passed_own k m) chain.count 0 (first_key nodes chain) chain.last l.links;
+    };
+    others = λ q c apart h. record {
+      links = handed nodes w.owner w.rank passed q q (λ k m. passed_other q k apart m) c.count 0 (first_key nodes c) c.last h.links;
+    };
   }
 
 pub may_be_passed_on : (chain : Chain) → MayBePassedOn chain

@@ -1,4 +1,5 @@
--- Chains of callbacks in one slab. A chain names its first and its last node and has so many; a node names the next.
+-- Chains of callbacks in one slab. A chain names its last node and has so many; a node names the next, and the last names
+-- the first.
 use Rattle.std.specs.Prelude.{◌≡◌, ℕ, zero, suc, ◌-◌, ◌≤◌, List, [], ◌∷◌, Option, Some, None, IsSome}
 use Rattle.slab.specs.Slab.{Slab, get, slab_len}
 use Rattle.sim_types.specs.declared.event.Callback.{Callback}
@@ -24,9 +25,13 @@ abbrev pub key_at : Slab Node → ℕ → ℕ → ℕ
 key_at nodes zero at = at
 key_at nodes (suc i) at = key_at nodes i (node_at nodes at).next
 
+-- the key of the first node, which the last node names; it counts only where the chain has a node
+abbrev pub first_key : Slab Node → Chain → ℕ
+first_key nodes chain = (node_at nodes chain.last).next
+
 -- the callbacks of a chain
 abbrev pub callbacks_in : Slab Node → Chain → List Callback
-callbacks_in nodes chain = callbacks_from nodes chain.count chain.first
+callbacks_in nodes chain = callbacks_from nodes chain.count (first_key nodes chain)
 
 -- To say that chains have no node in common, each node has an owner, and a rank that rises along its chain. Neither is
 -- stored: a contract speaks of whatever owners there may be.
@@ -50,7 +55,7 @@ AreLinked nodes owner rank o low (suc n) at last =
 
 -- the nodes of a chain are those of this owner
 pub record IsLinked (nodes : Slab Node) (w : Owners) (o : ℕ) (chain : Chain) : Type 0 where
-  pub links : AreLinked nodes w.owner w.rank o 0 chain.count chain.first chain.last
+  pub links : AreLinked nodes w.owner w.rank o 0 chain.count (first_key nodes chain) chain.last
 
 -- the nodes of a chain are those of some owner
 pub record IsChain (nodes : Slab Node) (chain : Chain) : Type 0 where

@@ -6,17 +6,19 @@ use Rattle.sim_chains.specs.declared.chain.Node.{Node}
 use Rattle.sim_chains.specs.declared.chain.Chain.{Chain}
 use Rattle.sim_chains.specs.declared.chain.Found.{Found}
 use Rattle.sim_chains.specs.Callbacks.{is_same_callback}
-use Rattle.sim_chains.specs.Chains.{node_at, key_at}
+use Rattle.sim_chains.specs.Chains.{node_at, key_at, first_key}
 
--- where a node is found: its place in the chain, its key, and that of the node before it
+-- where a node is found: its place in the chain, its key, and that of the node before it, which stands as many nodes after
+-- the last as this one after the first
 pub record IsFoundAt (nodes : Slab Node) (chain : Chain) (found : Found) : Type 0 where
   pub within : found.place < chain.count
-  pub at : found.at ≡ key_at nodes found.place chain.first
-  pub before : (j : ℕ) → found.place ≡ suc j → found.before ≡ key_at nodes j chain.first
+  pub at : found.at ≡ key_at nodes found.place (first_key nodes chain)
+  pub before : found.before ≡ key_at nodes found.place chain.last
 
 -- whether the node of this place has this callback
 abbrev pub is_callback_at : Slab Node → Chain → Callback → ℕ → Bool
-is_callback_at nodes chain wanted i = is_same_callback wanted (node_at nodes (key_at nodes i chain.first)).callback
+is_callback_at nodes chain wanted i =
+    is_same_callback wanted (node_at nodes (key_at nodes i (first_key nodes chain))).callback
 
 -- the first node of the chain with this callback
 pub record IsFirstWith (nodes : Slab Node) (chain : Chain) (wanted : Callback) (found : Found) : Type 0 where

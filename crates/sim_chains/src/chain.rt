@@ -14,24 +14,23 @@ use crate::callback::is_same;
 use sim_types::Callback;
 use slab::Slab;
 
-/// A callback, and the key of the next node of its chain, if it is not the last.
+/// A callback, and the key of the next node of its chain: after the last comes the first.
 #[derive(Drop)]
 pub struct Node {
     pub(crate) callback: Callback,
     pub(crate) next: usize,
 }
 
-/// A list of callbacks, whose nodes are among many in one `Nodes`: the keys of its first and of its last node, which count
-/// only where it has any.
+/// A list of callbacks, whose nodes are among many in one `Nodes`: how many there are, and the key of the last node, which
+/// counts only where there is one, and whose next is the first.
 #[derive(Clone, Copy)]
 pub struct Chain {
-    pub(crate) first: usize,
     pub(crate) last: usize,
     pub(crate) count: usize,
 }
 
-/// Where a node stands: its place in the chain, its key, and the key of the node before it, which counts only where
-/// there is one.
+/// Where a node stands: its place in the chain, its key, and the key of the node before it. The last node comes before the
+/// first.
 #[derive(Clone, Copy)]
 pub(crate) struct Found {
     pub(crate) place: usize,
@@ -40,11 +39,7 @@ pub(crate) struct Found {
 }
 
 // No callbacks.
-const EMPTY: Chain = Chain {
-    first: 0,
-    last: 0,
-    count: 0,
-};
+const EMPTY: Chain = Chain { last: 0, count: 0 };
 
 impl Chain {
     /// No callbacks.
@@ -76,15 +71,17 @@ impl Chain {
         ensures capacity { nodes.new.capacity ≡ nodes.old.capacity }
     {
         let _room = nodes.capacity();
-        let key = nodes.insert_reserved(Node { callback, next: 0 });
         if self.count == 0 {
+            let next = nodes.vacant_key();
+            let key = nodes.insert_reserved(Node { callback, next });
             *self = Chain {
-                first: key,
                 last: key,
                 count: 1,
             };
             return;
         }
+        let next = nodes[self.last].next;
+        let key = nodes.insert_reserved(Node { callback, next });
         nodes[self.last].next = key;
         self.last = key;
         self.count += 1;
@@ -98,7 +95,8 @@ impl Chain {
         if self.count == 0 {
             return None;
         }
-        Some(nodes[self.first].callback)
+        let first = nodes[self.last].next;
+        Some(nodes[first].callback)
     }
 
     /// Takes out the first callback, if there is one.
@@ -117,8 +115,10 @@ impl Chain {
         if self.count == 0 {
             return None;
         }
-        let node = nodes.remove(self.first);
-        self.first = node.next;
+        let first = nodes[self.last].next;
+        let next = nodes[first].next;
+        nodes[self.last].next = next;
+        let node = nodes.remove(first);
         self.count -= 1;
         Some(node.callback)
     }
@@ -131,20 +131,18 @@ impl Chain {
             (list_any (is_same_callback wanted) (callbacks_in nodes.now self.now) ≡ false)
             (IsFirstWith nodes.now self.now wanted) }
     {
-        let mut at = self.first;
-        let mut before = 0;
+        let mut before = self.last;
         for place in 0..self.count {
-            let node = &nodes[at];
-            if is_same(wanted, node.callback) {
+            let at = nodes[before].next;
+            if is_same(wanted, nodes[at].callback) {
                 return Some(Found { place, at, before });
             }
             before = at;
-            at = node.next;
         }
         None
     }
 
-    // The key of the last node once a node that is not the first is taken out.
+    // The key of the last node once a node is taken out.
     fn last_without(&self, found: &Found) -> usize
         requires { found.now.place < self.now.count }
         ensures last { found.now.place + 1 ≡ self.now.count → result ≡ found.now.before }
@@ -167,13 +165,9 @@ impl Chain {
         ensures len { slab_len nodes.new + 1 ≡ slab_len nodes.old }
         ensures capacity { nodes.new.capacity ≡ nodes.old.capacity }
     {
-        let node = nodes.remove(found.at);
-        if found.place == 0 {
-            self.first = node.next;
-            self.count -= 1;
-            return;
-        }
-        nodes[found.before].next = node.next;
+        let next = nodes[found.at].next;
+        nodes[found.before].next = next;
+        let _node = nodes.remove(found.at);
         self.last = self.last_without(&found);
         self.count -= 1;
     }
