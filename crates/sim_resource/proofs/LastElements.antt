@@ -1,9 +1,12 @@
 -- The best of a list, where of equals the later one is better, is the last of it in order.
-use Rattle.std.proofs.Common.{◌≡◌, ◌≢◌, ℕ, ◌+◌, ◌-◌, ◌<◌, Bool, true, false, not, List, [], ◌∷◌, ◌++◌, length, Some, refl, sym, ap, subst, ◌∙◌, map, if◌then◌else◌, arith, get_or, All, AllPairs, append_assoc}
+use Rattle.std.proofs.Common.{◌≡◌, ◌≢◌, ℕ, ◌+◌, ◌-◌, ◌<◌, Bool, true, false, not, List, [], ◌∷◌, ◌++◌, length, Option, Some, None, refl, sym, ap, subst, ◌∙◌, map, if◌then◌else◌, arith, get_or, All, AllPairs, append_assoc}
 use Rattle.std.specs.Prelude.{slice_get}
+use Rattle.std.specs.Borrow.{Bor}
+use Rattle.std.specs.Option.{option_copied}
+use Rattle.std.specs.Slice.{IsGetResult}
 use Rattle.std.specs.Cmp.{IsStrictWeakOrder}
 use Rattle.std.proofs.lemmas.Bool.{false≢true}
-use Rattle.std.proofs.lemmas.Option.{slice_get-get_or}
+use Rattle.std.proofs.lemmas.Option.{slice_get-get_or, slice_get_past, slice_get_read}
 use Rattle.std.proofs.lemmas.List.{get_or_push, length_push, append-nil, length-map, map-append}
 use Rattle.std.proofs.lemmas.List.Elements.{All-head, All-tail, All-nil, All-cons, filter-append}
 use Rattle.std.proofs.lemmas.List.Kept.{AllPairs-cons}
@@ -80,6 +83,14 @@ module _ {X : Type 0} (before : X → X → Bool) (order : IsStrictWeakOrder bef
   best_is_last [] = refl
   best_is_last (x ∷ xs) =
       sym (last_at (sorted_by before (x ∷ xs)) (best_from (λ v u. not (before v u)) x xs) (run xs (x ∷ []) x (one_in_order x) (record { front = []; is = refl })))
+
+-- what a queue lends as its last element
+pub back_at : {X : Type 0} (xs : List X) (len : ℕ) (r : Option (Bor X)) → len ≡ length xs → IsGetResult xs 0 (len - 1) r →
+    option_copied r ≡ slice_get xs (length xs - 1)
+back_at xs len None is h = sym (slice_get_past xs (length xs - 1) (omega (arith, h.3)))
+back_at xs len (Some x) is h =
+    let below = h.3.0 in
+    sym (slice_get_read xs (length xs) (length xs - 1) x.now refl (omega (arith, below)) (subst (λ n. x.now ≡ get_or xs (n - 1) x.now) is h.1))
 
 -- ---- users
 

@@ -8,3 +8,4 @@ pub mod MachineQueues
 pub mod DeskChanges
 pub mod WaitersInOrder
 pub mod Attempting
+pub mod RememberedRequests

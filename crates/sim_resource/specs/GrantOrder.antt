@@ -34,10 +34,11 @@ pub record IsSoundUsers (ranked : Bool) (next : ℕ) (gs : List NumberedUser) : 
 abbrev pub numbered_but : EventId → List NumberedUser → List NumberedUser
 numbered_but request gs = filter (λ g. not (is_same g.user.request request)) gs
 
--- the users without the last
-pub record IsWithoutLast (gs others : List NumberedUser) : Type 0 where
+-- the users without the last, who is of this request
+pub record IsWithoutLast (request : EventId) (gs others : List NumberedUser) : Type 0 where
   pub last : NumberedUser
   pub is : gs ≡ others ++ last ∷ []
+  pub of_request : request ≡ last.user.request
 
 -- a user whose number is the other one, if it was this
 abbrev pub with_number : ℕ → ℕ → NumberedUser → NumberedUser

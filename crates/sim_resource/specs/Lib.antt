@@ -4,3 +4,4 @@ pub mod Sorting
 pub mod GrantOrder
 pub mod SoundDesks
 pub mod Places
+pub mod PreemptedOf

@@ -11,11 +11,11 @@ pub(crate) fn place_from_ends<F: Fn(usize) -> bool>(len: usize, passes: F) -> Op
     let mut far = len;
     while near < far {
         far -= 1;
-        if passes(far) {
-            return Some(far);
-        }
         if passes(near) {
             return Some(near);
+        }
+        if passes(far) {
+            return Some(far);
         }
         near += 1;
     }

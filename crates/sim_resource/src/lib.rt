@@ -8,6 +8,7 @@ mod grant;
 mod key;
 mod kind;
 mod laws;
+mod preempted;
 mod queue;
 mod user;
 mod users;

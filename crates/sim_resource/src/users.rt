@@ -1,5 +1,6 @@
 //! The users of a desk.
-ghost use Rattle.std.specs.Prelude.{◌≡◌, ◌≢◌, ◌+◌, ◌-◌, ◌<◌, ◌≤◌, ◌==◌, ◌^◌, [], ◌∷◌, ◌++◌, true, false, not, map, Some, length, All, AllPairs, IsTrue, IsOk, OnOk, HoldsAt, vec_len, vec_capacity};
+ghost use Rattle.std.specs.Prelude.{◌≡◌, ◌≢◌, ◌+◌, ◌-◌, ◌<◌, ◌≤◌, ◌==◌, ◌^◌, [], ◌∷◌, ◌++◌, true, false, not, map, Some, length, All, AllPairs, IsTrue, IsOk, OnOk, HoldsAt};
+ghost use Rattle.std.specs.VecDeque.{deque_len, deque_capacity};
 ghost use Rattle.std.specs.List.{list_any, position};
 ghost use Rattle.std.specs.List.Sorted.{IsPartitionPoint, IsPartitionedBy};
 ghost use Rattle.sim_machine.specs.State.{User};
@@ -12,9 +13,11 @@ ghost use Rattle.sim_resource.specs.GrantOrder.{as_granted, stands_before, numbe
 
 use crate::ends::place_from_ends;
 use crate::key::is_served_first;
+use crate::preempted::Preempted;
 use crate::user::{NumberedUser, User};
 use sim_types::{EventId, RequestKey};
 use std::alloc::{AllocError, Global};
+use std::collections::VecDeque;
 use std::marker::Model;
 
 /// The users of a desk, which contracts see in the order of grant.
@@ -22,33 +25,40 @@ use std::marker::Model;
 pub(crate) struct Users {
     // Whether they stand by their keys, so that the one who is preempted first is the last.
     ranked: bool,
-    // In the order of grant; where they are ranked, by their keys, and those with equal keys in the order of grant.
-    users: Vec<NumberedUser>,
+    // In the order of grant; where they are ranked, by their keys, and those with equal keys in the order of grant. Who is
+    // released mostly stands near the first, who is preempted stands last, and few others move for either.
+    users: VecDeque<NumberedUser>,
     // The number of the next grant.
     next: u64,
+    // A request that was preempted is released all the same, mostly soon. While it is remembered here, no user is looked at
+    // for it.
+    preempted: Preempted,
 }
 
 impl Model for Users {
-    ghost use Rattle.std.specs.Prelude.{◌-◌, vec_len, vec_capacity};
+    ghost use Rattle.std.specs.Prelude.{◌-◌};
+    ghost use Rattle.std.specs.VecDeque.{deque_len, deque_capacity};
     ghost use Rattle.sim_resource.specs.GrantOrder.{UsersOf, as_granted, IsSoundUsers};
+    ghost use Rattle.sim_resource.specs.PreemptedOf.{NoUserIsRemembered};
 
     ghost Value = { UsersOf };
 
     ghost view = { λ a. record {
       ranked = a.ranked;
       users = as_granted a.users.items;
-      spare = vec_capacity a.users - vec_len a.users;
+      spare = deque_capacity a.users - deque_len a.users;
     } };
 
-    ghost invariant = { λ a. IsSoundUsers a.ranked a.next a.users.items };
+    ghost invariant = { λ a. IsSoundUsers a.ranked a.next a.users.items
+        × NoUserIsRemembered a.preempted (as_granted a.users.items) };
 }
 
 // How many users a request of this key does not come before: they stand before all others.
-fn place_of_key(users: &[NumberedUser], key: RequestKey) -> usize
-    requires { IsInOrderBy stands_before users.now }
-    ensures within { result ≤ length users.now }
+fn place_of_key(users: &VecDeque<NumberedUser>, key: RequestKey) -> usize
+    requires { IsInOrderBy stands_before users.now.items }
+    ensures within { result ≤ length users.now.items }
     ensures place { IsPartitionPoint (λ g. keys.is_served_first key g.user.key ≡ false)
-        (λ g. keys.is_served_first key g.user.key ≡ true) users.now result }
+        (λ g. keys.is_served_first key g.user.key ≡ true) users.now.items result }
 {
     users.partition_point(
         |numbered: &NumberedUser| -> bool
@@ -58,14 +68,14 @@ fn place_of_key(users: &[NumberedUser], key: RequestKey) -> usize
 }
 
 // One more user, ranked by its key.
-fn put_by_key(users: &mut Vec<NumberedUser>, numbered: NumberedUser)
+fn put_by_key(users: &mut VecDeque<NumberedUser>, numbered: NumberedUser)
     requires in_order { IsInOrderBy stands_before users.old.items }
-    requires room { vec_len users.old < vec_capacity users.old }
+    requires room { deque_len users.old < deque_capacity users.old }
     ensures put { users.new.items ≡ put_behind stands_before numbered users.old.items }
-    ensures len { vec_len users.new ≡ vec_len users.old + 1 }
-    ensures capacity { vec_capacity users.new ≡ vec_capacity users.old }
+    ensures len { deque_len users.new ≡ deque_len users.old + 1 }
+    ensures capacity { deque_capacity users.old ≤ deque_capacity users.new }
 {
-    let place = place_of_key(users.as_slice(), numbered.user.key());
+    let place = place_of_key(users, numbered.user.key());
     match users.insert(place, numbered) {
         Ok(()) => {}
         Err(_) => unreachable!(),
@@ -74,29 +84,29 @@ fn put_by_key(users: &mut Vec<NumberedUser>, numbered: NumberedUser)
 
 // The place of the user of a request. It is looked for from both ends: who is released was mostly granted just now, or
 // longest ago.
-fn place_of(users: &[NumberedUser], request: EventId) -> Option<usize>
-    requires apart { AllPairs (λ g h. g.user.request ≢ h.user.request) users.now }
-    ensures { result ≡ position (λ g. is_same g.user.request request) users.now }
+fn place_of(users: &VecDeque<NumberedUser>, request: EventId) -> Option<usize>
+    requires apart { AllPairs (λ g h. g.user.request ≢ h.user.request) users.now.items }
+    ensures { result ≡ position (λ g. is_same g.user.request request) users.now.items }
 {
     place_from_ends(
         users.len(),
         |place: usize| -> bool
-            requires { place < length users.now }
+            requires { place < length users.now.items }
             ensures { HoldsAt (λ g. result ≡ (g.user.request.0 == request.0))
-                users.entry.now place }
+                users.entry.now.items place }
         { users[place].user.request().0 == request.0 },
     )
 }
 
 // A request is a user no longer. Whether it was.
-fn take_out(users: &mut Vec<NumberedUser>, request: EventId) -> bool
+fn take_out(users: &mut VecDeque<NumberedUser>, request: EventId) -> bool
     requires apart { AllPairs (λ g h. g.user.request ≢ h.user.request) users.old.items }
     ensures used { result ≡ list_any (λ g. is_same g.user.request request) users.old.items }
     ensures others { users.new.items ≡ numbered_but request users.old.items }
-    ensures no_more { vec_len users.new ≤ vec_len users.old }
-    ensures capacity { vec_capacity users.new ≡ vec_capacity users.old }
+    ensures no_more { deque_len users.new ≤ deque_len users.old }
+    ensures capacity { deque_capacity users.new ≡ deque_capacity users.old }
 {
-    match place_of(users.as_slice(), request) {
+    match place_of(users, request) {
         Some(place) => {
             users.remove(place);
             true
@@ -105,15 +115,15 @@ fn take_out(users: &mut Vec<NumberedUser>, request: EventId) -> bool
     }
 }
 
-// The last is a user no longer.
-fn take_last(users: &mut Vec<NumberedUser>)
+// The last is a user no longer. The answer is its request.
+fn take_last(users: &mut VecDeque<NumberedUser>) -> EventId
     requires { 0 < length users.old.items }
-    ensures last { IsWithoutLast users.old.items users.new.items }
-    ensures fewer { vec_len users.new + 1 ≡ vec_len users.old }
-    ensures capacity { vec_capacity users.new ≡ vec_capacity users.old }
+    ensures last { IsWithoutLast result users.old.items users.new.items }
+    ensures fewer { deque_len users.new + 1 ≡ deque_len users.old }
+    ensures capacity { deque_capacity users.new ≡ deque_capacity users.old }
 {
-    match users.pop() {
-        Some(_) => {}
+    match users.pop_back() {
+        Some(last) => last.user.request(),
         None => unreachable!(),
     }
 }
@@ -162,19 +172,19 @@ fn number_anew(users: &mut [NumberedUser]) -> u64
 
 // The number of the next grant, which is not the greatest that there is: where the numbers have come to their end, the
 // users are numbered anew.
-fn number_next(users: &mut Vec<NumberedUser>, next: u64) -> u64
+fn number_next(users: &mut VecDeque<NumberedUser>, next: u64) -> u64
     requires numbered { All (λ g. g.grant < next) users.old.items }
     ensures users { map (λ g. g.user) users.new.items ≡ map (λ g. g.user) users.old.items }
     ensures order { as_granted users.new.items ≡ as_granted users.old.items }
     ensures numbered { All (λ g. g.grant < result) users.new.items }
     ensures not_last { result < 2 ^ 64 - 1 }
-    ensures len { vec_len users.new ≡ vec_len users.old }
-    ensures capacity { vec_capacity users.new ≡ vec_capacity users.old }
+    ensures len { deque_len users.new ≡ deque_len users.old }
+    ensures capacity { deque_capacity users.new ≡ deque_capacity users.old }
 {
     if next < u64::MAX {
         next
     } else {
-        number_anew(users.as_mut_slice())
+        number_anew(users.make_contiguous())
     }
 }
 
@@ -186,8 +196,9 @@ impl Users {
     {
         Users {
             ranked,
-            users: Vec::new(alloc),
+            users: VecDeque::new(alloc),
             next: 0,
+            preempted: Preempted::new(alloc),
         }
     }
 
@@ -198,7 +209,14 @@ impl Users {
         ensures never_less { self.old.spare ≤ self.new.spare }
         ensures succeeds { more ≤ self.old.spare → IsOk result }
     {
-        self.users.reserve(more)
+        if more <= self.users.capacity() - self.users.len() {
+            return Ok(());
+        }
+        self.users.reserve(more)?;
+        if self.ranked {
+            self.preempted.reserve(self.users.capacity())?;
+        }
+        Ok(())
     }
 
     /// How many there are.
@@ -213,7 +231,7 @@ impl Users {
         requires ranked { IsTrue self.now.ranked }
         ensures { result ≡ last_served self.now.users }
     {
-        let last = self.users.last().copied()?;
+        let last = self.users.back().copied()?;
         Some(last.user)
     }
 
@@ -223,15 +241,16 @@ impl Users {
         requires apart { All (λ u. u.request ≢ user.request) self.old.users }
         ensures users { self.new.users ≡ self.old.users ++ user ∷ [] }
         ensures ranked { self.new.ranked ≡ self.old.ranked }
-        ensures spare { self.new.spare + 1 ≡ self.old.spare }
+        ensures spare { self.old.spare ≤ self.new.spare + 1 }
     {
+        self.preempted.remove(user.request());
         let grant = number_next(&mut self.users, self.next);
         self.next = grant + 1;
         let numbered = NumberedUser { user, grant };
         if self.ranked {
             put_by_key(&mut self.users, numbered);
         } else {
-            self.users.push_reserved(numbered);
+            self.users.push_back_reserved(numbered);
         }
     }
 
@@ -244,6 +263,9 @@ impl Users {
         ensures spare { self.new.spare + length self.new.users
             ≡ self.old.spare + length self.old.users }
     {
+        if self.preempted.contains(request) {
+            return false;
+        }
         take_out(&mut self.users, request)
     }
 
@@ -258,6 +280,7 @@ impl Users {
         ensures fewer { length self.new.users + 1 ≡ length self.old.users }
         ensures spare { self.new.spare ≡ self.old.spare + 1 }
     {
-        take_last(&mut self.users);
+        let request = take_last(&mut self.users);
+        self.preempted.insert(request);
     }
 }

@@ -9,7 +9,7 @@ use Rattle.sim_resource.proofs.users.place_of_key.Goals as goal
 pub returns-clause-place : goal.returns-clause-place
 returns-clause-place c =
     let key = c.args.key in
-    let gs = c.args.users.now in
+    let gs = c.args.users.now.items in
     place_of_test (λ g. is_served_first key g.user.key) gs c.partition_point.result
     (IsPartitionPoint-from_clause (λ g. not (is_served_first key g.user.key)) gs c.partition_point.result c.partition_point.ensures.partitioned
     (partitioned stands_before (λ g. is_served_first key g.user.key) gs (λ g h later yes. first_onward key g.user.key h.user.key later yes) c.requires)

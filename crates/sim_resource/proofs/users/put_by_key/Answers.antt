@@ -5,5 +5,5 @@ use Rattle.sim_resource.proofs.users.put_by_key.Goals as goal
 
 pub returns-clause-put : goal.returns-clause-put
 returns-clause-put c =
-    let p = rw (c.as_slice.ensures.value, c.key.ensures) at c.place_of_key-place.ensures in
+    let p = rw c.key.ensures at c.place_of_key-place.ensures in
     c.in-Ok.ensures.items ∙ put_at stands_before c.args.numbered c.args.users.now.items c.place_of_key-place.result p.within p.place

@@ -1,5 +1,7 @@
 use Rattle.std.proofs.Common.{ap, ◌∙◌, ◌++◌, [], ◌∷◌}
 use Rattle.sim_resource.proofs.GrantOrders.{ranked_in_order, sound_anew, put_shown, pushed_shown, put_sound, pushed_sound}
+use Rattle.sim_resource.specs.GrantOrder.{as_granted}
+use Rattle.sim_resource.proofs.RememberedRequests.{none_put}
 use Rattle.sim_resource.proofs.users.Users.put.Goals as goal
 
 pub put_by_key-requires-clause-in_order : goal.put_by_key-requires-clause-in_order
@@ -8,7 +10,7 @@ put_by_key-requires-clause-in_order c =
     let n = c.number_next-grant.ensures in
     let gs = c.number_next-grant.new.users.items in
     let grant = c.number_next-grant.result in
-    let s = sound_anew a.ranked a.next grant a.users.items gs c.self.invariant n.users n.order n.numbered in
+    let s = sound_anew a.ranked a.next grant a.users.items gs c.self.invariant.0 n.users n.order n.numbered in
     ranked_in_order a.ranked grant gs c.if-self.true s
 
 pub invariant_of-self : goal.invariant_of-self
@@ -17,8 +19,11 @@ invariant_of-self c =
     let n = c.number_next-grant.ensures in
     let gs = c.number_next-grant.new.users.items in
     let grant = c.number_next-grant.result in
-    let s = sound_anew a.ranked a.next grant a.users.items gs c.self.invariant n.users n.order n.numbered in
-    rw c.put_by_key.ensures.put (put_sound a.ranked grant gs s c.args.user c.if-self.true)
+    let s = sound_anew a.ranked a.next grant a.users.items gs c.self.invariant.0 n.users n.order n.numbered in
+    let shown = put_shown (record { user = c.args.user; grant = grant }) gs n.numbered ∙ ap (λ us. us ++ c.args.user ∷ []) n.order in
+    let fewer = rw c.request.ensures at c.remove.ensures in
+    let none = none_put a.preempted c.remove.new.self (as_granted a.users.items) c.args.user fewer c.self.invariant.1 in
+    rw c.put_by_key.ensures.put (put_sound a.ranked grant gs s c.args.user c.if-self.true, rw shown none)
 
 pub invariant_of-self-else-self : goal.invariant_of-self-else-self
 invariant_of-self-else-self c =
@@ -26,8 +31,11 @@ invariant_of-self-else-self c =
     let n = c.number_next-grant.ensures in
     let gs = c.number_next-grant.new.users.items in
     let grant = c.number_next-grant.result in
-    let s = sound_anew a.ranked a.next grant a.users.items gs c.self.invariant n.users n.order n.numbered in
-    rw c.push_reserved.ensures.items (pushed_sound a.ranked grant gs s c.args.user c.if-self.false)
+    let s = sound_anew a.ranked a.next grant a.users.items gs c.self.invariant.0 n.users n.order n.numbered in
+    let shown = pushed_shown (record { user = c.args.user; grant = grant }) gs n.numbered ∙ ap (λ us. us ++ c.args.user ∷ []) n.order in
+    let fewer = rw c.request.ensures at c.remove.ensures in
+    let none = none_put a.preempted c.remove.new.self (as_granted a.users.items) c.args.user fewer c.self.invariant.1 in
+    rw c.push_back_reserved.ensures.items (pushed_sound a.ranked grant gs s c.args.user c.if-self.false, rw shown none)
 
 pub returns-then-self-clause-users : goal.returns-then-self-clause-users
 returns-then-self-clause-users c =
@@ -44,5 +52,5 @@ returns-else-self-clause-users c =
     let n = c.number_next-grant.ensures in
     let gs = c.number_next-grant.new.users.items in
     let grant = c.number_next-grant.result in
-    rw (← c.self.view_is, c.push_reserved.ensures.items)
+    rw (← c.self.view_is, c.push_back_reserved.ensures.items)
     (pushed_shown (record { user = c.args.user; grant = grant }) gs n.numbered ∙ ap (λ us. us ++ c.args.user ∷ []) n.order)
