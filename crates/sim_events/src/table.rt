@@ -75,6 +75,7 @@ fn key_of(index: &Index, event: EventId) -> usize
 }
 
 // A slot more, for the event of the next number.
+#[inline(always)]
 fn add(index: &mut Index, slots: &mut Slab<Slot>, slot: Slot) -> EventId
     requires room { HasRoomFor slots.old 1 }
     requires spare { 0 < index.old.spare }
@@ -274,6 +275,7 @@ impl Table {
     }
 
     /// Appends a callback to those of an event that is not processed.
+    #[inline(always)]
     pub fn register(&mut self, event: EventId, callback: Callback)
         requires kept { IsKept self.old.events event }
         requires unprocessed { IsFalse (kept_at self.old.events event).event.processed }

@@ -168,6 +168,7 @@ impl Happen {
     }
 
     /// A pending event more, which takes the next number. A condition is made with its members.
+    #[inline(always)]
     pub fn make(&mut self, kind: EventKind) -> EventId
         requires spare { 0 < self.old.spare.events }
         requires number { length self.old.events < 2 ^ 62 }
@@ -180,6 +181,7 @@ impl Happen {
     }
 
     /// Appends a callback to those of an event that is not processed.
+    #[inline(always)]
     pub fn register(&mut self, event: EventId, callback: Callback)
         requires kept { IsKept self.old.events event }
         requires unprocessed { IsFalse (kept_at self.old.events event).event.processed }
@@ -353,6 +355,7 @@ impl Happen {
 
     /// Pops the entry that is due: it is its time, its event is processed and has a holder more, and its callbacks are
     /// those that are left to call. The answer is the line of the trace that tells it. None where nothing is scheduled.
+    #[inline(always)]
     pub fn step(&mut self) -> Option<Line>
         requires called { self.old.left ≡ [] }
         requires few { AreHeldByFew self.old.events }

@@ -92,6 +92,7 @@ impl<B: Body> Parts<B> {
     }
 
     // The event is settled, and goes where nobody holds it any more.
+    #[inline(always)]
     fn settle(&mut self, event: EventId)
         requires done { self.old.control ≡ Calling event [] }
         requires kept { IsKept self.old.shared.happen.events event }
@@ -191,6 +192,7 @@ impl<B: Body> Parts<B> {
 
     // Calls a callback of the event, which was taken out of those that are left to call: what it passes an outcome on to was
     // held for this.
+    #[inline(always)]
     fn answer(&mut self, event: EventId, callback: Callback)
         requires calling { IsCalling event self.old.control }
         requires kept { IsKept self.old.shared.happen.events event }

@@ -28,7 +28,7 @@ fn number_between(word: u64, lo: i64, hi: i64) -> i64
 
 impl<B: Body> Parts<B> {
     /// The running process draws a number of a range, unless the range is empty.
-    #[inline(never)]
+    #[inline(always)]
     pub(crate) fn draw(&mut self, event: EventId, process: ProcId, lo: i64, hi: i64)
         requires running { IsRunningIn event process self.old.control }
         ensures becomes { Becomes B.body (draw (plan_of B.body self.old) lo hi)

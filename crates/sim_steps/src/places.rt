@@ -42,6 +42,7 @@ impl<B: Body> Parts<B> {
     }
 
     /// The place of its body that changes where a process is told this. None where none does.
+    #[inline(always)]
     pub(crate) fn place_told(&self, code: &B::Code, process: ProcId, told: Signal) -> Option<u8>
         requires alive { IsSome (record_of process self.now.live) }
         ensures { result
@@ -54,6 +55,7 @@ impl<B: Body> Parts<B> {
     }
 
     /// The event that stands in a place of the body of a process. Event 0 where there is no place.
+    #[inline(always)]
     pub(crate) fn event_in(&self, process: ProcId, place: Option<u8>) -> EventId
         requires alive { IsSome (record_of process self.now.live) }
         requires within { IfSome place (λ at. at < 64) }

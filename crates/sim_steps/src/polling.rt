@@ -86,6 +86,7 @@ impl<B: Body> Parts<B> {
     }
 
     // Polls the running process, and does what it asks for. What stood in the place that changed is still to be given back.
+    #[inline(always)]
     fn do_asked(
         &mut self,
         code: &B::Code,
