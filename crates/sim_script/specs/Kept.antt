@@ -29,7 +29,7 @@ pub record FramesOf : Type 0 where
 
 abbrev pub mode_of : Mode → scripts.Mode
 mode_of mode.Running = scripts.Running
-mode_of (mode.Throwing thrown) = scripts.Throwing thrown
+mode_of (mode.Throwing kind value) = scripts.Throwing (record { kind = kind; value = value })
 mode_of mode.Breaking = scripts.Breaking
 mode_of (mode.Finishing value) = scripts.Finishing value
 

@@ -1,14 +1,12 @@
 //! The state of a script.
-ghost use Rattle.std.specs.Prelude.{◌≡◌, ◌+◌, ◌-◌, ◌^◌, ◌<◌, ◌≤◌, pos, [], ◌∷◌, ◌++◌, length, replicate, slice_index_or, vec_len, IfOk, IsFalse, IsTrue, MatchOption};
+ghost use Rattle.std.specs.Prelude.{◌≡◌, ◌+◌, ◌-◌, ◌^◌, ◌<◌, ◌≤◌, pos, [], ◌∷◌, ◌++◌, length, replicate, slice_index_or, vec_len, IfOk, IsTrue, MatchOption};
 ghost use Rattle.sim_types.specs.Throws.{error};
-ghost use Rattle.sim_types.specs.declared.op.Op.TheVariants as op;
 ghost use Rattle.sim_script_model.specs.Scripts.{Throwing, variable, set_variable, set_place, set_mode, tail_of, push_frame, pop_frame, stmt_at, value_of_num, value_of_arg, event_in, event_of_ref, process_of_ref};
 ghost use Rattle.sim_script_model.specs.Needs.{last_variable, most_frames};
 ghost use Rattle.sim_script_model.specs.Polls.{store, given_by, last_stmt, open_with, catch_by, leave_try, leave_loop, end_by_mode, do_stmt, take_in, unwind, ask_in_mode, script_turn};
 ghost use Rattle.sim_script_law.specs.Ready.{event_is_small, keeps_given, has_room, scope_finds_room, can_take, can_do, can_leave, can_ask};
 ghost use Rattle.sim_script_law.specs.ScriptMembers.{script_holds};
 ghost use Rattle.sim_script.specs.Kept.{frame_of, mode_of, script_of_kind, MarksNumbers};
-ghost use Rattle.sim_script.specs.StatementGroups.{leaving_asks};
 
 use crate::frames::{Frame, Frames};
 use crate::mode::Mode;
@@ -20,14 +18,13 @@ use sim_types::{
 use std::alloc::{AllocError, Global};
 use std::marker::Model;
 
+mod quiet;
+
 /// A process that does the statements of its kind.
 #[derive(Drop)]
 pub struct Script {
     /// The scenario that its kind and its statements stand in, which contracts alone see.
     scenario: Memo<Scenario>,
-    /// What it asked for last, which contracts alone see. Each poll writes that it asked, so it stands where polls begin.
-    asked: Option<Memo<Op>>,
-    kind: u32,
     /// The statement that comes next.
     place: usize,
     mode: Mode,
@@ -38,8 +35,10 @@ pub struct Script {
     /// Which variables are numbers, by their bits.
     numbers: u64,
     me: ProcId,
-    /// The classes of its variables, which contracts alone see.
+    /// Its kind, the classes of its variables, and what it asked for last, which contracts alone see.
+    kind: Memo<u32>,
     classes: Memo<Classes>,
+    asked: Memo<Option<Memo<Op>>>,
 }
 
 impl Model for Script {
@@ -53,13 +52,13 @@ impl Model for Script {
     ghost view = { λ a. record {
       scenario = a.scenario.value;
       me = a.me;
-      kind = a.kind;
+      kind = a.kind.value;
       classes = a.classes.value;
       place = a.place;
       variables = variables_with (last_variable a.scenario.value) a.variables.items;
       frames = a.frames.blocks;
       mode = mode_of a.mode;
-      asked = asked_of a.asked;
+      asked = asked_of a.asked.value;
     } };
 
     ghost invariant = { λ a. (a.me.0 < 2 ^ 63)
@@ -76,15 +75,15 @@ impl Script {
         let variables = scenario.last_variable() + 1;
         Ok(Script {
             scenario: Memo::of(scenario),
-            asked: None,
-            kind: 0,
             place: 0,
             mode: Mode::Running,
-            variables: Vec::from_slice(alloc, &[0; 64][..variables])?,
             frames: Frames::new(alloc, scenario.most_frames())?,
+            variables: Vec::from_slice(alloc, &[0; 64][..variables])?,
             numbers: u64::MAX,
             me: ProcId(0),
+            kind: Memo::of(&0),
             classes: Memo::of(&Classes::new()),
+            asked: Memo::of(&None),
         })
     }
 
@@ -99,9 +98,9 @@ impl Script {
         self.frames.clear();
         self.numbers = numbers_of(&declared.classes);
         self.me = ProcId(0);
-        self.kind = kind;
+        self.kind = Memo::of(&kind);
         self.classes = Memo::of(&declared.classes);
-        self.asked = None;
+        self.asked = Memo::of(&None);
     }
 
     /// Its process has this number.
@@ -211,12 +210,22 @@ impl Script {
         self.mode = mode;
     }
 
+    /// Throws this.
+    pub(crate) fn throw(&mut self, thrown: Throw)
+        ensures { self.new ≡ set_mode (Throwing thrown) self.old }
+    {
+        self.mode = Mode::Throwing {
+            kind: thrown.kind,
+            value: thrown.value,
+        };
+    }
+
     /// Throws an error of its own.
     pub(crate) fn throw_error(&mut self, number: u8)
         ensures { self.new
             ≡ set_mode (Throwing (record { kind = error; value = pos number })) self.old }
     {
-        self.mode = Mode::Throwing(Throw {
+        self.throw(Throw {
             kind: ERROR,
             value: i64::from(number),
         });
@@ -255,23 +264,7 @@ impl Script {
     {
         self.take_in(code, signal);
         self.ask(code, time, asked);
-        self.asked = Some(Memo::of(asked));
-    }
-
-    /// The same, where it is told nothing, a value or a number and asks for nothing. Whether it was so: else nothing changes.
-    #[inline(always)]
-    pub(crate) fn turn_quietly(&mut self, code: &[Stmt], time: i64, signal: Signal) -> bool
-        requires take { IsTrue (can_take code.now signal self.old) }
-        requires ask { IsTrue (can_ask code.now (take_in code.now signal self.old)) }
-        ensures done { IsTrue result
-            → (op.Nop, self.new) ≡ script_turn code.now self.old time signal }
-        ensures kept { IsFalse result → self.new ≡ self.old }
-    {
-        let done = self.take_in_and_go_quietly(code, time, signal);
-        if done {
-            self.asked = Some(Memo::of(&Op::Nop));
-        }
-        done
+        self.asked = Memo::of(&Some(Memo::of(asked)));
     }
 
     // Takes in what it is told.
@@ -282,7 +275,7 @@ impl Script {
         match signal {
             Signal::Begin | Signal::Done => {}
             Signal::Value(value) => self.set_variable(0, value),
-            Signal::Thrown(thrown) => self.set_mode(Mode::Throwing(thrown)),
+            Signal::Thrown(thrown) => self.throw(thrown),
             Signal::Raised(number) => self.throw_error(number),
             Signal::Number(number) => self.store(code, number),
             Signal::Made(event) => {
@@ -312,97 +305,15 @@ impl Script {
         }
     }
 
-    // Does the statement at its place, where that is one that asks for nothing. Whether it did: else nothing changes.
-    #[inline(always)]
-    fn go_on_quietly(&mut self, code: &[Stmt], time: i64) -> bool
-        requires { IsTrue (can_do code.now self.old) }
-        ensures done { IsTrue result → (op.Nop, self.new)
-            ≡ do_stmt time (set_place (self.old.place + 1) self.old) (stmt_at code.now self.old.place) }
-        ensures kept { IsFalse result → self.new ≡ self.old }
-    {
-        let place = self.place;
-        let statement = &code[place];
-        self.place = place + 1;
-        let done = self.do_quietly(statement, time);
-        if !done {
-            self.place = place;
-        }
-        done
-    }
-
-    // Does the statement at its place or leaves a block, where that asks for nothing. Whether it did: else nothing changes.
-    #[inline(always)]
-    fn go_quietly(&mut self, code: &[Stmt], time: i64) -> bool
-        requires { IsTrue (can_ask code.now self.old) }
-        ensures done { IsTrue result → (op.Nop, self.new) ≡ ask_in_mode code.now time self.old }
-        ensures kept { IsFalse result → self.new ≡ self.old }
-    {
-        match self.mode {
-            Mode::Running => self.go_on_quietly(code, time),
-            Mode::Throwing(_) | Mode::Breaking | Mode::Finishing(_) => self.unwind_quietly(code),
-        }
-    }
-
-    // The same after a variable got a value. It has its old one again where nothing was done.
-    #[inline(never)]
-    fn set_and_go_quietly(&mut self, code: &[Stmt], time: i64, at: u8, value: i64) -> bool
-        requires within { at ≤ last_variable self.old.scenario }
-        requires ask { IsTrue (can_ask code.now (set_variable at value self.old)) }
-        ensures done { IsTrue result
-            → (op.Nop, self.new) ≡ ask_in_mode code.now time (set_variable at value self.old) }
-        ensures kept { IsFalse result → self.new ≡ self.old }
-    {
-        let before = self.variable(at);
-        self.set_variable(at, value);
-        let done = self.go_quietly(code, time);
-        if !done {
-            self.set_variable(at, before);
-        }
-        done
-    }
-
-    // The same after the number went into the variable that the last statement gives it, where there is one.
-    #[inline(never)]
-    fn store_and_go_quietly(&mut self, code: &[Stmt], time: i64, number: i64) -> bool
-        requires given { IsTrue (keeps_given self.old (last_stmt code.now self.old)) }
-        requires ask { IsTrue (can_ask code.now
-            (store (given_by (last_stmt code.now self.old)) number self.old)) }
-        ensures done { IsTrue result → (op.Nop, self.new) ≡ ask_in_mode code.now time
-            (store (given_by (last_stmt code.now self.old)) number self.old) }
-        ensures kept { IsFalse result → self.new ≡ self.old }
-    {
-        match self.given(code) {
-            Some(to) => self.set_and_go_quietly(code, time, to, number),
-            None => self.go_quietly(code, time),
-        }
-    }
-
-    // The same after it took in what it is told, where that is nothing, a value or a number.
-    #[inline(always)]
-    fn take_in_and_go_quietly(&mut self, code: &[Stmt], time: i64, signal: Signal) -> bool
-        requires take { IsTrue (can_take code.now signal self.old) }
-        requires ask { IsTrue (can_ask code.now (take_in code.now signal self.old)) }
-        ensures done { IsTrue result
-            → (op.Nop, self.new) ≡ ask_in_mode code.now time (take_in code.now signal self.old) }
-        ensures kept { IsFalse result → self.new ≡ self.old }
-    {
-        match signal {
-            Signal::Begin | Signal::Done => self.go_quietly(code, time),
-            Signal::Value(value) => self.set_and_go_quietly(code, time, 0, value),
-            Signal::Number(number) => self.store_and_go_quietly(code, time, number),
-            Signal::Thrown(_) | Signal::Raised(_) | Signal::Made(_) => false,
-        }
-    }
-
     // Does the statement at its place, or leaves a block.
-    #[inline(never)]
+    #[inline(always)]
     fn ask(&mut self, code: &[Stmt], time: i64, asked: &mut Op)
         requires { IsTrue (can_ask code.now self.old) }
         ensures { (asked.new, self.new) ≡ ask_in_mode code.now time self.old }
     {
         match self.mode {
             Mode::Running => self.go_on(code, time, asked),
-            Mode::Throwing(_) | Mode::Breaking | Mode::Finishing(_) => self.unwind(code, asked),
+            Mode::Throwing { .. } | Mode::Breaking | Mode::Finishing(_) => self.unwind(code, asked),
         }
     }
 
@@ -435,37 +346,13 @@ impl Script {
         }
     }
 
-    // Leaves the innermost block, where that asks for nothing. Whether it did: else nothing changes.
-    #[inline(never)]
-    fn unwind_quietly(&mut self, code: &[Stmt]) -> bool
-        requires { IsTrue (can_leave code.now self.old self.old.frames) }
-        ensures done { IsTrue result
-            → (op.Nop, self.new) ≡ unwind code.now self.old self.old.frames }
-        ensures kept { IsFalse result → self.new ≡ self.old }
-        ensures asks { IsFalse result → IsTrue (leaving_asks self.old.frames) }
-    {
-        match self.innermost() {
-            None | Some(Frame::InScope(_)) => false,
-            Some(Frame::InTry(catch)) => {
-                self.leave();
-                self.leave_try(code, catch);
-                true
-            }
-            Some(Frame::InLoop(past) | Frame::InRepeat(past, _)) => {
-                self.leave();
-                self.leave_loop(past);
-                true
-            }
-        }
-    }
-
     // What is thrown is caught by the line of this try, and it goes on behind.
     fn leave_try(&mut self, code: &[Stmt], catch: u32)
         requires { IsTrue (keeps_given self.old (stmt_at code.now catch)) }
         ensures { self.new ≡ leave_try code.now catch self.old.mode self.old }
     {
-        if let Mode::Throwing(thrown) = self.mode {
-            self.catch(code, catch, thrown);
+        if let Mode::Throwing { kind, value } = self.mode {
+            self.catch(code, catch, Throw { kind, value });
             self.place = catch as usize + 1;
             self.mode = Mode::Running;
         }
@@ -497,7 +384,7 @@ impl Script {
         ensures { asked.new ≡ end_by_mode self.now.mode }
     {
         match self.mode {
-            Mode::Throwing(thrown) => *asked = Op::Die(thrown),
+            Mode::Throwing { kind, value } => *asked = Op::Die(Throw { kind, value }),
             Mode::Finishing(value) => *asked = Op::Finish(value),
             Mode::Running | Mode::Breaking => *asked = Op::Nop,
         }

@@ -106,10 +106,10 @@ impl Script {
             }
             Stmt::Raise { code } => {
                 let value = self.number(*code, time);
-                self.set_mode(Mode::Throwing(Throw {
+                self.throw(Throw {
                     kind: FAILURE,
                     value,
-                }));
+                });
             }
             Stmt::Finish { value } => {
                 let value = self.number(*value, time);

@@ -7,5 +7,5 @@ invariant_of-result c = (
   omega arith,
   rw c.of.ensures (omega (arith, c.in_ok-from_slice.ensures.len, c.last_variable-variables.ensures)),
   rw (c.in_ok-new.ensures, c.of.ensures) c.most_frames.ensures,
-  all_marked _ (c.of-2.ensures ∙ c.new-2.ensures),
+  all_marked _ (c.of-3.ensures ∙ c.new-2.ensures),
 )

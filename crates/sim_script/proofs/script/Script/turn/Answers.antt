@@ -7,4 +7,4 @@ pub returns : goal.returns
 returns c =
     let told = take_in c.args.code.now c.args.signal c.args.self.now in
     asks_and_remembers c.args.code.now c.args.time told c.take_in.new.self c.ask.new.self _ c.ask.new.asked c.ranges.time
-    c.take_in.ensures c.ask.ensures (rw (← c.self.view_is, c.of.ensures) refl)
+    c.take_in.ensures c.ask.ensures (rw (← c.self.view_is, c.of-self-inside.ensures, c.of.ensures) refl)
