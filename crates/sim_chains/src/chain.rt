@@ -61,6 +61,7 @@ impl Chain {
     }
 
     /// Appends a callback.
+    #[inline(always)]
     pub(crate) fn append(&mut self, nodes: &mut Slab<Node>, callback: Callback)
         requires room { HasRoomFor nodes.old 1 }
         requires chain { IsChain nodes.old self.old }

@@ -59,6 +59,7 @@ impl Nodes {
     }
 
     /// Appends a callback to a chain.
+    #[inline(always)]
     pub fn append(&mut self, chain: &mut Chain, callback: Callback)
         requires spare { 0 < spare_in self.old }
         requires chain { IsChain self.old chain.old }

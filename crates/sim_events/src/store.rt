@@ -29,6 +29,7 @@ fn free_part(parts: &mut Slab<Part>, is_there: bool, part: usize)
 
 impl Store {
     /// Gives back the slot of an event, with its callbacks and what it has as a condition.
+    #[inline(always)]
     pub(crate) fn give_back(&mut self, key: usize)
         requires store { IsStore self.old }
         requires there { ContainsKey self.old.slots key }

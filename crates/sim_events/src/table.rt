@@ -176,6 +176,7 @@ impl Table {
     }
 
     /// A pending event more, which takes the next number.
+    #[inline(always)]
     pub fn make(&mut self, kind: EventKind) -> EventId
         requires spare { 0 < self.old.spare.events }
         requires number { length self.old.events < 2 ^ 62 }

@@ -138,6 +138,7 @@ impl Script {
     }
 
     // The statements that enter a block, or come to its end.
+    #[inline(always)]
     fn change_blocks(&mut self, statement: &Stmt, time: i64)
         requires group { IsTrue (is_of_blocks statement.now) }
         requires room { IsTrue (enters_room self.old statement.now) }
