@@ -118,6 +118,7 @@ impl Chain {
         }
         let first = nodes[self.last].next;
         let next = nodes[first].next;
+        // The only node of a chain names itself, and this changes nothing.
         nodes[self.last].next = next;
         let node = nodes.remove(first);
         self.count -= 1;
@@ -167,6 +168,7 @@ impl Chain {
         ensures capacity { nodes.new.capacity ≡ nodes.old.capacity }
     {
         let next = nodes[found.at].next;
+        // The only node of a chain names itself, and this changes nothing.
         nodes[found.before].next = next;
         let _node = nodes.remove(found.at);
         self.last = self.last_without(&found);

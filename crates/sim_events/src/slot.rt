@@ -16,7 +16,7 @@ pub(crate) enum Stage {
 /// An event that is kept, with its callbacks and how many hold it.
 ///
 /// The outcome stands in three fields, so that it is read and written in place: a copy of an enum with payloads waits
-/// for its bytes. What is looked at when an event is popped comes first, so that it mostly lies together.
+/// for its bytes. What is looked at when an event is popped comes first.
 #[derive(Drop)]
 pub(crate) struct Slot {
     pub(crate) kind: EventKind,

@@ -31,8 +31,8 @@ pub(crate) struct Guesses {
     /// How far the number of the last entry is ahead of its position. Where the last numbers had no gaps, theirs are as
     /// far ahead.
     pub(crate) ahead: u64,
-    /// The position of the number that was sought last. The next one is often that of the entry behind: processes that begin
-    /// together mostly go on in the order of their numbers.
+    /// The position of the number that was sought last. The next one is often that of the entry behind, since
+    /// numbers are mostly sought in their order.
     pub(crate) sought: usize,
 }
 

@@ -17,7 +17,7 @@ pub(crate) struct Preempted {
     lowest_bits: usize,
 }
 
-// Where no more users find room than these, all are looked at as soon.
+// Where no more users find room than these, all are looked at.
 const FEW_USERS: usize = 8;
 
 impl Model for Preempted {
@@ -43,7 +43,8 @@ impl Preempted {
     /// are forgotten.
     pub(crate) fn reserve(&mut self, users: usize) -> Result<(), AllocError>
         requires { users ≤ 2 ^ 63 }
-        ensures { (request : EventId) → IsRemembered self.new request → IsRemembered self.old request }
+        ensures { (request : EventId) → IsRemembered self.new request
+            → IsRemembered self.old request }
     {
         let places = users.next_power_of_two();
         if users <= FEW_USERS || places <= self.places.len() {
