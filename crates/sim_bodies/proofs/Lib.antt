@@ -1,1 +1,2 @@
 pub mod TestSetups
+pub mod OnePoll

@@ -85,13 +85,13 @@ impl Body for Car {
         self.own = id;
     }
 
-    fn poll(&mut self, _code: &Road, _now: i64, signal: Signal, asked: &mut Op) {
+    fn poll(&mut self, _code: &Road, _now: i64, signal: Signal, _most: u32, asked: &mut Op) -> u32 {
         match &self.last {
             None => {
                 if self.charges {
                     self.last = Some(Op::Enter(0, 0, false));
                     *asked = Op::Enter(0, 0, false);
-                    return;
+                    return 1;
                 }
             }
             Some(Op::Enter(..)) => match signal {
@@ -99,17 +99,14 @@ impl Body for Car {
                 _ => {
                     self.last = Some(Op::Leave);
                     *asked = Op::Leave;
-                    return;
+                    return 1;
                 }
             },
             Some(_) => {}
         }
         self.last = Some(Op::Finish(0));
         *asked = Op::Finish(0);
-    }
-
-    fn poll_quietly(&mut self, _code: &Road, _now: i64, _signal: Signal, _most: u32) -> u32 {
-        0
+        1
     }
 
     fn place(&self, _at: u8) -> EventId {

@@ -94,16 +94,13 @@ impl Body for Clock {
         self.own = id;
     }
 
-    fn poll(&mut self, code: &Pace, now: i64, _signal: Signal, asked: &mut Op) {
+    fn poll(&mut self, code: &Pace, now: i64, _signal: Signal, _most: u32, asked: &mut Op) -> u32 {
         *asked = match &self.last {
             Some(Op::Log(_)) => Op::Pause(code.delay, 0),
             _ => Op::Log(now),
         };
         self.last = Some(again(asked));
-    }
-
-    fn poll_quietly(&mut self, _code: &Pace, _now: i64, _signal: Signal, _most: u32) -> u32 {
-        0
+        1
     }
 
     fn place(&self, _at: u8) -> EventId {

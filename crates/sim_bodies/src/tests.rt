@@ -41,7 +41,7 @@ fn lines_of_units<B: Body>(
         if !matches!(kernel.rest(), Rest::Busy | Rest::Idle) {
             break;
         }
-        if let Unit::Line(line) = kernel.unit(code)? {
+        if let Unit::Line(line) = kernel.units(code, 1)?.last {
             lines.push(line)?;
         }
     }
@@ -79,7 +79,7 @@ fn lines_with_arrivals<B: Body>(
             lines.push(kernel.arrive(code, 0, value)?)?;
             came += 1;
         } else if matches!(rest, Rest::Busy | Rest::Idle) {
-            if let Unit::Line(line) = kernel.unit(code)? {
+            if let Unit::Line(line) = kernel.units(code, 1)?.last {
                 lines.push(line)?;
             }
         } else {
@@ -273,12 +273,13 @@ fn started<B: Body>(alloc: Global, code: &B::Code, kind: u32, id: ProcId) -> Res
 }
 
 // One poll at time 0, by the trait alone.
+#[tactic(auto, using(crate::proofs::OnePoll::one_poll))]
 fn polled<B: Body>(body: &mut B, code: &B::Code, signal: Signal) -> Op
     requires { CanBeTold B.body code.now body.old signal }
     ensures { B.body.turn code.now body.old (pos 0) signal result body.new }
 {
     let mut asked = Op::Nop;
-    body.poll(code, 0, signal, &mut asked);
+    let _made = body.poll(code, 0, signal, 1, &mut asked);
     asked
 }
 

@@ -104,13 +104,10 @@ impl Body for Traveller {
         self.own = id;
     }
 
-    fn poll(&mut self, _code: &Land, _now: i64, signal: Signal, asked: &mut Op) {
+    fn poll(&mut self, _code: &Land, _now: i64, signal: Signal, _most: u32, asked: &mut Op) -> u32 {
         *asked = self.next(signal);
         self.last = Some(again(asked));
-    }
-
-    fn poll_quietly(&mut self, _code: &Land, _now: i64, _signal: Signal, _most: u32) -> u32 {
-        0
+        1
     }
 
     fn place(&self, _at: u8) -> EventId {

@@ -15,10 +15,8 @@ use Rattle.sim_kernel.specs.Stepping.{MakesStep, StepsFrom}
 use Rattle.sim_kernel.specs.Arriving.{MakesArrival, ArrivesFrom}
 use Rattle.sim_script_model.specs.Scripts.{Script}
 use Rattle.sim_script_law.specs.ScriptMembers.{script_body}
-use Rattle.sim_trace.specs.Texts.{trace_text}
-use Rattle.sim_engine.specs.Sessions.{SessionOf, IsAt, steps_in, text_of_steps}
+use Rattle.sim_engine.specs.Sessions.{SessionOf, IsAt, steps_in}
 use Rattle.sim_engine.proofs.OnlySteps.{only_script_step}
-use Rattle.sim_engine.proofs.StepTexts.{text_is}
 
 -- ---- what is logged by more lines
 
@@ -77,10 +75,3 @@ pub arrives_at : (old new : SessionOf) (before : PartsOf Script ScenarioOf) → 
 arrives_at old new before same port value x makes logs sum t at =
     let arrived : ArrivesFrom script_body port value old.parts t x new.parts = (subst (λ p. MakesArrival script_body port value p x new.parts) same makes).each t at.lawful at.stands in
     now_at old new t (arrive (plan_of script_body old.parts) port value t) (x ∷ []) at arrived.stands arrived.lawful arrived.lines logs sum
-
--- ---- the text of a unit
-
-pub text_of_unit : (ports : List (List ℕ)) (old new : PartsOf Script ScenarioOf) (answer : Unit) (t : State Script) → StandsFor old t → LawfulOf script_body old t
-    → MakesStep script_body old answer new → text_of_steps ports old 1 t ≡ trace_text ports (lines_of answer)
-text_of_unit ports old new answer t stands lawful makes =
-    text_is ports t (steps_in old 1 t) (lines_of answer) (unit_stands old new answer t stands lawful makes).lines

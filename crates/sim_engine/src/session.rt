@@ -253,8 +253,8 @@ impl Session {
         self.units < self.limit && matches!(self.kernel.rest(), Rest::Busy)
     }
 
-    /// Makes at least one unit in which nothing arrives: all that come next in which a process asks for nothing, and one more
-    /// where one is left, whose line is written if it has one.
+    /// Makes at least one unit in which nothing arrives, and as many as are left at most: all but the last are such in which a
+    /// process asks for nothing. The line of the last is written if it has one.
     #[inline(always)]
     fn go_on<K: Sink>(&mut self, scenario: &Scenario, out: &mut K) -> Result<(), EngineFault>
         requires code { scenario.now ≡ self.old.parts.code }
@@ -275,13 +275,9 @@ impl Session {
             (self.new.units - self.old.units) t) }
         ensures unflushed { IsUnflushed (K.tells out.old) (K.tells out.new) }
     {
-        self.units += self.kernel.units_quietly(scenario, self.limit - self.units);
-        if self.units == self.limit {
-            return Ok(());
-        }
-        let unit = self.kernel.unit(scenario)?;
-        self.units += 1;
-        match unit {
+        let units = self.kernel.units(scenario, self.limit - self.units)?;
+        self.units += units.made;
+        match units.last {
             Unit::Quiet => Ok(()),
             Unit::Line(line) => {
                 self.tell(&line, scenario, out)?;

@@ -23,7 +23,7 @@ use Rattle.sim_steps_law.proofs.Becoming.{lawful_stands}
 use Rattle.sim_steps_law.proofs.Rooms.{roomier_balances, roomier_held, roomier_lawful, roomier_stands}
 use Rattle.sim_steps_law.proofs.Running.{KeepsLaw}
 use Rattle.sim_steps_law.proofs.Starting.{of_process_events}
-use Rattle.sim_kernel.proofs.Units.{accounts_balance, balance_accounts, opened_lawful, opened_through, unit_bounded}
+use Rattle.sim_kernel.proofs.UnitSteps.{accounts_balance, balance_accounts, opened_lawful, opened_through, unit_bounded}
 
 -- it makes two events, and processes none
 makes_few : {B : Type 0} (g : Plan B) (port : ℕ) (value : ℤ) (s : State B) → MakesFew s (arrive g port value s)

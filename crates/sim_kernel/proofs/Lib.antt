@@ -3,6 +3,6 @@ pub mod StartingAll
 pub mod Stopping
 pub mod OpeningHolds
 -- the units
-pub mod Units
+pub mod UnitSteps
 pub mod QuietUnits
 pub mod Arrivals

@@ -1,61 +1,86 @@
--- Units in a row in which a process asks for nothing: each of them is a unit, and nothing happens in any.
-use Rattle.std.proofs.Common.{◌≡◌, ℕ, zero, suc, ◌+◌, refl, subst, sym, ◌∙◌, arith}
+-- Units in a row, in which a process asks for nothing but in the last, are as many steps of the machine.
+use Rattle.std.proofs.Common.{◌≡◌, ℕ, zero, suc, ◌+◌, refl, sym, ap, ◌∙◌, subst, arith}
 use Rattle.sim_machine.specs.Bodies.{BodyOf}
 use Rattle.sim_events.specs.TableOf.{AreNeeded}
 use Rattle.sim_procs.specs.QuietPolls.{InARow}
+use Rattle.sim_steps_model.specs.declared.mode.Unit.{Unit}
 use Rattle.sim_steps_model.specs.declared.mode.Unit.TheVariants as unit
-use Rattle.sim_steps_model.specs.PartsOf.{PartsOf, IsOpenedAs}
-use Rattle.sim_steps_model.specs.QuietUnits.{MovesQuietly}
+use Rattle.sim_steps_model.specs.PartsOf.{PartsOf, IsOpenedAs, KeepsButRoom}
+use Rattle.sim_steps_model.specs.QuietUnits.{MovesQuietly, MovesAtLast}
 use Rattle.sim_kernel.specs.Holding.{Holds}
-use Rattle.sim_kernel.specs.Stepping.{MakesQuietStep}
+use Rattle.sim_kernel.specs.Stepping.{MakesQuietStep, MakesSteps}
 use Rattle.sim_steps_law.proofs.Accounting.{opened_then}
 use Rattle.sim_steps_law.proofs.Rooms.{as_roomy}
 use Rattle.sim_steps_law.proofs.Running.{KeepsLaw}
-use Rattle.sim_kernel.proofs.Units.{unit_holds, unit_steps}
+use Rattle.sim_kernel.proofs.UnitSteps.{opened_through, unit_holds, unit_steps}
 
--- what holds after so many of them
-pub record IsQuietly {B Code : Type 0} (body : BodyOf B Code) (units n : ℕ) (old new : PartsOf B Code) : Type 0 where
-  pub holds : Holds body (units + n) new
+-- so many quiet units were made where room was made first: as many quiet steps lead from the old kernel to one that differs
+-- from the new one in room at most, which is the old one itself where none was made
+pub record AfterQuiet {B Code : Type 0} (body : BodyOf B Code) (units n : ℕ) (old new : PartsOf B Code) : Type 0 where
+  pub parts : PartsOf B Code
+  pub room : KeepsButRoom parts new
+  pub steps : InARow (MakesQuietStep body) n old parts
+  pub opened : IsOpenedAs old parts
+  pub holds : Holds body (units + n) parts
+
+-- what holds where the last is made too
+pub record AfterUnits {B Code : Type 0} (body : BodyOf B Code) (units n : ℕ) (old : PartsOf B Code) (answer : Unit) (new : PartsOf B Code) : Type 0 where
   pub opened : IsOpenedAs old new
-  pub happen : new.shared.happen ≡ old.shared.happen
+  pub holds : Holds body (units + n) new
+  -- what is kept in the end is needed, and so it was all along
+  pub steps : AreNeeded new.shared.happen.events → MakesSteps body n old answer new
 
-module _ {B Code : Type 0} (body : BodyOf B Code) (units : ℕ) (old : PartsOf B Code) (h : Holds body units old) (law : KeepsLaw body old.code) where
-  pub after_quiet : (n : ℕ) (new : PartsOf B Code) → InARow (MovesQuietly body) n old new → IsQuietly body units n old new
+module _ {B Code : Type 0} (body : BodyOf B Code) (units : ℕ) (old : PartsOf B Code) (h : Holds body units old)
+    (law : KeepsLaw body old.code) (mid : PartsOf B Code) (room : KeepsButRoom old mid) where
+  -- nothing happens in a quiet unit, so what was needed before it is needed after it
+  after_quiet : (n : ℕ) (new : PartsOf B Code) → InARow (MovesQuietly body) n mid new → AfterQuiet body units n old new
   after_quiet zero new row =
       record {
-        holds = subst (λ k. Holds body k new) (omega arith) (subst (Holds body units) (sym row) h);
-        opened = record { code = rw row refl; setup = rw row refl; seed = rw row refl };
-        happen = rw row refl;
+        parts = old;
+        room = subst (KeepsButRoom old) (sym row) room;
+        steps = refl;
+        opened = record { code = refl; setup = refl; seed = refl };
+        holds = subst (λ k. Holds body k old) (omega arith) h;
       }
   after_quiet (suc n) new row =
-      let mid = row.between in
-      let before = after_quiet n mid row.before in
+      let from = row.between in
+      let before = after_quiet n from row.before in
       let moves = row.after.moves in
+      let law_then : KeepsLaw body before.parts.code = rw before.opened.code law in
+      let same : new.shared.happen.events ≡ before.parts.shared.happen.events =
+      ap (λ h. h.events) row.after.happen ∙ ap (λ h. h.events) before.room.shared.happen in
+      let opened : IsOpenedAs before.parts new = opened_through before.parts from new before.room moves.opened in
       record {
+        parts = new;
+        room = as_roomy new;
+        steps = record {
+          between = before.parts;
+          before = before.steps;
+          after = record {
+            makes = unit_steps body before.parts before.holds.fits law_then from unit.Quiet new before.room moves (λ needed. rw same needed);
+            opened = opened;
+            busy = row.after.busy;
+          };
+        };
+        opened = opened_then old before.parts new before.opened opened;
         holds = subst (λ k. Holds body k new) (omega arith)
-            (unit_holds body (units + n) mid mid unit.Quiet new (rw before.opened.code law) before.holds (as_roomy mid) moves);
-        opened = opened_then old mid new before.opened moves.opened;
-        happen = row.after.happen ∙ before.happen;
+            (unit_holds body (units + n) before.parts from unit.Quiet new law_then before.holds before.room moves);
       }
 
-  quiet_steps : AreNeeded old.shared.happen.events → (n : ℕ) (new : PartsOf B Code) → InARow (MovesQuietly body) n old new →
-      InARow (MakesQuietStep body) n old new
-  quiet_steps needed zero new row = row
-  quiet_steps needed (suc n) new row =
-      let mid = row.between in
-      let before = after_quiet n mid row.before in
-      let same : new.shared.happen ≡ old.shared.happen = row.after.happen ∙ before.happen in
+  pub after_units : (n : ℕ) (answer : Unit) (new : PartsOf B Code) → MovesAtLast body n mid answer new → AfterUnits body units n old answer new
+  after_units zero answer new none = absurd none
+  after_units (suc n) answer new row =
+      let from = row.between in
+      let before = after_quiet n from row.before in
+      let law_then : KeepsLaw body before.parts.code = rw before.opened.code law in
+      let opened : IsOpenedAs before.parts new = opened_through before.parts from new before.room row.after.opened in
       record {
-        between = mid;
-        before = quiet_steps needed n mid row.before;
-        after = record {
-          makes = unit_steps body mid before.holds.fits (rw before.opened.code law) mid unit.Quiet new (as_roomy mid) row.after.moves (rw same needed);
-          opened = row.after.moves.opened;
-          busy = row.after.busy;
+        opened = opened_then old before.parts new before.opened opened;
+        holds = subst (λ k. Holds body k new) (omega arith)
+            (unit_holds body (units + n) before.parts from answer new law_then before.holds before.room row.after);
+        steps = λ needed. record {
+          between = before.parts;
+          before = before.steps;
+          after = unit_steps body before.parts before.holds.fits law_then from answer new before.room row.after (λ _. needed);
         };
       }
-
-  -- what is needed in the end was needed all along
-  pub makes_quietly : (n : ℕ) (new : PartsOf B Code) → InARow (MovesQuietly body) n old new → AreNeeded new.shared.happen.events →
-      InARow (MakesQuietStep body) n old new
-  makes_quietly n new row needed = quiet_steps (rw (sym (after_quiet n new row).happen) needed) n new row

@@ -1,7 +1,8 @@
 -- What it means that a kernel makes a unit in which nothing arrives.
-use Rattle.std.specs.Prelude.{◌≡◌, ◌++◌}
+use Rattle.std.specs.Prelude.{◌≡◌, ◌++◌, ℕ}
 use Rattle.sim_machine.specs.State.{State}
 use Rattle.sim_machine.specs.Bodies.{BodyOf}
+use Rattle.sim_procs.specs.QuietPolls.{QuietButLast}
 use Rattle.sim_steps_model.specs.PartsOf.{PartsOf, IsOpenedAs}
 use Rattle.sim_steps_model.specs.StandsFor.{StandsFor, LawfulOf, StepOf, lines_of}
 use Rattle.sim_steps_model.specs.Resting.{rest_in}
@@ -33,3 +34,7 @@ pub record MakesQuietStep {B Code : Type 0} (body : BodyOf B Code) (old new : Pa
   pub makes : MakesStep body old unit.Quiet new
   pub opened : IsOpenedAs old new
   pub busy : rest_in new ≡ rest.Busy
+
+-- so many units in a row, at least one: all but the last are such steps, and the last is one that answers this
+abbrev pub MakesSteps : {B Code : Type 0} → BodyOf B Code → ℕ → PartsOf B Code → Unit → PartsOf B Code → Type 0
+MakesSteps body n old answer new = QuietButLast (MakesQuietStep body) (λ mid. MakesStep body mid answer new) n old

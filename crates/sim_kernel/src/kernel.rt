@@ -3,18 +3,17 @@ ghost use Rattle.std.specs.Prelude.{◌≡◌, ◌+◌, ◌<◌, ◌≤◌, ◌^
 ghost use Rattle.sim_machine.specs.Setups.{FitsCode};
 ghost use Rattle.sim_machine.specs.Runs.{opening};
 ghost use Rattle.sim_machine.specs.State.{State};
-ghost use Rattle.sim_procs.specs.QuietPolls.{InARow};
 ghost use Rattle.sim_steps_model.specs.PartsOf.{IsOpenedAs, plan_of};
 ghost use Rattle.sim_steps_model.specs.Resting.{CanArrive, CanStep, rest_in};
 ghost use Rattle.sim_steps_model.specs.StandsFor.{IsLawfulOpening, StandsFor, StandsForOpening};
 ghost use Rattle.sim_kernel.specs.Accounting.{HasAccounts, kept_of};
 ghost use Rattle.sim_kernel.specs.Arriving.{MakesArrival};
 ghost use Rattle.sim_kernel.specs.KernelOf.{IsAsBefore};
-ghost use Rattle.sim_kernel.specs.Stepping.{MakesQuietStep, MakesStep};
+ghost use Rattle.sim_kernel.specs.Stepping.{MakesSteps};
 
 use crate::opening::open;
 use sim_procs::Body;
-use sim_steps::{Parts, Rest, Unit};
+use sim_steps::{Parts, Rest, Units};
 use sim_types::{Line, Setup};
 use std::alloc::{AllocError, Global};
 use std::marker::Model;
@@ -76,43 +75,28 @@ impl<B: Body> Kernel<B> {
         self.parts.rest_now()
     }
 
-    /// Makes one unit: an event is popped, a callback is called, an event is settled, or a process is polled. All memory
-    /// is taken first.
+    /// Makes units in a row, at least one and at most so many: an event is popped, a callback is called, an event is settled,
+    /// or a process is polled. It makes more than one where a process is polled and its body asks for nothing, as most
+    /// statements of a script do: all but the last are such units. All memory is taken first.
     #[inline(always)]
-    pub fn unit(&mut self, code: &B::Code) -> Result<Unit, AllocError>
+    pub fn units(&mut self, code: &B::Code, most: u32) -> Result<Units, AllocError>
+        requires some { 1 ≤ most }
         requires code { code.now ≡ self.old.parts.code }
         requires can { CanStep self.old.parts }
-        requires units { self.old.units < 2 ^ 32 }
+        requires units { self.old.units + most ≤ 2 ^ 32 }
+        ensures most { IfOk result (λ units. units.made ≤ most) }
         // From each lawful state that it stood for, and by the invariant there is one.
-        ensures steps { IfOk result (λ unit. MakesStep B.body self.old.parts unit self.new.parts) }
+        ensures steps { IfOk result (λ units. MakesSteps B.body units.made self.old.parts units.last self.new.parts) }
 
         ensures opened { OnOk result (IsOpenedAs self.old.parts self.new.parts) }
-        ensures units { OnOk result (self.new.units ≡ self.old.units + 1) }
+        ensures units { IfOk result (λ units. self.new.units ≡ self.old.units + units.made) }
         ensures err { OnErr result (IsAsBefore self.old self.new) }
     {
         self.parts.reserve_for_next(code)?;
-        let unit = self.parts.unit(code);
+        let units = self.parts.units(code, most);
         let _kept = self.parts.slots();
-        self.units += 1;
-        Ok(unit)
-    }
-
-    /// Makes units in a row in which the running process asks for nothing, as long as its body can tell so beforehand, as it
-    /// can of most statements of a script, and at most so many. The answer is how many were made. It takes no memory. `unit`
-    /// makes such a unit too, so whoever makes units may leave this out; it is there for speed.
-    #[inline(always)]
-    pub fn units_quietly(&mut self, code: &B::Code, most: u32) -> u32
-        requires code { code.now ≡ self.old.parts.code }
-        requires units { self.old.units + most ≤ 2 ^ 32 }
-        ensures most { result ≤ most }
-        ensures steps { InARow (MakesQuietStep B.body) result self.old.parts self.new.parts }
-        ensures opened { IsOpenedAs self.old.parts self.new.parts }
-        ensures units { self.new.units ≡ self.old.units + result }
-    {
-        let made = self.parts.units_quietly(code, most);
-        let _kept = self.parts.slots();
-        self.units += u64::from(made);
-        made
+        self.units += u64::from(units.made);
+        Ok(units)
     }
 
     /// A value comes in by a port: a process of the port's kind is made, which begins with it. This is a unit too. All
@@ -139,7 +123,7 @@ impl<B: Body> Kernel<B> {
     }
 
     /// How many events are kept, each of which has a slot in memory. They are just those that the machine keeps in the state
-    /// that the kernel stands for, whose accounts are right by what `new`, `unit` and `arrive` promise. (This project's own: in
+    /// that the kernel stands for, whose accounts are right by what `new`, `units` and `arrive` promise. (This project's own: in
     /// Python what nothing refers to is collected.)
     pub fn slots(&self) -> u64
         ensures slots { (s : State B) → StandsFor self.now.parts s →

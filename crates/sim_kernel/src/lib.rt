@@ -5,4 +5,4 @@ mod kernel;
 mod opening;
 
 pub use kernel::Kernel;
-pub use sim_steps::{Rest, Unit};
+pub use sim_steps::{Rest, Unit, Units};

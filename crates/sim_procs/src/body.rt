@@ -4,7 +4,7 @@ ghost use Rattle.sim_types.specs.declared.event.Signal.TheVariants as signal;
 ghost use Rattle.sim_types.specs.declared.op.Op.{Op};
 ghost use Rattle.sim_machine.specs.NumberBounds.{most_events};
 ghost use Rattle.sim_procs.specs.Premises.{CanBegin, CanBeTold, ChangesOnly, EntersWithin, events_in_places};
-ghost use Rattle.sim_procs.specs.QuietPolls.{QuietPolls};
+ghost use Rattle.sim_procs.specs.QuietPolls.{Polls};
 
 use sim_machine::LawfulBody;
 use sim_types::{Args, EventId, Op, ProcId, Signal};
@@ -45,18 +45,20 @@ pub trait Body: LawfulBody + Sized + Drop {
         ensures { self.new ≡ Self.body.numbered self.old id };
 
     /// The body is told what came of its last operation, and asks for the next one, which is large and so is written where it
-    /// is wanted.
-    fn poll(&mut self, code: &Self::Code, now: i64, signal: Signal, asked: &mut Op)
-        requires { CanBeTold Self.body code.now self.old signal }
-        ensures { Self.body.turn code.now self.old now signal asked.new self.new };
-
-    /// Polls in a row, as long as the body asks for nothing in them (`Nop`) and can tell so beforehand: it is told this in the
-    /// first, and in all others that its operation is done. The answer is how many were made, at most as many as these. A body
-    /// may always answer that none was, and then all is as before.
-    fn poll_quietly(&mut self, code: &Self::Code, now: i64, signal: Signal, most: u32) -> u32
-        requires { CanBeTold Self.body code.now self.old signal }
+    /// is wanted. Where it asks for nothing (`Nop`), it may go on, told that this is done, for at most so many polls in all.
+    /// The answer is how many there were, of which the last asks for what is written. A body may always make one alone.
+    fn poll(
+        &mut self,
+        code: &Self::Code,
+        now: i64,
+        signal: Signal,
+        most: u32,
+        asked: &mut Op,
+    ) -> u32
+        requires some { 1 ≤ most }
+        requires can { CanBeTold Self.body code.now self.old signal }
         ensures most { result ≤ most }
-        ensures polls { QuietPolls Self.body code.now now signal result self.old self.new };
+        ensures polls { Polls Self.body code.now now signal result self.old asked.new self.new };
 
     /// The event in a place, or event 0.
     fn place(&self, at: u8) -> EventId

@@ -3,5 +3,4 @@ pub mod Places
 pub mod Filling
 pub mod Marks
 pub mod Remembering
-pub mod Restoring
 pub mod Polling

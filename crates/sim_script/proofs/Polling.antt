@@ -1,5 +1,5 @@
 -- A script is polled as the body of a process.
-use Rattle.std.proofs.Common.{◌≡◌, ◌<◌, ℕ, zero, suc, ◌+◌, ℤ, List, refl, ap, ◌∙◌, add-one, arith, w64, to_z, of_z, FitsSigned, IsTrue}
+use Rattle.std.proofs.Common.{◌≡◌, ℕ, zero, suc, ◌+◌, ℤ, List, refl, ap, ◌∙◌, add-one, w64, to_z, of_z, FitsSigned, IsTrue}
 use Rattle.std.proofs.lemmas.Int.{to_z-of_z}
 use Rattle.sim_types.specs.Scenarios.{ScenarioOf}
 use Rattle.sim_types.specs.declared.event.Signal.{Signal}
@@ -8,7 +8,7 @@ use Rattle.sim_types.specs.declared.op.Op.{Op}
 use Rattle.sim_types.specs.declared.op.Op.TheVariants as op
 use Rattle.sim_types.specs.declared.script.Stmt.{Stmt}
 use Rattle.sim_procs.specs.Premises.{CanBeTold}
-use Rattle.sim_procs.specs.QuietPolls.{QuietPolls, told_after}
+use Rattle.sim_procs.specs.QuietPolls.{Polls}
 use Rattle.sim_script_model.specs.Scripts.{Script}
 use Rattle.sim_script_model.specs.Polls.{take_in, script_turn}
 use Rattle.sim_script_law.specs.Ready.{can_take, can_ask}
@@ -51,13 +51,8 @@ done_can_be_told x b time told d can turned =
       bound = refl;
     }
 
--- after some polls it is told so
-done_after_some : (n : ℕ) (told : Signal) → 0 < n → told_after n told ≡ signal.Done
-done_after_some zero told some = absurd (omega (arith, some))
-done_after_some (suc n) told some = refl
-
--- behind polls in a row one more, in which it is told that the one before is done
-pub one_poll_more : (x : ScenarioOf) (time : ℤ) (told : Signal) (n : ℕ) (b mid d : Script) → 0 < n → QuietPolls script_body x time told n b mid
-    → IsScriptTurn x mid time signal.Done op.Nop d → QuietPolls script_body x time told (n + 1) b d
-one_poll_more x time told n b mid d some polls turned =
-    rw add-one (record { between = mid; before = polls; after = rw (done_after_some n told some) turned })
+-- behind polls in a row in which it asks for nothing one more, in which it is told that the one before is done
+pub one_poll_more : (x : ScenarioOf) (time : ℤ) (told : Signal) (n : ℕ) (b mid : Script) (asked : Op) (d : Script)
+    → Polls script_body x time told n b op.Nop mid → IsScriptTurn x mid time signal.Done asked d → Polls script_body x time told (n + 1) b asked d
+one_poll_more x time told zero b mid asked d polls turned = absurd polls
+one_poll_more x time told (suc n) b mid asked d polls turned = rw add-one (record { between = mid; before = polls; after = turned })

@@ -1,8 +1,9 @@
--- The statements by what they change, and the blocks by what leaving them asks for, as the code groups them.
-use Rattle.std.specs.Prelude.{Bool, true, false, ◌||◌, List, [], ◌∷◌}
+-- The statements by what they change, as the code groups them, and what is asked.
+use Rattle.std.specs.Prelude.{Bool, true, false, ◌||◌}
+use Rattle.sim_types.specs.declared.op.Op.{Op}
+use Rattle.sim_types.specs.declared.op.Op.TheVariants as op
 use Rattle.sim_types.specs.declared.script.Stmt.{Stmt}
 use Rattle.sim_types.specs.declared.script.Stmt.TheVariants as stmt
-use Rattle.sim_script_model.specs.Scripts.{Frame, InScope}
 
 -- those that change a variable, the mode or the place
 abbrev pub is_of_changes : Stmt → Bool
@@ -62,13 +63,7 @@ is_of_resources other = false
 abbrev pub is_of_operations : Stmt → Bool
 is_of_operations s = is_of_processes s || is_of_resources s || is_of_events s
 
--- those that ask for an operation
-abbrev pub asks_for_something : Stmt → Bool
-asks_for_something stmt.EndWith = true
-asks_for_something s = is_of_operations s
-
--- whether leaving the innermost block asks for something: a scope is left, or, where there is none, the process ends
-abbrev pub leaving_asks : List Frame → Bool
-leaving_asks [] = true
-leaving_asks (InScope request ∷ frames) = true
-leaving_asks frames = false
+-- what a script asks for that tells whether it asks for something: for this, or else for nothing
+abbrev pub asked_where : Bool → Op → Op
+asked_where true asked = asked
+asked_where false asked = op.Nop

@@ -64,22 +64,24 @@ impl Body for Script {
         self.set_number(id);
     }
 
-    fn poll(&mut self, code: &Scenario, now: i64, signal: Signal, asked: &mut Op) {
-        self.turn(code.code(), now, signal, asked);
-    }
-
     #[inline(always)]
-    fn poll_quietly(&mut self, code: &Scenario, now: i64, signal: Signal, most: u32) -> u32 {
+    fn poll(
+        &mut self,
+        code: &Scenario,
+        now: i64,
+        signal: Signal,
+        most: u32,
+        asked: &mut Op,
+    ) -> u32 {
         let statements = code.code();
-        if most == 0 || !self.turn_quietly(statements, now, signal) {
-            return 0;
-        }
+        let mut asks = self.turn(statements, now, signal, asked);
         let mut made = 1;
-        while made < most {
-            if !self.turn_quietly(statements, now, Signal::Done) {
-                return made;
-            }
+        while !asks && made < most {
+            asks = self.turn(statements, now, Signal::Done, asked);
             made += 1;
+        }
+        if !asks {
+            *asked = Op::Nop;
         }
         made
     }

@@ -7,6 +7,7 @@ ghost use Rattle.sim_script_model.specs.Polls.{store, given_by, last_stmt, open_
 ghost use Rattle.sim_script_law.specs.Ready.{event_is_small, keeps_given, has_room, scope_finds_room, can_take, can_do, can_leave, can_ask};
 ghost use Rattle.sim_script_law.specs.ScriptMembers.{script_holds};
 ghost use Rattle.sim_script.specs.Kept.{frame_of, mode_of, script_of_kind, MarksNumbers};
+ghost use Rattle.sim_script.specs.StatementGroups.{asked_where};
 
 use crate::frames::{Frame, Frames};
 use crate::mode::Mode;
@@ -17,8 +18,6 @@ use sim_types::{
 };
 use std::alloc::{AllocError, Global};
 use std::marker::Model;
-
-mod quiet;
 
 /// A process that does the statements of its kind.
 #[derive(Drop)]
@@ -256,18 +255,23 @@ impl Script {
         }
     }
 
-    /// Is polled: takes in what it is told, and asks for an operation.
-    pub(crate) fn turn(&mut self, code: &[Stmt], time: i64, signal: Signal, asked: &mut Op)
+    /// Is polled: takes in what it is told, and goes on. Whether it asks for an operation, which is written then: it is large,
+    /// and nothing is written where it asks for nothing.
+    #[inline(always)]
+    pub(crate) fn turn(&mut self, code: &[Stmt], time: i64, signal: Signal, asked: &mut Op) -> bool
         requires take { IsTrue (can_take code.now signal self.old) }
         requires ask { IsTrue (can_ask code.now (take_in code.now signal self.old)) }
-        ensures { (asked.new, self.new) ≡ script_turn code.now self.old time signal }
+        ensures { (asked_where result asked.new, self.new)
+            ≡ script_turn code.now self.old time signal }
     {
         self.take_in(code, signal);
-        self.ask(code, time, asked);
-        self.asked = Memo::of(&Some(Memo::of(asked)));
+        let asks = self.ask(code, time, asked);
+        self.asked = Memo::of(&Some(last_asked(asks, asked)));
+        asks
     }
 
     // Takes in what it is told.
+    #[inline(always)]
     fn take_in(&mut self, code: &[Stmt], signal: Signal)
         requires { IsTrue (can_take code.now signal self.old) }
         ensures { self.new ≡ take_in code.now signal self.old }
@@ -307,9 +311,9 @@ impl Script {
 
     // Does the statement at its place, or leaves a block.
     #[inline(always)]
-    fn ask(&mut self, code: &[Stmt], time: i64, asked: &mut Op)
+    fn ask(&mut self, code: &[Stmt], time: i64, asked: &mut Op) -> bool
         requires { IsTrue (can_ask code.now self.old) }
-        ensures { (asked.new, self.new) ≡ ask_in_mode code.now time self.old }
+        ensures { (asked_where result asked.new, self.new) ≡ ask_in_mode code.now time self.old }
     {
         match self.mode {
             Mode::Running => self.go_on(code, time, asked),
@@ -318,30 +322,43 @@ impl Script {
     }
 
     // Does the statement at its place.
-    fn go_on(&mut self, code: &[Stmt], time: i64, asked: &mut Op)
+    #[inline(always)]
+    fn go_on(&mut self, code: &[Stmt], time: i64, asked: &mut Op) -> bool
         requires { IsTrue (can_do code.now self.old) }
-        ensures { (asked.new, self.new) ≡ do_stmt time
+        ensures { (asked_where result asked.new, self.new) ≡ do_stmt time
             (set_place (self.old.place + 1) self.old) (stmt_at code.now self.old.place) }
     {
         let statement = &code[self.place];
         self.place += 1;
-        self.do_statement(statement, time, asked);
+        self.do_statement(statement, time, asked)
     }
 
     // Leaves the innermost block, for the reason that the mode tells, or ends.
-    fn unwind(&mut self, code: &[Stmt], asked: &mut Op)
+    #[inline(never)]
+    fn unwind(&mut self, code: &[Stmt], asked: &mut Op) -> bool
         requires { IsTrue (can_leave code.now self.old self.old.frames) }
-        ensures { (asked.new, self.new) ≡ unwind code.now self.old self.old.frames }
+        ensures { (asked_where result asked.new, self.new)
+            ≡ unwind code.now self.old self.old.frames }
     {
-        if self.unwind_quietly(code) {
-            *asked = Op::Nop;
-            return;
-        }
         match self.innermost() {
-            None => self.end(asked),
-            Some(_) => {
+            None => {
+                self.end(asked);
+                true
+            }
+            Some(Frame::InScope(_)) => {
                 self.leave();
                 *asked = Op::Leave;
+                true
+            }
+            Some(Frame::InTry(catch)) => {
+                self.leave();
+                self.leave_try(code, catch);
+                false
+            }
+            Some(Frame::InLoop(past) | Frame::InRepeat(past, _)) => {
+                self.leave();
+                self.leave_loop(past);
+                false
             }
         }
     }
@@ -388,6 +405,17 @@ impl Script {
             Mode::Finishing(value) => *asked = Op::Finish(value),
             Mode::Running | Mode::Breaking => *asked = Op::Nop,
         }
+    }
+}
+
+/// What a script asked for that tells whether it asked for an operation.
+fn last_asked(asks: bool, asked: &Op) -> Memo<Op>
+    ensures { result.value ≡ asked_where asks asked.now }
+{
+    if asks {
+        Memo::of(asked)
+    } else {
+        Memo::of(&Op::Nop)
     }
 }
 

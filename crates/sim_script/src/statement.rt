@@ -1,5 +1,5 @@
 //! How a script does a statement.
-ghost use Rattle.std.specs.Prelude.{◌≡◌, ◌≤◌, IsFalse, IsTrue, map};
+ghost use Rattle.std.specs.Prelude.{◌≡◌, ◌≤◌, IsTrue, map};
 ghost use Rattle.std.specs.List.{list_all};
 ghost use Rattle.sim_types.specs.declared.op.Op.TheVariants as op;
 ghost use Rattle.sim_script_model.specs.Scripts.{event_of_ref, value_of_arg};
@@ -7,7 +7,7 @@ ghost use Rattle.sim_script_model.specs.Polls.{answer_to, do_stmt, end_repeat};
 ghost use Rattle.sim_script_model.specs.Needs.{last_variable};
 ghost use Rattle.sim_script_law.specs.Ready.{event_is_small, events_are_small, enters_room, keeps_given};
 ghost use Rattle.sim_script.specs.Kept.{answer_of};
-ghost use Rattle.sim_script.specs.StatementGroups.{is_of_changes, is_of_blocks, is_of_events, is_of_processes, is_of_resources, is_of_operations, asks_for_something};
+ghost use Rattle.sim_script.specs.StatementGroups.{is_of_changes, is_of_blocks, is_of_events, is_of_processes, is_of_resources, is_of_operations, asked_where};
 
 use crate::arithmetic::compute;
 use crate::frames::Frame;
@@ -16,34 +16,14 @@ use crate::script::Script;
 use sim_types::{Args, FAILURE, Members, Op, Refs, SpawnArgs, Stmt, Throw};
 
 impl Script {
-    /// Does a statement. The script stands behind it already.
-    pub(crate) fn do_statement(&mut self, statement: &Stmt, time: i64, asked: &mut Op)
+    /// Does a statement. The script stands behind it already. Whether it asks for an operation, which is written then.
+    #[inline(always)]
+    pub(crate) fn do_statement(&mut self, statement: &Stmt, time: i64, asked: &mut Op) -> bool
         requires variables { IsTrue (keeps_given self.old statement.now) }
         requires small { IsTrue (events_are_small self.old statement.now) }
         requires room { IsTrue (enters_room self.old statement.now) }
-        ensures { (asked.new, self.new) ≡ do_stmt time self.old statement.now }
-    {
-        if self.do_quietly(statement, time) {
-            *asked = Op::Nop;
-            return;
-        }
-        match statement {
-            Stmt::EndWith => {
-                self.leave();
-                *asked = Op::Leave;
-            }
-            _ => self.operation(statement, time, asked),
-        }
-    }
-
-    /// Does a statement that asks for nothing. The answer is whether it is one: else nothing changes.
-    #[inline(always)]
-    pub(crate) fn do_quietly(&mut self, statement: &Stmt, time: i64) -> bool
-        requires variables { IsTrue (keeps_given self.old statement.now) }
-        requires room { IsTrue (enters_room self.old statement.now) }
-        ensures done { IsTrue result → (op.Nop, self.new) ≡ do_stmt time self.old statement.now }
-        ensures kept { IsFalse result → self.new ≡ self.old }
-        ensures asks { IsFalse result → IsTrue (asks_for_something statement.now) }
+        ensures { (asked_where result asked.new, self.new)
+            ≡ do_stmt time self.old statement.now }
     {
         match statement {
             Stmt::Let { .. }
@@ -53,7 +33,7 @@ impl Script {
             | Stmt::Else { .. }
             | Stmt::Break => {
                 self.change(statement, time);
-                true
+                false
             }
             Stmt::Loop { .. }
             | Stmt::Repeat { .. }
@@ -62,14 +42,23 @@ impl Script {
             | Stmt::EndLoop { .. }
             | Stmt::EndRepeat { .. } => {
                 self.change_blocks(statement, time);
+                false
+            }
+            Stmt::EndPlain => false,
+            Stmt::EndWith => {
+                self.leave();
+                *asked = Op::Leave;
                 true
             }
-            Stmt::EndPlain => true,
-            _ => false,
+            _ => {
+                self.operation(statement, time, asked);
+                true
+            }
         }
     }
 
     // The statements that ask for an operation and change nothing themselves.
+    #[inline(always)]
     fn operation(&self, statement: &Stmt, time: i64, asked: &mut Op)
         requires group { IsTrue (is_of_operations statement.now) }
         requires small { IsTrue (events_are_small self.now statement.now) }

@@ -15,10 +15,9 @@ mod parts;
 mod places;
 mod polling;
 mod processes;
-mod quiet;
 mod ready;
 mod resources;
 mod waiting;
 
 pub use parts::Parts;
-pub use sim_steps_model::{Rest, Unit};
+pub use sim_steps_model::{Rest, Unit, Units};

@@ -2,9 +2,10 @@ ghost use Rattle.std.specs.Prelude.{◌≡◌, ◌≢◌, ◌+◌, ◌<◌, ◌�
 ghost use Rattle.sim_machine.specs.Processes.{told_more, not_active};
 ghost use Rattle.sim_machine.specs.Setups.{FitsCode};
 ghost use Rattle.sim_happen_model.specs.HappenOf.{held};
-ghost use Rattle.sim_steps_model.specs.Becoming.{AreFew, Moves};
+ghost use Rattle.sim_steps_model.specs.Becoming.{AreFew};
 ghost use Rattle.sim_steps_model.specs.Resting.{CanStep, rest_in};
 ghost use Rattle.sim_steps_model.specs.PartsOf.{HasRoomForNext, HasUnitRoom, IsRunningIn, IsRunningAt, KeepsButRoom, next_takes_room};
+ghost use Rattle.sim_steps_model.specs.QuietUnits.{MovesAtLast};
 ghost use Rattle.sim_steps_model.specs.StandsFor.{StandsForSome};
 
 use crate::ready::Ready;
@@ -12,7 +13,7 @@ use rand_pcg::Pcg64;
 use sim_memo::Memo;
 use sim_procs::{Body, Procs};
 use sim_shared::Shared;
-use sim_steps_model::{Mode, Rest, Unit};
+use sim_steps_model::{Mode, Rest, Unit, Units};
 use sim_types::{Callback, EventId, ProcId, Setup, Signal};
 use std::alloc::{AllocError, Global};
 use std::marker::Model;
@@ -158,9 +159,11 @@ impl<B: Body> Parts<B> {
         self.processed
     }
 
-    /// One unit: an event is popped, a callback is called, an event is settled, or a process is polled.
+    /// Units in a row, at most so many: an event is popped, a callback is called, an event is settled, or a process is polled;
+    /// one alone, or all but the last are polls in which a process asks for nothing.
     #[inline(always)]
-    pub fn unit(&mut self, code: &B::Code) -> Unit
+    pub fn units(&mut self, code: &B::Code, most: u32) -> Units
+        requires some { 1 ≤ most }
         requires code { code.now ≡ self.old.code }
         requires stands { StandsForSome B.body self.old }
         requires can { CanStep self.old }
@@ -169,16 +172,23 @@ impl<B: Body> Parts<B> {
         requires few { AreFew (2 ^ 40) (held self.old.shared.happen) }
         requires events { length self.old.shared.happen.events + 40 ≤ 2 ^ 62 }
         requires processed { self.old.processed < 2 ^ 62 }
-        ensures moves { Moves B.body self.old result self.new }
+        ensures most { result.made ≤ most }
+        ensures moves { MovesAtLast B.body result.made self.old result.last self.new }
     {
         let _slots = self.slots();
         match self.mode {
-            Mode::Idle => self.pop(),
+            Mode::Idle => Units {
+                made: 1,
+                last: self.pop(),
+            },
             Mode::Calling(event) => {
                 self.call(event);
-                Unit::Quiet
+                Units {
+                    made: 1,
+                    last: Unit::Quiet,
+                }
             }
-            Mode::Active(event, process, told) => self.poll(code, event, process, told),
+            Mode::Active(event, process, told) => self.poll(code, event, process, told, most),
             Mode::Over(_, _) => unreachable!(),
         }
     }

@@ -1,49 +1,77 @@
 //! A process is polled, and what it asks for is done.
-ghost use Rattle.std.specs.Prelude.{◌≡◌, ◌+◌, ◌<◌, ◌≤◌, ◌^◌, [], length, IsSome, IsSomeAnd};
+ghost use Rattle.std.specs.Prelude.{◌≡◌, ◌+◌, ◌<◌, ◌≤◌, ◌^◌, ℕ, [], length, Option, None, IsFalse, IsSome, IsSomeAnd};
+ghost use Rattle.sim_types.specs.declared.event.Signal.TheVariants as signal;
+ghost use Rattle.sim_machine.specs.Processes.{told_more};
 ghost use Rattle.sim_machine.specs.Setups.{FitsCode};
 ghost use Rattle.sim_events.specs.TableOf.{AreNeeded};
 ghost use Rattle.sim_happen_model.specs.HappenOf.{AreHeldByFew, held};
 ghost use Rattle.sim_procs.specs.RecordOf.{record_of};
-ghost use Rattle.sim_steps_model.specs.Becoming.{AreFew, IsOwing, Moves};
+ghost use Rattle.sim_steps_model.specs.Becoming.{AreFew, IsOwing};
 ghost use Rattle.sim_steps_model.specs.Dropping.{CanLeave};
 ghost use Rattle.sim_steps_model.specs.PartsOf.{HasUnitRoom, IsRunning, IsRunningIn};
-ghost use Rattle.sim_steps_model.specs.Polling.{Asks, AsksOwing, DoesAsked, NamesKept, event_placed, place_given};
+ghost use Rattle.sim_steps_model.specs.Polling.{NamesKept, event_placed, place_changed, place_given};
+ghost use Rattle.sim_steps_model.specs.QuietUnits.{AsksAtLast, AsksOwingAtLast, DoesAskedAtLast, MovesAtLast};
 ghost use Rattle.sim_steps_model.specs.Resources.{AreResourcesReady};
 ghost use Rattle.sim_steps_model.specs.StandsFor.{StandsForSome};
 
 use crate::parts::Parts;
 use sim_procs::Body;
-use sim_steps_model::Unit;
+use sim_steps_model::{Mode, Unit, Units};
 use sim_types::{EventId, FAILURE, Line, Op, Outcome, ProcId, Signal, Throw};
 
+// Whether a process that is told this may put an event into a place.
+fn fills_place(told: Signal) -> bool
+    ensures { IsFalse result → (at : Option ℕ) → place_changed at told ≡ None }
+{
+    matches!(told, Signal::Made(_))
+}
+
 impl<B: Body> Parts<B> {
-    // Polls the body of the running process: it is told this, and asks for an operation.
+    // Polls the body of the running process, at most so many times in a row: it is told this in the first, and asks for
+    // nothing in all but the last. The answer is how often it was polled.
+    #[inline(always)]
     fn poll_body(
         &mut self,
         code: &B::Code,
         event: EventId,
         process: ProcId,
         told: Signal,
+        most: u32,
         asked: &mut Op,
-    )
+    ) -> u32
+        requires some { 1 ≤ most }
         requires code { code.now ≡ self.old.code }
         requires stands { StandsForSome B.body self.old }
         requires running { IsRunning event process told self.old.control }
         requires events { length self.old.shared.happen.events < 2 ^ 62 }
-        ensures asked { Asks B.body process told self.old asked.new self.new }
-        ensures happen { self.new.shared.happen ≡ self.old.shared.happen }
+        ensures most { result ≤ most }
+        ensures asks { AsksAtLast B.body process told result self.old asked.new self.new }
         ensures resources { self.new.shared.setup ≡ self.new.setup.resources }
         ensures scopes { IsSomeAnd (record_of process self.new.live)
             (λ r. r.room ≡ B.most_open code.now) }
     {
         let time = self.shared.happen().now();
-        self.processes
-            .body_mut(process)
-            .poll(code, time, told, asked);
+        let body = self.processes.body_mut(process);
+        let made = body.poll(code, time, told, most, asked);
+        if made > 1 {
+            self.tell_done();
+        }
+        made
+    }
+
+    // The running process is told next that this is done.
+    fn tell_done(&mut self)
+        ensures { self.new
+            ≡ record self.old { control = told_more signal.Done self.old.control } }
+    {
+        if let Mode::Active(_, _, told) = &mut self.mode {
+            *told = Signal::Done;
+        }
     }
 
     // Polls the running process, and takes a holder of what then stands in the place that changes. What it asks for names
     // events that are kept.
+    #[inline(always)]
     fn ask(
         &mut self,
         code: &B::Code,
@@ -51,19 +79,23 @@ impl<B: Body> Parts<B> {
         process: ProcId,
         told: Signal,
         place: Option<u8>,
+        most: u32,
         asked: &mut Op,
-    )
+    ) -> u32
         requires code { code.now ≡ self.old.code }
         requires stands { StandsForSome B.body self.old }
         requires running { IsRunning event process told self.old.control }
         requires place { place
             ≡ place_given (B.told_place code.now) told (record_of process self.old.live) }
+        requires some { 1 ≤ most }
+        requires once { 1 < most → (at : Option ℕ) → place_changed at told ≡ None }
         requires fits { FitsCode (B.body.facts code.now) self.old.setup }
         requires few { AreFew (2 ^ 40) (held self.old.shared.happen) }
         requires needed { AreNeeded self.old.shared.happen.events }
         requires room { HasUnitRoom self.old }
         requires events { length self.old.shared.happen.events + 40 ≤ 2 ^ 62 }
-        ensures asked { AsksOwing B.body process told
+        ensures most { result ≤ most }
+        ensures asked { AsksOwingAtLast B.body event process result
             (event_placed B.events_held place (record_of process self.old.live))
             self.old asked.new self.new }
         ensures resources { self.new.shared.setup ≡ self.new.setup.resources }
@@ -80,9 +112,10 @@ impl<B: Body> Parts<B> {
         ensures owing { IsOwing B.body [] self.new }
         ensures can { CanLeave B.body self.new }
     {
-        self.poll_body(code, event, process, told, asked);
+        let made = self.poll_body(code, event, process, told, most, asked);
         let now = self.event_in(process, place);
         self.hold(now);
+        made
     }
 
     // Polls the running process, and does what it asks for. What stood in the place that changed is still to be given back.
@@ -94,23 +127,27 @@ impl<B: Body> Parts<B> {
         process: ProcId,
         told: Signal,
         place: Option<u8>,
-    ) -> Unit
+        most: u32,
+    ) -> Units
         requires code { code.now ≡ self.old.code }
         requires stands { StandsForSome B.body self.old }
         requires running { IsRunning event process told self.old.control }
         requires place { place
             ≡ place_given (B.told_place code.now) told (record_of process self.old.live) }
+        requires some { 1 ≤ most }
+        requires once { 1 < most → (at : Option ℕ) → place_changed at told ≡ None }
         requires fits { FitsCode (B.body.facts code.now) self.old.setup }
         requires room { HasUnitRoom self.old }
         requires few { AreFew (2 ^ 40) (held self.old.shared.happen) }
         requires needed { AreNeeded self.old.shared.happen.events }
         requires events { length self.old.shared.happen.events + 40 ≤ 2 ^ 62 }
-        ensures does { DoesAsked B.body process
+        ensures most { result.made ≤ most }
+        ensures does { DoesAskedAtLast B.body event process result.made
             (event_placed B.events_held place (record_of process self.old.live))
-            self.old result self.new }
+            self.old result.last self.new }
     {
         let mut asked = Op::Nop;
-        self.ask(code, event, process, told, place, &mut asked);
+        let made = self.ask(code, event, process, told, place, most, &mut asked);
         match asked {
             Op::Nop => self.tell(event, process, Signal::Done),
             Op::Timeout(delay, value) => self.timeout(event, process, delay, value),
@@ -157,16 +194,21 @@ impl<B: Body> Parts<B> {
             Op::Log(value) => {
                 self.tell(event, process, Signal::Done);
                 let time = self.shared.happen().now();
-                return Unit::Line(Line::Log {
+                let last = Unit::Line(Line::Log {
                     time,
                     process,
                     value,
                 });
+                return Units { made, last };
             }
         }
-        Unit::Quiet
+        let last = Unit::Quiet;
+        Units { made, last }
     }
-    /// Polls the running process, does what it asks for, and gives back what its body names no more.
+
+    /// Polls the running process, at most so many times in a row, does what it asks for in the last, and gives back what its
+    /// body names no more. Who is told of an event that it made is polled once: that event goes into a place, and what stood
+    /// there is to be given back.
     #[inline(always)]
     pub(crate) fn poll(
         &mut self,
@@ -174,7 +216,9 @@ impl<B: Body> Parts<B> {
         event: EventId,
         process: ProcId,
         told: Signal,
-    ) -> Unit
+        most: u32,
+    ) -> Units
+        requires some { 1 ≤ most }
         requires code { code.now ≡ self.old.code }
         requires stands { StandsForSome B.body self.old }
         requires running { IsRunning event process told self.old.control }
@@ -183,12 +227,14 @@ impl<B: Body> Parts<B> {
         requires few { AreFew (2 ^ 40) (held self.old.shared.happen) }
         requires needed { AreNeeded self.old.shared.happen.events }
         requires events { length self.old.shared.happen.events + 40 ≤ 2 ^ 62 }
-        ensures moves { Moves B.body self.old result self.new }
+        ensures most { result.made ≤ most }
+        ensures moves { MovesAtLast B.body result.made self.old result.last self.new }
     {
         let place = self.place_told(code, process, told);
         let left = self.event_in(process, place);
-        let unit = self.do_asked(code, event, process, told, place);
+        let most = if fills_place(told) { 1 } else { most };
+        let units = self.do_asked(code, event, process, told, place, most);
         self.unhold(left);
-        unit
+        units
     }
 }

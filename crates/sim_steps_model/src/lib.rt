@@ -4,4 +4,4 @@
 
 mod mode;
 
-pub use mode::{Mode, Rest, Unit};
+pub use mode::{Mode, Rest, Unit, Units};

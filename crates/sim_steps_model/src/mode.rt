@@ -34,3 +34,12 @@ pub enum Unit {
     /// It writes this line.
     Line(Line),
 }
+
+/// Units that were made in a row. In all but the last a process that ran asked for nothing, and they write nothing.
+#[derive(Clone, Copy, Debug, PartialEq, Eq)]
+pub struct Units {
+    /// How many there were.
+    pub made: u32,
+    /// What the last answers.
+    pub last: Unit,
+}

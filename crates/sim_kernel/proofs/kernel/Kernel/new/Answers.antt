@@ -1,6 +1,6 @@
 use Rattle.std.proofs.Common.{◌≡◌, ◌∙◌}
 use Rattle.sim_kernel.proofs.OpeningHolds.{opens_lawfully}
-use Rattle.sim_kernel.proofs.Units.{balance_accounts}
+use Rattle.sim_kernel.proofs.UnitSteps.{balance_accounts}
 use Rattle.sim_machine.specs.Runs.{opening}
 use Rattle.sim_steps_model.specs.PartsOf.{plan_of}
 use Rattle.sim_kernel.proofs.kernel.Kernel.new.Goals as goal

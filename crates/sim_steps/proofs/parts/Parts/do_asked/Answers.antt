@@ -5,12 +5,14 @@ use Rattle.sim_types.specs.declared.op.Op.TheVariants as op
 use Rattle.sim_steps_model.specs.declared.mode.Unit.TheVariants as unit
 use Rattle.sim_steps_model.specs.Opening.{most_begun}
 use Rattle.sim_steps_model.specs.PartsOf.{PartsOf}
+use Rattle.sim_steps_model.specs.QuietUnits.{with_live}
 use Rattle.sim_steps_law.proofs.AskedPlaces.{all_stand}
 use Rattle.sim_steps_law.proofs.Becoming.{becomes_told}
 use Rattle.sim_steps_law.proofs.DroppableProcesses.{polled_droppable}
 use Rattle.sim_steps_law.proofs.EndedProcesses.{ended_scopes, polled_open}
 use Rattle.sim_steps_law.proofs.HeldScopes.{releases_at}
-use Rattle.sim_steps_law.proofs.Polls.{ReadsPlaces, does_asked, logs_asked}
+use Rattle.sim_steps_law.proofs.Polls.{ReadsPlaces}
+use Rattle.sim_steps_law.proofs.QuietPolls.{does_at_last, logs_at_last}
 use Rattle.sim_steps_law.proofs.Naming.{first_cancelled, first_named, second_named, first_triggered}
 use Rattle.sim_steps_law.proofs.SpawnedProcesses.{polled_time, spawned_can_begin, spawned_kept, spawned_none}
 use Rattle.sim_steps_law.proofs.AskedResources.{polled_may, polled_moves_at, polled_requests_at, polled_within}
@@ -18,455 +20,406 @@ use Rattle.sim_steps_law.proofs.AskedScopes.{entered_at, found_now, has_scope, p
 use Rattle.sim_steps.proofs.parts.Parts.do_asked.Goals as goal
 
 pub wait-requires-clause-kept : goal.wait-requires-clause-kept
-wait-requires-clause-kept g c = first_named (g.B.LawfulBody.body.facts c.args.code.now) c.ask.new.self (op.Wait c.in-Wait.on) c.in-Wait.on [] refl
-    (rw c.in-Wait.is at c.ask.ensures.names)
+wait-requires-clause-kept g c =
+    first_named (g.B.LawfulBody.body.facts c.args.code.now) c.ask-made.new.self (op.Wait c.in-Wait.on) c.in-Wait.on [] refl
+    (rw c.in-Wait.is at c.ask-made.ensures.names)
 
 pub trigger_by-requires-clause-kept : goal.trigger_by-requires-clause-kept
 trigger_by-requires-clause-kept g c =
-    first_named (g.B.LawfulBody.body.facts c.args.code.now) c.ask.new.self (op.Succeed c.in-Succeed.triggered c.in-Succeed.value)
-    c.in-Succeed.triggered [] refl (rw c.in-Succeed.is at c.ask.ensures.names)
+    first_named (g.B.LawfulBody.body.facts c.args.code.now) c.ask-made.new.self (op.Succeed c.in-Succeed.triggered c.in-Succeed.value)
+    c.in-Succeed.triggered [] refl (rw c.in-Succeed.is at c.ask-made.ensures.names)
 
 pub trigger_by-requires-clause-not_cancelled : goal.trigger_by-requires-clause-not_cancelled
 trigger_by-requires-clause-not_cancelled g c =
-    first_triggered (g.B.LawfulBody.body.facts c.args.code.now) c.ask.new.self (op.Succeed c.in-Succeed.triggered c.in-Succeed.value)
-    c.in-Succeed.triggered [] refl (rw c.in-Succeed.is at c.ask.ensures.names)
+    first_triggered (g.B.LawfulBody.body.facts c.args.code.now) c.ask-made.new.self (op.Succeed c.in-Succeed.triggered c.in-Succeed.value)
+    c.in-Succeed.triggered [] refl (rw c.in-Succeed.is at c.ask-made.ensures.names)
 
 pub trigger_by-requires-in-Fail-clause-kept : goal.trigger_by-requires-in-Fail-clause-kept
 trigger_by-requires-in-Fail-clause-kept g c =
-    first_named (g.B.LawfulBody.body.facts c.args.code.now) c.ask.new.self (op.Fail c.in-Fail.triggered c.in-Fail.value) c.in-Fail.triggered [] refl
-    (rw c.in-Fail.is at c.ask.ensures.names)
+    first_named (g.B.LawfulBody.body.facts c.args.code.now) c.ask-made.new.self (op.Fail c.in-Fail.triggered c.in-Fail.value) c.in-Fail.triggered []
+    refl (rw c.in-Fail.is at c.ask-made.ensures.names)
 
 pub trigger_by-requires-in-Fail-clause-not_cancelled : goal.trigger_by-requires-in-Fail-clause-not_cancelled
 trigger_by-requires-in-Fail-clause-not_cancelled g c =
-    first_triggered (g.B.LawfulBody.body.facts c.args.code.now) c.ask.new.self (op.Fail c.in-Fail.triggered c.in-Fail.value) c.in-Fail.triggered []
-    refl (rw c.in-Fail.is at c.ask.ensures.names)
+    first_triggered (g.B.LawfulBody.body.facts c.args.code.now) c.ask-made.new.self (op.Fail c.in-Fail.triggered c.in-Fail.value)
+    c.in-Fail.triggered [] refl (rw c.in-Fail.is at c.ask-made.ensures.names)
 
 pub chain-requires-clause-source : goal.chain-requires-clause-source
 chain-requires-clause-source g c =
-    first_named (g.B.LawfulBody.body.facts c.args.code.now) c.ask.new.self (op.Chain c.in-Chain.source c.in-Chain.other) c.in-Chain.source
-    (c.in-Chain.other ∷ []) refl (rw c.in-Chain.is at c.ask.ensures.names)
+    first_named (g.B.LawfulBody.body.facts c.args.code.now) c.ask-made.new.self (op.Chain c.in-Chain.source c.in-Chain.other) c.in-Chain.source
+    (c.in-Chain.other ∷ []) refl (rw c.in-Chain.is at c.ask-made.ensures.names)
 
 pub chain-requires-clause-other : goal.chain-requires-clause-other
 chain-requires-clause-other g c =
-    second_named (g.B.LawfulBody.body.facts c.args.code.now) c.ask.new.self (op.Chain c.in-Chain.source c.in-Chain.other) c.in-Chain.source
-    c.in-Chain.other [] refl (rw c.in-Chain.is at c.ask.ensures.names)
+    second_named (g.B.LawfulBody.body.facts c.args.code.now) c.ask-made.new.self (op.Chain c.in-Chain.source c.in-Chain.other) c.in-Chain.source
+    c.in-Chain.other [] refl (rw c.in-Chain.is at c.ask-made.ensures.names)
 
 pub chain-requires-clause-not_cancelled : goal.chain-requires-clause-not_cancelled
 chain-requires-clause-not_cancelled g c =
-    first_triggered (g.B.LawfulBody.body.facts c.args.code.now) c.ask.new.self (op.Chain c.in-Chain.source c.in-Chain.other) c.in-Chain.other [] refl
-    (rw c.in-Chain.is at c.ask.ensures.names)
+    first_triggered (g.B.LawfulBody.body.facts c.args.code.now) c.ask-made.new.self (op.Chain c.in-Chain.source c.in-Chain.other) c.in-Chain.other []
+    refl (rw c.in-Chain.is at c.ask-made.ensures.names)
 
 pub has-requires-clause-kept : goal.has-requires-clause-kept
 has-requires-clause-kept g c =
-    first_named (g.B.LawfulBody.body.facts c.args.code.now) c.ask.new.self (op.Has c.in-Has.condition c.in-Has.other) c.in-Has.condition
-    (c.in-Has.other ∷ []) refl (rw c.in-Has.is at c.ask.ensures.names)
+    first_named (g.B.LawfulBody.body.facts c.args.code.now) c.ask-made.new.self (op.Has c.in-Has.condition c.in-Has.other) c.in-Has.condition
+    (c.in-Has.other ∷ []) refl (rw c.in-Has.is at c.ask-made.ensures.names)
 
 pub spawn-requires-clause-can : goal.spawn-requires-clause-can
 spawn-requires-clause-can g c =
-    let old = c.args.self.now in
-    rw c.requires.code (spawned_can_begin g.B.LawfulBody.body old c.ask.new.self c.args.event c.args.process c.args.told c.in-Spawn.kind
-    c.in-Spawn.args c.requires.stands c.requires.needed (rw (← c.requires.code) c.requires.fits) (g.B.LawfulBody.lawful old.code)
-    (omega (arith, c.requires.events)) c.requires.running (rw c.in-Spawn.is at c.ask.ensures.asked).asks
-    (rw (← c.requires.code) (rw c.in-Spawn.is at c.ask.ensures.names)))
+    let a = rw c.in-Spawn.is at c.ask-made.ensures.asked in
+    let old = with_live a.before.live a.before.control c.args.self.now in
+    rw c.requires.code (spawned_can_begin g.B.LawfulBody.body old c.ask-made.new.self c.args.event c.args.process a.before.told c.in-Spawn.kind
+    c.in-Spawn.args a.before.stands c.requires.needed (rw (← c.requires.code) c.requires.fits) (g.B.LawfulBody.lawful old.code)
+    (omega (arith, c.requires.events)) a.before.running a.last.asks (rw (← c.requires.code) (rw c.in-Spawn.is at c.ask-made.ensures.names)))
 
 pub spawn-requires-clause-time : goal.spawn-requires-clause-time
 spawn-requires-clause-time g c =
-    polled_time g.B.LawfulBody.body c.args.self.now c.ask.new.self c.args.process c.args.told (op.Spawn c.in-Spawn.kind c.in-Spawn.args)
-    c.requires.stands (rw c.in-Spawn.is at c.ask.ensures.asked).asks
+    let a = rw c.in-Spawn.is at c.ask-made.ensures.asked in
+    let old = with_live a.before.live a.before.control c.args.self.now in
+    polled_time g.B.LawfulBody.body old c.ask-made.new.self c.args.process a.before.told (op.Spawn c.in-Spawn.kind c.in-Spawn.args) a.before.stands
+    a.last.asks
 
 pub spawn-requires-clause-not_alive : goal.spawn-requires-clause-not_alive
 spawn-requires-clause-not_alive g c =
-    spawned_none g.B.LawfulBody.body c.args.self.now c.ask.new.self c.args.process c.args.told (op.Spawn c.in-Spawn.kind c.in-Spawn.args)
-    c.requires.stands (rw c.in-Spawn.is at c.ask.ensures.asked).asks
+    let a = rw c.in-Spawn.is at c.ask-made.ensures.asked in
+    let old = with_live a.before.live a.before.control c.args.self.now in
+    spawned_none g.B.LawfulBody.body old c.ask-made.new.self c.args.process a.before.told (op.Spawn c.in-Spawn.kind c.in-Spawn.args) a.before.stands
+    a.last.asks
 
 pub end-requires-clause-alive : goal.end-requires-clause-alive
 end-requires-clause-alive g c =
-    ended_scopes g.B.LawfulBody.body c.args.self.now c.ask.new.self c.args.process c.args.told (op.Finish c.in-Finish.value) c.args.event
-    (λ own places scopes h. h) (g.B.LawfulBody.lawful c.args.self.now.code) c.requires.stands (omega (arith, c.requires.events)) c.requires.running
-    (rw c.in-Finish.is at c.ask.ensures.asked).asks
+    let a = rw c.in-Finish.is at c.ask-made.ensures.asked in
+    let old = with_live a.before.live a.before.control c.args.self.now in
+    ended_scopes g.B.LawfulBody.body old c.ask-made.new.self c.args.process a.before.told (op.Finish c.in-Finish.value) c.args.event
+    (λ own places scopes h. h) (g.B.LawfulBody.lawful old.code) a.before.stands (omega (arith, c.requires.events)) a.before.running a.last.asks
 
 pub end-requires-clause-is_open : goal.end-requires-clause-is_open
 end-requires-clause-is_open g c =
-    polled_open g.B.LawfulBody.body c.args.self.now c.ask.new.self c.args.process c.args.told _ c.requires.stands c.requires.needed
-    (rw c.in-Finish.is at c.ask.ensures.asked).asks
+    let a = rw c.in-Finish.is at c.ask-made.ensures.asked in
+    let old = with_live a.before.live a.before.control c.args.self.now in
+    polled_open g.B.LawfulBody.body old c.ask-made.new.self c.args.process a.before.told _ a.before.stands c.requires.needed a.last.asks
 
 pub end-requires-in-Die-clause-alive : goal.end-requires-in-Die-clause-alive
 end-requires-in-Die-clause-alive g c =
-    ended_scopes g.B.LawfulBody.body c.args.self.now c.ask.new.self c.args.process c.args.told (op.Die c.in-Die.what) c.args.event
-    (λ own places scopes h. h) (g.B.LawfulBody.lawful c.args.self.now.code) c.requires.stands (omega (arith, c.requires.events)) c.requires.running
-    (rw c.in-Die.is at c.ask.ensures.asked).asks
+    let a = rw c.in-Die.is at c.ask-made.ensures.asked in
+    let old = with_live a.before.live a.before.control c.args.self.now in
+    ended_scopes g.B.LawfulBody.body old c.ask-made.new.self c.args.process a.before.told (op.Die c.in-Die.what) c.args.event
+    (λ own places scopes h. h) (g.B.LawfulBody.lawful old.code) a.before.stands (omega (arith, c.requires.events)) a.before.running a.last.asks
 
 pub end-requires-in-Die-clause-is_open : goal.end-requires-in-Die-clause-is_open
 end-requires-in-Die-clause-is_open g c =
-    polled_open g.B.LawfulBody.body c.args.self.now c.ask.new.self c.args.process c.args.told _ c.requires.stands c.requires.needed
-    (rw c.in-Die.is at c.ask.ensures.asked).asks
+    let a = rw c.in-Die.is at c.ask-made.ensures.asked in
+    let old = with_live a.before.live a.before.control c.args.self.now in
+    polled_open g.B.LawfulBody.body old c.ask-made.new.self c.args.process a.before.told _ a.before.stands c.requires.needed a.last.asks
 
-pub returns-in-Nop : goal.returns-in-Nop
-returns-in-Nop g c =
-    record {
-      does = does_asked g.B.LawfulBody.body 0 c.args.self.now c.ask.new.self _ c.args.event c.args.process c.args.told _ op.Nop unit.Quiet
-          c.requires.running (rw c.in-Nop.is at c.ask.ensures.asked) refl (omega arith) (rw c.tell.ensures (becomes_told signal.Done c.ask.new.self));
-    }
+pub returns-in-Nop-clause-does : goal.returns-in-Nop-clause-does
+returns-in-Nop-clause-does g c =
+    does_at_last g.B.LawfulBody.body c.args.event c.args.process _ _ c.args.self.now c.ask-made.new.self _ 0 op.Nop unit.Quiet
+    (rw c.in-Nop.is at c.ask-made.ensures.asked) refl (omega arith) (rw c.tell.ensures (becomes_told signal.Done c.ask-made.new.self))
 
-pub returns-in-Log : goal.returns-in-Log
-returns-in-Log g c =
+pub returns-in-Log-clause-does : goal.returns-in-Log-clause-does
+returns-in-Log-clause-does g c =
     let value : FitsSigned w64 c.in-Log.value = search rules in
     let time : FitsSigned w64 c.now-time.result = search rules in
     let now = to_z-of_z w64 c.now-time.result time ∙ (c.now-time.ensures ∙ ap (λ h. h.time) c.happen.ensures ∙ ap
     (λ (v : PartsOf g.row.B.Denot g.row.B-Code.Denot). v.shared.happen.time) c.self.view_is) in
-    record {
-      does = logs_asked g.B.LawfulBody.body c.args.self.now c.ask.new.self c.tell-in-Log.new.self c.args.event c.args.process c.args.told _
-          c.in-Log.value _ _ c.requires.running (rw c.in-Log.is at c.ask.ensures.asked) now (to_z-of_z w64 c.in-Log.value value) c.tell-in-Log.ensures;
-    }
+    logs_at_last g.B.LawfulBody.body c.args.event c.args.process _ _ c.args.self.now c.ask-made.new.self c.tell-in-Log.new.self c.in-Log.value _ _
+    (rw c.in-Log.is at c.ask-made.ensures.asked) now (to_z-of_z w64 c.in-Log.value value) c.tell-in-Log.ensures
 
-pub returns-in-Draw : goal.returns-in-Draw
-returns-in-Draw g c =
+pub returns-in-Draw-clause-does : goal.returns-in-Draw-clause-does
+returns-in-Draw-clause-does g c =
     let lo : FitsSigned w64 c.in-Draw.lo = search rules in
     let hi : FitsSigned w64 c.in-Draw.hi = search rules in
-    record {
-      does = does_asked g.B.LawfulBody.body 0 c.args.self.now c.ask.new.self _ c.args.event c.args.process c.args.told _
-          (op.Draw c.in-Draw.lo c.in-Draw.hi) unit.Quiet c.requires.running (rw c.in-Draw.is at c.ask.ensures.asked) refl (omega arith)
-          (rw (to_z-of_z w64 c.in-Draw.lo lo, to_z-of_z w64 c.in-Draw.hi hi) at c.draw.ensures.becomes);
-    }
+    does_at_last g.B.LawfulBody.body c.args.event c.args.process _ _ c.args.self.now c.ask-made.new.self _ 0 (op.Draw c.in-Draw.lo c.in-Draw.hi)
+    unit.Quiet (rw c.in-Draw.is at c.ask-made.ensures.asked) refl (omega arith)
+    (rw (to_z-of_z w64 c.in-Draw.lo lo, to_z-of_z w64 c.in-Draw.hi hi) at c.draw.ensures.becomes)
 
-pub returns-in-Pause : goal.returns-in-Pause
-returns-in-Pause g c =
+pub returns-in-Pause-clause-does : goal.returns-in-Pause-clause-does
+returns-in-Pause-clause-does g c =
     let delay : FitsSigned w64 c.in-Pause.delay = search rules in
     let value : FitsSigned w64 c.in-Pause.value = search rules in
-    record {
-      does = does_asked g.B.LawfulBody.body 1 c.args.self.now c.ask.new.self _ c.args.event c.args.process c.args.told _
-          (op.Pause c.in-Pause.delay c.in-Pause.value) unit.Quiet c.requires.running (rw c.in-Pause.is at c.ask.ensures.asked) refl (omega arith)
-          (rw (to_z-of_z w64 c.in-Pause.delay delay, to_z-of_z w64 c.in-Pause.value value) at c.pause.ensures.becomes);
-    }
+    does_at_last g.B.LawfulBody.body c.args.event c.args.process _ _ c.args.self.now c.ask-made.new.self _ 1
+    (op.Pause c.in-Pause.delay c.in-Pause.value) unit.Quiet (rw c.in-Pause.is at c.ask-made.ensures.asked) refl (omega arith) (rw
+    (to_z-of_z w64 c.in-Pause.delay delay, to_z-of_z w64 c.in-Pause.value value) at c.pause.ensures.becomes)
 
-pub returns-in-Finish : goal.returns-in-Finish
-returns-in-Finish g c =
+pub returns-in-Finish-clause-does : goal.returns-in-Finish-clause-does
+returns-in-Finish-clause-does g c =
     let value : FitsSigned w64 c.in-Finish.value = search rules in
-    record {
-      does = does_asked g.B.LawfulBody.body 0 c.args.self.now c.ask.new.self _ c.args.event c.args.process c.args.told _
-          (op.Finish c.in-Finish.value) unit.Quiet c.requires.running (rw c.in-Finish.is at c.ask.ensures.asked) refl (omega arith)
-          (rw (to_z-of_z w64 c.in-Finish.value value) at c.end.ensures.becomes);
-    }
+    does_at_last g.B.LawfulBody.body c.args.event c.args.process _ _ c.args.self.now c.ask-made.new.self _ 0 (op.Finish c.in-Finish.value) unit.Quiet
+    (rw c.in-Finish.is at c.ask-made.ensures.asked) refl (omega arith) (rw (to_z-of_z w64 c.in-Finish.value value) at c.end.ensures.becomes)
 
-pub returns-in-Die : goal.returns-in-Die
-returns-in-Die g c =
-    record {
-      does = does_asked g.B.LawfulBody.body 0 c.args.self.now c.ask.new.self _ c.args.event c.args.process c.args.told _ (op.Die c.in-Die.what)
-          unit.Quiet c.requires.running (rw c.in-Die.is at c.ask.ensures.asked) refl (omega arith) c.end-in-Die.ensures.becomes;
-    }
+pub returns-in-Die-clause-does : goal.returns-in-Die-clause-does
+returns-in-Die-clause-does g c =
+    does_at_last g.B.LawfulBody.body c.args.event c.args.process _ _ c.args.self.now c.ask-made.new.self _ 0 (op.Die c.in-Die.what) unit.Quiet
+    (rw c.in-Die.is at c.ask-made.ensures.asked) refl (omega arith) c.end-in-Die.ensures.becomes
 
-pub returns-in-Timeout : goal.returns-in-Timeout
-returns-in-Timeout g c =
+pub returns-in-Timeout-clause-does : goal.returns-in-Timeout-clause-does
+returns-in-Timeout-clause-does g c =
     let delay : FitsSigned w64 c.in-Timeout.delay = search rules in
     let value : FitsSigned w64 c.in-Timeout.value = search rules in
     let becomes = rw (to_z-of_z w64 c.in-Timeout.delay delay, to_z-of_z w64 c.in-Timeout.value value) at c.timeout.ensures.becomes in
-    record {
-      does = does_asked g.B.LawfulBody.body 0 c.args.self.now c.ask.new.self _ c.args.event c.args.process c.args.told _
-          (op.Timeout c.in-Timeout.delay c.in-Timeout.value) unit.Quiet c.requires.running (rw c.in-Timeout.is at c.ask.ensures.asked) refl
-          (omega arith) becomes;
-    }
+    does_at_last g.B.LawfulBody.body c.args.event c.args.process _ _ c.args.self.now c.ask-made.new.self _ 0
+    (op.Timeout c.in-Timeout.delay c.in-Timeout.value) unit.Quiet (rw c.in-Timeout.is at c.ask-made.ensures.asked) refl (omega arith) becomes
 
-pub returns-in-Wait : goal.returns-in-Wait
-returns-in-Wait g c =
-    record {
-      does = does_asked g.B.LawfulBody.body 1 c.args.self.now c.ask.new.self _ c.args.event c.args.process c.args.told _ (op.Wait c.in-Wait.on)
-          unit.Quiet c.requires.running (rw c.in-Wait.is at c.ask.ensures.asked) refl (omega arith) c.wait.ensures.becomes;
-    }
+pub returns-in-Wait-clause-does : goal.returns-in-Wait-clause-does
+returns-in-Wait-clause-does g c =
+    does_at_last g.B.LawfulBody.body c.args.event c.args.process _ _ c.args.self.now c.ask-made.new.self _ 1 (op.Wait c.in-Wait.on) unit.Quiet
+    (rw c.in-Wait.is at c.ask-made.ensures.asked) refl (omega arith) c.wait.ensures.becomes
 
-pub returns-in-NewEvent : goal.returns-in-NewEvent
-returns-in-NewEvent g c =
-    record {
-      does = does_asked g.B.LawfulBody.body 0 c.args.self.now c.ask.new.self _ c.args.event c.args.process c.args.told _ op.NewEvent unit.Quiet
-          c.requires.running (rw c.in-NewEvent.is at c.ask.ensures.asked) refl (omega arith) c.new_event.ensures.becomes;
-    }
+pub returns-in-NewEvent-clause-does : goal.returns-in-NewEvent-clause-does
+returns-in-NewEvent-clause-does g c =
+    does_at_last g.B.LawfulBody.body c.args.event c.args.process _ _ c.args.self.now c.ask-made.new.self _ 0 op.NewEvent unit.Quiet
+    (rw c.in-NewEvent.is at c.ask-made.ensures.asked) refl (omega arith) c.new_event.ensures.becomes
 
-pub returns-in-Succeed : goal.returns-in-Succeed
-returns-in-Succeed g c =
+pub returns-in-Succeed-clause-does : goal.returns-in-Succeed-clause-does
+returns-in-Succeed-clause-does g c =
     let value : FitsSigned w64 c.in-Succeed.value = search rules in
     let becomes = rw (to_z-of_z w64 c.in-Succeed.value value) at c.trigger_by.ensures.becomes in
-    record {
-      does = does_asked g.B.LawfulBody.body 0 c.args.self.now c.ask.new.self _ c.args.event c.args.process c.args.told _
-          (op.Succeed c.in-Succeed.triggered c.in-Succeed.value) unit.Quiet c.requires.running (rw c.in-Succeed.is at c.ask.ensures.asked) refl
-          (omega arith) becomes;
-    }
+    does_at_last g.B.LawfulBody.body c.args.event c.args.process _ _ c.args.self.now c.ask-made.new.self _ 0
+    (op.Succeed c.in-Succeed.triggered c.in-Succeed.value) unit.Quiet (rw c.in-Succeed.is at c.ask-made.ensures.asked) refl (omega arith) becomes
 
-pub returns-in-Fail : goal.returns-in-Fail
-returns-in-Fail g c =
+pub returns-in-Fail-clause-does : goal.returns-in-Fail-clause-does
+returns-in-Fail-clause-does g c =
     let value : FitsSigned w64 c.in-Fail.value = search rules in
     let becomes = rw (to_z-of_z w64 c.in-Fail.value value) at c.trigger_by-in-Fail.ensures.becomes in
-    record {
-      does = does_asked g.B.LawfulBody.body 0 c.args.self.now c.ask.new.self _ c.args.event c.args.process c.args.told _
-          (op.Fail c.in-Fail.triggered c.in-Fail.value) unit.Quiet c.requires.running (rw c.in-Fail.is at c.ask.ensures.asked) refl (omega arith)
-          becomes;
-    }
+    does_at_last g.B.LawfulBody.body c.args.event c.args.process _ _ c.args.self.now c.ask-made.new.self _ 0
+    (op.Fail c.in-Fail.triggered c.in-Fail.value) unit.Quiet (rw c.in-Fail.is at c.ask-made.ensures.asked) refl (omega arith) becomes
 
-pub returns-in-Spawn : goal.returns-in-Spawn
-returns-in-Spawn g c =
-    record {
-      does = does_asked g.B.LawfulBody.body most_begun c.args.self.now c.ask.new.self _ c.args.event c.args.process c.args.told _
-          (op.Spawn c.in-Spawn.kind c.in-Spawn.args) unit.Quiet c.requires.running (rw c.in-Spawn.is at c.ask.ensures.asked) refl (omega arith)
-          c.spawn.ensures.becomes;
-    }
+pub returns-in-Spawn-clause-does : goal.returns-in-Spawn-clause-does
+returns-in-Spawn-clause-does g c =
+    does_at_last g.B.LawfulBody.body c.args.event c.args.process _ _ c.args.self.now c.ask-made.new.self _ most_begun
+    (op.Spawn c.in-Spawn.kind c.in-Spawn.args) unit.Quiet (rw c.in-Spawn.is at c.ask-made.ensures.asked) refl (omega arith) c.spawn.ensures.becomes
 
-pub returns-in-Interrupt : goal.returns-in-Interrupt
-returns-in-Interrupt g c =
+pub returns-in-Interrupt-clause-does : goal.returns-in-Interrupt-clause-does
+returns-in-Interrupt-clause-does g c =
     let cause : FitsSigned w64 c.in-Interrupt.cause = search rules in
     let becomes = rw (to_z-of_z w64 c.in-Interrupt.cause cause) at c.interrupt.ensures.becomes in
-    record {
-      does = does_asked g.B.LawfulBody.body 0 c.args.self.now c.ask.new.self _ c.args.event c.args.process c.args.told _
-          (op.Interrupt c.in-Interrupt.other c.in-Interrupt.cause) unit.Quiet c.requires.running (rw c.in-Interrupt.is at c.ask.ensures.asked) refl
-          (omega arith) becomes;
-    }
+    does_at_last g.B.LawfulBody.body c.args.event c.args.process _ _ c.args.self.now c.ask-made.new.self _ 0
+    (op.Interrupt c.in-Interrupt.other c.in-Interrupt.cause) unit.Quiet (rw c.in-Interrupt.is at c.ask-made.ensures.asked) refl (omega arith) becomes
 
-pub returns-in-Chain : goal.returns-in-Chain
-returns-in-Chain g c =
-    record {
-      does = does_asked g.B.LawfulBody.body 1 c.args.self.now c.ask.new.self _ c.args.event c.args.process c.args.told _
-          (op.Chain c.in-Chain.source c.in-Chain.other) unit.Quiet c.requires.running (rw c.in-Chain.is at c.ask.ensures.asked) refl (omega arith)
-          c.chain.ensures.becomes;
-    }
+pub returns-in-Chain-clause-does : goal.returns-in-Chain-clause-does
+returns-in-Chain-clause-does g c =
+    does_at_last g.B.LawfulBody.body c.args.event c.args.process _ _ c.args.self.now c.ask-made.new.self _ 1
+    (op.Chain c.in-Chain.source c.in-Chain.other) unit.Quiet (rw c.in-Chain.is at c.ask-made.ensures.asked) refl (omega arith) c.chain.ensures.becomes
 
-pub returns-in-Drop : goal.returns-in-Drop
-returns-in-Drop g c =
+pub returns-in-Drop-clause-does : goal.returns-in-Drop-clause-does
+returns-in-Drop-clause-does g c =
     let value : FitsSigned w64 c.in-Drop.value = search rules in
     let becomes = rw (to_z-of_z w64 c.in-Drop.value value) at c.drop_process.ensures.becomes in
-    record {
-      does = does_asked g.B.LawfulBody.body 0 c.args.self.now c.ask.new.self _ c.args.event c.args.process c.args.told _
-          (op.Drop c.in-Drop.other c.in-Drop.value) unit.Quiet c.requires.running (rw c.in-Drop.is at c.ask.ensures.asked) refl (omega arith) becomes;
-    }
+    does_at_last g.B.LawfulBody.body c.args.event c.args.process _ _ c.args.self.now c.ask-made.new.self _ 0 (op.Drop c.in-Drop.other c.in-Drop.value)
+    unit.Quiet (rw c.in-Drop.is at c.ask-made.ensures.asked) refl (omega arith) becomes
 
 pub make_condition-requires-clause-members : goal.make_condition-requires-clause-members
 make_condition-requires-clause-members g c =
-    let names = rw c.in-AllOf.is at c.ask.ensures.names in
+    let names = rw c.in-AllOf.is at c.ask-made.ensures.names in
     names.kept
 
-pub returns-in-AllOf : goal.returns-in-AllOf
-returns-in-AllOf g c =
-    record {
-      does = does_asked g.B.LawfulBody.body 16 c.args.self.now c.ask.new.self _ c.args.event c.args.process c.args.told _
-          (op.AllOf c.in-AllOf.members) unit.Quiet c.requires.running (rw c.in-AllOf.is at c.ask.ensures.asked) refl (omega arith)
-          c.make_condition.ensures.becomes;
-    }
+pub returns-in-AllOf-clause-does : goal.returns-in-AllOf-clause-does
+returns-in-AllOf-clause-does g c =
+    does_at_last g.B.LawfulBody.body c.args.event c.args.process _ _ c.args.self.now c.ask-made.new.self _ 16 (op.AllOf c.in-AllOf.members) unit.Quiet
+    (rw c.in-AllOf.is at c.ask-made.ensures.asked) refl (omega arith) c.make_condition.ensures.becomes
 
 pub make_condition-requires-in-AnyOf-clause-members : goal.make_condition-requires-in-AnyOf-clause-members
 make_condition-requires-in-AnyOf-clause-members g c =
-    let names = rw c.in-AnyOf.is at c.ask.ensures.names in
+    let names = rw c.in-AnyOf.is at c.ask-made.ensures.names in
     names.kept
 
-pub returns-in-AnyOf : goal.returns-in-AnyOf
-returns-in-AnyOf g c =
-    record {
-      does = does_asked g.B.LawfulBody.body 16 c.args.self.now c.ask.new.self _ c.args.event c.args.process c.args.told _
-          (op.AnyOf c.in-AnyOf.members) unit.Quiet c.requires.running (rw c.in-AnyOf.is at c.ask.ensures.asked) refl (omega arith)
-          c.make_condition-in-AnyOf.ensures.becomes;
-    }
+pub returns-in-AnyOf-clause-does : goal.returns-in-AnyOf-clause-does
+returns-in-AnyOf-clause-does g c =
+    does_at_last g.B.LawfulBody.body c.args.event c.args.process _ _ c.args.self.now c.ask-made.new.self _ 16 (op.AnyOf c.in-AnyOf.members) unit.Quiet
+    (rw c.in-AnyOf.is at c.ask-made.ensures.asked) refl (omega arith) c.make_condition-in-AnyOf.ensures.becomes
 
-pub returns-in-Has : goal.returns-in-Has
-returns-in-Has g c =
-    record {
-      does = does_asked g.B.LawfulBody.body 0 c.args.self.now c.ask.new.self _ c.args.event c.args.process c.args.told _
-          (op.Has c.in-Has.condition c.in-Has.other) unit.Quiet c.requires.running (rw c.in-Has.is at c.ask.ensures.asked) refl (omega arith)
-          c.has.ensures.becomes;
-    }
+pub returns-in-Has-clause-does : goal.returns-in-Has-clause-does
+returns-in-Has-clause-does g c =
+    does_at_last g.B.LawfulBody.body c.args.event c.args.process _ _ c.args.self.now c.ask-made.new.self _ 0
+    (op.Has c.in-Has.condition c.in-Has.other) unit.Quiet (rw c.in-Has.is at c.ask-made.ensures.asked) refl (omega arith) c.has.ensures.becomes
 
 pub put-requires-clause-resource : goal.put-requires-clause-resource
 put-requires-clause-resource g c =
-    polled_moves_at g.B.LawfulBody.body c.args.self.now c.ask.new.self c.args.process c.args.told
-    (op.Put c.in-Put.res c.in-Put.amount c.in-Put.priority) (rw c.in-Put.is at c.ask.ensures.asked).asks c.requires.stands c.args.event
-    (g.B.LawfulBody.lawful c.args.self.now.code) (rw c.requires.code at c.requires.fits) (omega (arith, c.requires.events)) c.requires.running
-    c.in-Put.res (λ own places scopes h. h)
+    let a = rw c.in-Put.is at c.ask-made.ensures.asked in
+    let old = with_live a.before.live a.before.control c.args.self.now in
+    polled_moves_at g.B.LawfulBody.body old c.ask-made.new.self c.args.process a.before.told (op.Put c.in-Put.res c.in-Put.amount c.in-Put.priority)
+    a.last.asks a.before.stands c.args.event (g.B.LawfulBody.lawful old.code) (rw c.requires.code at c.requires.fits)
+    (omega (arith, c.requires.events)) a.before.running c.in-Put.res (λ own places scopes h. h)
 
-pub returns-in-Put : goal.returns-in-Put
-returns-in-Put g c =
+pub returns-in-Put-clause-does : goal.returns-in-Put-clause-does
+returns-in-Put-clause-does g c =
     let amount : FitsSigned w64 c.in-Put.amount = search rules in
     let priority : FitsSigned w64 c.in-Put.priority = search rules in
     let becomes = rw (to_z-of_z w64 c.in-Put.amount amount, to_z-of_z w64 c.in-Put.priority priority) at c.put.ensures.becomes in
-    record {
-      does = does_asked g.B.LawfulBody.body 0 c.args.self.now c.ask.new.self _ c.args.event c.args.process c.args.told _
-          (op.Put c.in-Put.res c.in-Put.amount c.in-Put.priority) unit.Quiet c.requires.running (rw c.in-Put.is at c.ask.ensures.asked) refl
-          (omega arith) becomes;
-    }
+    does_at_last g.B.LawfulBody.body c.args.event c.args.process _ _ c.args.self.now c.ask-made.new.self _ 0
+    (op.Put c.in-Put.res c.in-Put.amount c.in-Put.priority) unit.Quiet (rw c.in-Put.is at c.ask-made.ensures.asked) refl (omega arith) becomes
 
 pub put_wait-requires-clause-resource : goal.put_wait-requires-clause-resource
 put_wait-requires-clause-resource g c =
-    polled_moves_at g.B.LawfulBody.body c.args.self.now c.ask.new.self c.args.process c.args.told
-    (op.PutWait c.in-PutWait.res c.in-PutWait.amount c.in-PutWait.priority) (rw c.in-PutWait.is at c.ask.ensures.asked).asks c.requires.stands
-    c.args.event (g.B.LawfulBody.lawful c.args.self.now.code) (rw c.requires.code at c.requires.fits) (omega (arith, c.requires.events))
-    c.requires.running c.in-PutWait.res (λ own places scopes h. h)
+    let a = rw c.in-PutWait.is at c.ask-made.ensures.asked in
+    let old = with_live a.before.live a.before.control c.args.self.now in
+    polled_moves_at g.B.LawfulBody.body old c.ask-made.new.self c.args.process a.before.told
+    (op.PutWait c.in-PutWait.res c.in-PutWait.amount c.in-PutWait.priority) a.last.asks a.before.stands c.args.event (g.B.LawfulBody.lawful old.code)
+    (rw c.requires.code at c.requires.fits) (omega (arith, c.requires.events)) a.before.running c.in-PutWait.res (λ own places scopes h. h)
 
-pub returns-in-PutWait : goal.returns-in-PutWait
-returns-in-PutWait g c =
+pub returns-in-PutWait-clause-does : goal.returns-in-PutWait-clause-does
+returns-in-PutWait-clause-does g c =
     let amount : FitsSigned w64 c.in-PutWait.amount = search rules in
     let priority : FitsSigned w64 c.in-PutWait.priority = search rules in
     let becomes = rw (to_z-of_z w64 c.in-PutWait.amount amount, to_z-of_z w64 c.in-PutWait.priority priority) at c.put_wait.ensures.becomes in
-    record {
-      does = does_asked g.B.LawfulBody.body 1 c.args.self.now c.ask.new.self _ c.args.event c.args.process c.args.told _
-          (op.PutWait c.in-PutWait.res c.in-PutWait.amount c.in-PutWait.priority) unit.Quiet c.requires.running
-          (rw c.in-PutWait.is at c.ask.ensures.asked) refl (omega arith) becomes;
-    }
+    does_at_last g.B.LawfulBody.body c.args.event c.args.process _ _ c.args.self.now c.ask-made.new.self _ 1
+    (op.PutWait c.in-PutWait.res c.in-PutWait.amount c.in-PutWait.priority) unit.Quiet (rw c.in-PutWait.is at c.ask-made.ensures.asked) refl
+    (omega arith) becomes
 
 pub get-requires-clause-resource : goal.get-requires-clause-resource
 get-requires-clause-resource g c =
-    polled_moves_at g.B.LawfulBody.body c.args.self.now c.ask.new.self c.args.process c.args.told
-    (op.Get c.in-Get.res c.in-Get.least c.in-Get.greatest) (rw c.in-Get.is at c.ask.ensures.asked).asks c.requires.stands c.args.event
-    (g.B.LawfulBody.lawful c.args.self.now.code) (rw c.requires.code at c.requires.fits) (omega (arith, c.requires.events)) c.requires.running
-    c.in-Get.res (λ own places scopes h. h)
+    let a = rw c.in-Get.is at c.ask-made.ensures.asked in
+    let old = with_live a.before.live a.before.control c.args.self.now in
+    polled_moves_at g.B.LawfulBody.body old c.ask-made.new.self c.args.process a.before.told (op.Get c.in-Get.res c.in-Get.least c.in-Get.greatest)
+    a.last.asks a.before.stands c.args.event (g.B.LawfulBody.lawful old.code) (rw c.requires.code at c.requires.fits)
+    (omega (arith, c.requires.events)) a.before.running c.in-Get.res (λ own places scopes h. h)
 
-pub returns-in-Get : goal.returns-in-Get
-returns-in-Get g c =
+pub returns-in-Get-clause-does : goal.returns-in-Get-clause-does
+returns-in-Get-clause-does g c =
     let least : FitsSigned w64 c.in-Get.least = search rules in
     let greatest : FitsSigned w64 c.in-Get.greatest = search rules in
     let becomes = rw (to_z-of_z w64 c.in-Get.least least, to_z-of_z w64 c.in-Get.greatest greatest) at c.get.ensures.becomes in
-    record {
-      does = does_asked g.B.LawfulBody.body 0 c.args.self.now c.ask.new.self _ c.args.event c.args.process c.args.told _
-          (op.Get c.in-Get.res c.in-Get.least c.in-Get.greatest) unit.Quiet c.requires.running (rw c.in-Get.is at c.ask.ensures.asked) refl
-          (omega arith) becomes;
-    }
+    does_at_last g.B.LawfulBody.body c.args.event c.args.process _ _ c.args.self.now c.ask-made.new.self _ 0
+    (op.Get c.in-Get.res c.in-Get.least c.in-Get.greatest) unit.Quiet (rw c.in-Get.is at c.ask-made.ensures.asked) refl (omega arith) becomes
 
 pub get_wait-requires-clause-resource : goal.get_wait-requires-clause-resource
 get_wait-requires-clause-resource g c =
-    polled_moves_at g.B.LawfulBody.body c.args.self.now c.ask.new.self c.args.process c.args.told
-    (op.GetWait c.in-GetWait.res c.in-GetWait.least c.in-GetWait.greatest) (rw c.in-GetWait.is at c.ask.ensures.asked).asks c.requires.stands
-    c.args.event (g.B.LawfulBody.lawful c.args.self.now.code) (rw c.requires.code at c.requires.fits) (omega (arith, c.requires.events))
-    c.requires.running c.in-GetWait.res (λ own places scopes h. h)
+    let a = rw c.in-GetWait.is at c.ask-made.ensures.asked in
+    let old = with_live a.before.live a.before.control c.args.self.now in
+    polled_moves_at g.B.LawfulBody.body old c.ask-made.new.self c.args.process a.before.told
+    (op.GetWait c.in-GetWait.res c.in-GetWait.least c.in-GetWait.greatest) a.last.asks a.before.stands c.args.event (g.B.LawfulBody.lawful old.code)
+    (rw c.requires.code at c.requires.fits) (omega (arith, c.requires.events)) a.before.running c.in-GetWait.res (λ own places scopes h. h)
 
-pub returns-in-GetWait : goal.returns-in-GetWait
-returns-in-GetWait g c =
+pub returns-in-GetWait-clause-does : goal.returns-in-GetWait-clause-does
+returns-in-GetWait-clause-does g c =
     let least : FitsSigned w64 c.in-GetWait.least = search rules in
     let greatest : FitsSigned w64 c.in-GetWait.greatest = search rules in
     let becomes = rw (to_z-of_z w64 c.in-GetWait.least least, to_z-of_z w64 c.in-GetWait.greatest greatest) at c.get_wait.ensures.becomes in
-    record {
-      does = does_asked g.B.LawfulBody.body 1 c.args.self.now c.ask.new.self _ c.args.event c.args.process c.args.told _
-          (op.GetWait c.in-GetWait.res c.in-GetWait.least c.in-GetWait.greatest) unit.Quiet c.requires.running
-          (rw c.in-GetWait.is at c.ask.ensures.asked) refl (omega arith) becomes;
-    }
+    does_at_last g.B.LawfulBody.body c.args.event c.args.process _ _ c.args.self.now c.ask-made.new.self _ 1
+    (op.GetWait c.in-GetWait.res c.in-GetWait.least c.in-GetWait.greatest) unit.Quiet (rw c.in-GetWait.is at c.ask-made.ensures.asked) refl
+    (omega arith) becomes
 
 pub count-requires-clause-within : goal.count-requires-clause-within
 count-requires-clause-within g c =
-    polled_within g.B.LawfulBody.body c.args.self.now c.ask.new.self c.args.process c.args.told (op.Count c.in-Count.res)
-    (rw c.in-Count.is at c.ask.ensures.asked).asks c.requires.stands c.args.event (g.B.LawfulBody.lawful c.args.self.now.code)
-    (rw c.requires.code at c.requires.fits) (omega (arith, c.requires.events)) c.requires.running (λ k. true) c.in-Count.res
-    (λ own places scopes h. h)
+    let a = rw c.in-Count.is at c.ask-made.ensures.asked in
+    let old = with_live a.before.live a.before.control c.args.self.now in
+    polled_within g.B.LawfulBody.body old c.ask-made.new.self c.args.process a.before.told (op.Count c.in-Count.res) a.last.asks a.before.stands
+    c.args.event (g.B.LawfulBody.lawful old.code) (rw c.requires.code at c.requires.fits) (omega (arith, c.requires.events)) a.before.running
+    (λ k. true) c.in-Count.res (λ own places scopes h. h)
 
-pub returns-in-Count : goal.returns-in-Count
-returns-in-Count g c =
-    record {
-      does = does_asked g.B.LawfulBody.body 0 c.args.self.now c.ask.new.self _ c.args.event c.args.process c.args.told _ (op.Count c.in-Count.res)
-          unit.Quiet c.requires.running (rw c.in-Count.is at c.ask.ensures.asked) refl (omega arith) c.count.ensures.becomes;
-    }
+pub returns-in-Count-clause-does : goal.returns-in-Count-clause-does
+returns-in-Count-clause-does g c =
+    does_at_last g.B.LawfulBody.body c.args.event c.args.process _ _ c.args.self.now c.ask-made.new.self _ 0 (op.Count c.in-Count.res) unit.Quiet
+    (rw c.in-Count.is at c.ask-made.ensures.asked) refl (omega arith) c.count.ensures.becomes
 
 pub cancel-requires-clause-kept : goal.cancel-requires-clause-kept
 cancel-requires-clause-kept g c =
-    first_named (g.B.LawfulBody.body.facts c.args.code.now) c.ask.new.self (op.Cancel c.in-Cancel.cancelled) c.in-Cancel.cancelled [] refl
-    (rw c.in-Cancel.is at c.ask.ensures.names)
+    first_named (g.B.LawfulBody.body.facts c.args.code.now) c.ask-made.new.self (op.Cancel c.in-Cancel.cancelled) c.in-Cancel.cancelled [] refl
+    (rw c.in-Cancel.is at c.ask-made.ensures.names)
 
-pub returns-in-Cancel : goal.returns-in-Cancel
-returns-in-Cancel g c =
-    record {
-      does = does_asked g.B.LawfulBody.body 0 c.args.self.now c.ask.new.self _ c.args.event c.args.process c.args.told _
-          (op.Cancel c.in-Cancel.cancelled) unit.Quiet c.requires.running (rw c.in-Cancel.is at c.ask.ensures.asked) refl (omega arith)
-          c.cancel.ensures.becomes;
-    }
+pub returns-in-Cancel-clause-does : goal.returns-in-Cancel-clause-does
+returns-in-Cancel-clause-does g c =
+    does_at_last g.B.LawfulBody.body c.args.event c.args.process _ _ c.args.self.now c.ask-made.new.self _ 0 (op.Cancel c.in-Cancel.cancelled)
+    unit.Quiet (rw c.in-Cancel.is at c.ask-made.ensures.asked) refl (omega arith) c.cancel.ensures.becomes
 
 pub enter-requires-clause-scopes : goal.enter-requires-clause-scopes
 enter-requires-clause-scopes g c =
-    polled_scopes g.B.LawfulBody.body c.args.self.now c.ask.new.self c.args.process c.args.told
-    (op.Enter c.in-Enter.res c.in-Enter.priority c.in-Enter.preempts) (rw c.in-Enter.is at c.ask.ensures.asked).asks c.requires.stands c.args.event
-    (g.B.LawfulBody.lawful c.args.self.now.code) (rw c.requires.code at c.requires.fits) (omega (arith, c.requires.events)) c.requires.running
-    (g.B.Body.most_open c.args.self.now.code) c.in-Enter.res _ c.in-Enter.preempts (g.met.B.Body.enters_within c.args.self.now.code) refl
-    (rw c.requires.code at c.ask.ensures.scopes)
+    let a = rw c.in-Enter.is at c.ask-made.ensures.asked in
+    let old = with_live a.before.live a.before.control c.args.self.now in
+    polled_scopes g.B.LawfulBody.body old c.ask-made.new.self c.args.process a.before.told
+    (op.Enter c.in-Enter.res c.in-Enter.priority c.in-Enter.preempts) a.last.asks a.before.stands c.args.event (g.B.LawfulBody.lawful old.code)
+    (rw c.requires.code at c.requires.fits) (omega (arith, c.requires.events)) a.before.running (g.B.Body.most_open old.code) c.in-Enter.res _
+    c.in-Enter.preempts (g.met.B.Body.enters_within old.code) refl (rw c.requires.code at c.ask-made.ensures.scopes)
 
 pub enter-requires-clause-resource : goal.enter-requires-clause-resource
 enter-requires-clause-resource g c =
-    polled_requests_at g.B.LawfulBody.body c.args.self.now c.ask.new.self c.args.process c.args.told
-    (op.Enter c.in-Enter.res c.in-Enter.priority c.in-Enter.preempts) (rw c.in-Enter.is at c.ask.ensures.asked).asks c.requires.stands c.args.event
-    (g.B.LawfulBody.lawful c.args.self.now.code) (rw c.requires.code at c.requires.fits) (omega (arith, c.requires.events)) c.requires.running
-    c.in-Enter.res (entered_at (g.B.LawfulBody.body.facts c.args.self.now.code) c.in-Enter.res c.in-Enter.priority c.in-Enter.preempts)
+    let a = rw c.in-Enter.is at c.ask-made.ensures.asked in
+    let old = with_live a.before.live a.before.control c.args.self.now in
+    polled_requests_at g.B.LawfulBody.body old c.ask-made.new.self c.args.process a.before.told
+    (op.Enter c.in-Enter.res c.in-Enter.priority c.in-Enter.preempts) a.last.asks a.before.stands c.args.event (g.B.LawfulBody.lawful old.code)
+    (rw c.requires.code at c.requires.fits) (omega (arith, c.requires.events)) a.before.running c.in-Enter.res (entered_at
+    (g.B.LawfulBody.body.facts old.code) c.in-Enter.res c.in-Enter.priority c.in-Enter.preempts)
 
-pub returns-in-Enter : goal.returns-in-Enter
-returns-in-Enter g c =
+pub returns-in-Enter-clause-does : goal.returns-in-Enter-clause-does
+returns-in-Enter-clause-does g c =
     let priority : FitsSigned w64 c.in-Enter.priority = search rules in
     let becomes = rw (to_z-of_z w64 c.in-Enter.priority priority) at c.enter.ensures.becomes in
-    record {
-      does = does_asked g.B.LawfulBody.body 1 c.args.self.now c.ask.new.self _ c.args.event c.args.process c.args.told _
-          (op.Enter c.in-Enter.res c.in-Enter.priority c.in-Enter.preempts) unit.Quiet c.requires.running (rw c.in-Enter.is at c.ask.ensures.asked)
-          refl (omega arith) becomes;
-    }
+    does_at_last g.B.LawfulBody.body c.args.event c.args.process _ _ c.args.self.now c.ask-made.new.self _ 1
+    (op.Enter c.in-Enter.res c.in-Enter.priority c.in-Enter.preempts) unit.Quiet (rw c.in-Enter.is at c.ask-made.ensures.asked) refl (omega arith)
+    becomes
 
-pub returns-in-Leave : goal.returns-in-Leave
-returns-in-Leave g c =
-    record {
-      does = does_asked g.B.LawfulBody.body 0 c.args.self.now c.ask.new.self _ c.args.event c.args.process c.args.told _ op.Leave unit.Quiet
-          c.requires.running (rw c.in-Leave.is at c.ask.ensures.asked) refl (omega arith) c.leave.ensures.becomes;
-    }
+pub returns-in-Leave-clause-does : goal.returns-in-Leave-clause-does
+returns-in-Leave-clause-does g c =
+    does_at_last g.B.LawfulBody.body c.args.event c.args.process _ _ c.args.self.now c.ask-made.new.self _ 0 op.Leave unit.Quiet
+    (rw c.in-Leave.is at c.ask-made.ensures.asked) refl (omega arith) c.leave.ensures.becomes
 
-pub returns-in-Release : goal.returns-in-Release
-returns-in-Release g c =
-    record {
-      does = does_asked g.B.LawfulBody.body 0 c.args.self.now c.ask.new.self _ c.args.event c.args.process c.args.told _
-          (op.Release c.in-Release.request) unit.Quiet c.requires.running (rw c.in-Release.is at c.ask.ensures.asked) refl (omega arith)
-          c.release.ensures.becomes;
-    }
+pub returns-in-Release-clause-does : goal.returns-in-Release-clause-does
+returns-in-Release-clause-does g c =
+    does_at_last g.B.LawfulBody.body c.args.event c.args.process _ _ c.args.self.now c.ask-made.new.self _ 0 (op.Release c.in-Release.request)
+    unit.Quiet (rw c.in-Release.is at c.ask-made.ensures.asked) refl (omega arith) c.release.ensures.becomes
 
 pub spawn-requires-clause-kept : goal.spawn-requires-clause-kept
 spawn-requires-clause-kept g c =
-    let old = c.args.self.now in
-    rw c.requires.code (spawned_kept g.B.LawfulBody.body old c.ask.new.self c.args.process c.args.told c.in-Spawn.kind c.in-Spawn.args
-    c.requires.stands c.requires.needed (rw c.in-Spawn.is at c.ask.ensures.asked).asks
-    (rw (← c.requires.code) (rw c.in-Spawn.is at c.ask.ensures.names)))
+    let a = rw c.in-Spawn.is at c.ask-made.ensures.asked in
+    let old = with_live a.before.live a.before.control c.args.self.now in
+    rw c.requires.code (spawned_kept g.B.LawfulBody.body old c.ask-made.new.self c.args.process a.before.told c.in-Spawn.kind c.in-Spawn.args
+    a.before.stands c.requires.needed a.last.asks (rw (← c.requires.code) (rw c.in-Spawn.is at c.ask-made.ensures.names)))
 
 pub cancel-requires-clause-plain : goal.cancel-requires-clause-plain
 cancel-requires-clause-plain g c =
-    first_cancelled (g.B.LawfulBody.body.facts c.args.code.now) c.ask.new.self (op.Cancel c.in-Cancel.cancelled) c.in-Cancel.cancelled [] refl
-    (rw c.in-Cancel.is at c.ask.ensures.names)
+    first_cancelled (g.B.LawfulBody.body.facts c.args.code.now) c.ask-made.new.self (op.Cancel c.in-Cancel.cancelled) c.in-Cancel.cancelled [] refl
+    (rw c.in-Cancel.is at c.ask-made.ensures.names)
 
 pub release-requires-clause-scope : goal.release-requires-clause-scope
 release-requires-clause-scope g c =
-    let old = c.args.self.now in
-    let mid = c.ask.new.self in
-    let asks = (rw c.in-Release.is at c.ask.ensures.asked).asks in
+    let a = rw c.in-Release.is at c.ask-made.ensures.asked in
+    let old = with_live a.before.live a.before.control c.args.self.now in
+    let mid = c.ask-made.new.self in
+    let asks = a.last.asks in
     let asked = op.Release c.in-Release.request in
     let law = g.B.LawfulBody.lawful old.code in
     let fits = rw c.requires.code at c.requires.fits in
-    let may = polled_may g.B.LawfulBody.body old mid c.args.process c.args.told asked asks c.requires.stands c.args.event law fits
-    (omega (arith, c.requires.events)) c.requires.running in
-    let some = has_scope g.B.LawfulBody.body old mid c.args.process c.args.told asked asks c.requires.stands c.args.event law fits
-    (omega (arith, c.requires.events)) c.requires.running c.in-Release.request may in
-    let found = found_now g.B.LawfulBody.body old mid c.args.process c.args.told asked asks c.requires.stands c.args.event law fits
-    (omega (arith, c.requires.events)) c.requires.running in
-    releases_at mid c.args.process _ c.in-Release.request found some c.ask.ensures.can
+    let may = polled_may g.B.LawfulBody.body old mid c.args.process a.before.told asked asks a.before.stands c.args.event law fits
+    (omega (arith, c.requires.events)) a.before.running in
+    let some = has_scope g.B.LawfulBody.body old mid c.args.process a.before.told asked asks a.before.stands c.args.event law fits
+    (omega (arith, c.requires.events)) a.before.running c.in-Release.request may in
+    let found = found_now g.B.LawfulBody.body old mid c.args.process a.before.told asked asks a.before.stands c.args.event law fits
+    (omega (arith, c.requires.events)) a.before.running in
+    releases_at mid c.args.process _ c.in-Release.request found some c.ask-made.ensures.can
 
 pub end-requires-clause-places : goal.end-requires-clause-places
 end-requires-clause-places g c =
-    let old = c.args.self.now in
+    let a = rw c.in-Finish.is at c.ask-made.ensures.asked in
+    let old = with_live a.before.live a.before.control c.args.self.now in
     let place = g.B.Body.told_place old.code in
     let reads : ReadsPlaces g.B.LawfulBody.body old.code g.B.Body.events_held place =
     record { places = g.met.B.Body.places old.code; few = g.met.B.Body.few_places old.code; others = g.met.B.Body.other_places_stay old.code } in
-    all_stand g.B.LawfulBody.body g.B.Body.events_held place old c.args.process c.args.event c.args.told reads (g.B.LawfulBody.lawful old.code)
-    c.requires.stands (omega (arith, c.requires.events)) c.requires.running c.ask.new.self _ (rw c.in-Finish.is at c.ask.ensures.asked).asks
-    c.args.process
+    all_stand g.B.LawfulBody.body g.B.Body.events_held place old c.args.process c.args.event a.before.told reads (g.B.LawfulBody.lawful old.code)
+    a.before.stands (omega (arith, c.requires.events)) a.before.running c.ask-made.new.self _ a.last.asks c.args.process
 
 pub end-requires-in-Die-clause-places : goal.end-requires-in-Die-clause-places
 end-requires-in-Die-clause-places g c =
-    let old = c.args.self.now in
+    let a = rw c.in-Die.is at c.ask-made.ensures.asked in
+    let old = with_live a.before.live a.before.control c.args.self.now in
     let place = g.B.Body.told_place old.code in
     let reads : ReadsPlaces g.B.LawfulBody.body old.code g.B.Body.events_held place =
     record { places = g.met.B.Body.places old.code; few = g.met.B.Body.few_places old.code; others = g.met.B.Body.other_places_stay old.code } in
-    all_stand g.B.LawfulBody.body g.B.Body.events_held place old c.args.process c.args.event c.args.told reads (g.B.LawfulBody.lawful old.code)
-    c.requires.stands (omega (arith, c.requires.events)) c.requires.running c.ask.new.self _ (rw c.in-Die.is at c.ask.ensures.asked).asks
-    c.args.process
+    all_stand g.B.LawfulBody.body g.B.Body.events_held place old c.args.process c.args.event a.before.told reads (g.B.LawfulBody.lawful old.code)
+    a.before.stands (omega (arith, c.requires.events)) a.before.running c.ask-made.new.self _ a.last.asks c.args.process
 
 pub drop_process-requires-clause-places : goal.drop_process-requires-clause-places
 drop_process-requires-clause-places g c =
-    let old = c.args.self.now in
+    let a = rw c.in-Drop.is at c.ask-made.ensures.asked in
+    let old = with_live a.before.live a.before.control c.args.self.now in
     let place = g.B.Body.told_place old.code in
     let reads : ReadsPlaces g.B.LawfulBody.body old.code g.B.Body.events_held place =
     record { places = g.met.B.Body.places old.code; few = g.met.B.Body.few_places old.code; others = g.met.B.Body.other_places_stay old.code } in
-    all_stand g.B.LawfulBody.body g.B.Body.events_held place old c.args.process c.args.event c.args.told reads (g.B.LawfulBody.lawful old.code)
-    c.requires.stands (omega (arith, c.requires.events)) c.requires.running c.ask.new.self _ (rw c.in-Drop.is at c.ask.ensures.asked).asks
-    c.in-Drop.other
+    all_stand g.B.LawfulBody.body g.B.Body.events_held place old c.args.process c.args.event a.before.told reads (g.B.LawfulBody.lawful old.code)
+    a.before.stands (omega (arith, c.requires.events)) a.before.running c.ask-made.new.self _ a.last.asks c.in-Drop.other
 
 pub drop_process-requires-clause-can : goal.drop_process-requires-clause-can
 drop_process-requires-clause-can g c =
-    polled_droppable g.B.LawfulBody.body c.args.self.now c.ask.new.self c.args.process (rw c.in-Drop.is at c.ask.ensures.asked).asks.later
-    c.requires.stands (rw c.in-Drop.is at c.ask.ensures.asked).owes c.in-Drop.other
+    let a = rw c.in-Drop.is at c.ask-made.ensures.asked in
+    let old = with_live a.before.live a.before.control c.args.self.now in
+    polled_droppable g.B.LawfulBody.body old c.ask-made.new.self c.args.process a.last.asks.later a.before.stands a.last.owes c.in-Drop.other

@@ -54,8 +54,9 @@ module _ {B Code : Type 0} (body : BodyOf B Code) (old : PartsOf B Code) (fits :
   stays_lawful : (s t : State B) → LawfulOf body old s → StepOf body old s t → LawfulOf body old t
   stays_lawful s t = lawful_step (plan_of body old) (body.tell old.code) (body.sound old.code) (body.turn old.code) (body.facts old.code) s t fits law
 
+  -- what is kept after it is to be needed where that was so before it
   pub unit_steps : (mid : PartsOf B Code) (answer : Unit) (new : PartsOf B Code) → KeepsButRoom old mid → Moves body mid answer new →
-      AreNeeded new.shared.happen.events → MakesStep body old answer new
+      (AreNeeded old.shared.happen.events → AreNeeded new.shared.happen.events) → MakesStep body old answer new
   unit_steps mid answer new room moves needed =
       record {
         each = λ s lawful stands.
@@ -66,7 +67,9 @@ module _ {B Code : Type 0} (body : BodyOf B Code) (old : PartsOf B Code) (fits :
               stepped = stepped;
               lawful = opened_lawful body old new later.state (opened_through old mid new room moves.opened) (stays_lawful s later.state lawful stepped);
               stands = later.stands;
-              accounts = λ right. balance_accounts body new later.state needed (later.accounts (roomier_balances [] old mid s room (accounts_balance body old s right)));
+              accounts = λ right.
+                  let balances = roomier_balances [] old mid s room (accounts_balance body old s right) in
+                  balance_accounts body new later.state (needed right.needed) (later.accounts balances);
               lines = later.lines;
             };
       }
