@@ -1,5 +1,5 @@
 //! Scripts as the bodies of processes.
-use crate::script::Script;
+use crate::script::{Script, ask_nothing};
 use sim_machine::LawfulBody;
 use sim_procs::Body;
 use sim_scenario::Scenario;
@@ -81,7 +81,7 @@ impl Body for Script {
             made += 1;
         }
         if !asks {
-            *asked = Op::Nop;
+            ask_nothing(asked);
         }
         made
     }

@@ -1,6 +1,7 @@
 //! The state of a script.
 ghost use Rattle.std.specs.Prelude.{◌≡◌, ◌+◌, ◌-◌, ◌^◌, ◌<◌, ◌≤◌, pos, [], ◌∷◌, ◌++◌, length, replicate, slice_index_or, vec_len, IfOk, IsTrue, MatchOption};
 ghost use Rattle.sim_types.specs.Throws.{error};
+ghost use Rattle.sim_types.specs.declared.op.Op.TheVariants as op;
 ghost use Rattle.sim_script_model.specs.Scripts.{Throwing, variable, set_variable, set_place, set_mode, tail_of, push_frame, pop_frame, stmt_at, value_of_num, value_of_arg, event_in, event_of_ref, process_of_ref};
 ghost use Rattle.sim_script_model.specs.Needs.{last_variable, most_frames};
 ghost use Rattle.sim_script_model.specs.Polls.{store, given_by, last_stmt, open_with, catch_by, leave_try, leave_loop, end_by_mode, do_stmt, take_in, unwind, ask_in_mode, script_turn};
@@ -346,8 +347,7 @@ impl Script {
                 true
             }
             Some(Frame::InScope(_)) => {
-                self.leave();
-                *asked = Op::Leave;
+                self.leave_scope(asked);
                 true
             }
             Some(Frame::InTry(catch)) => {
@@ -361,6 +361,16 @@ impl Script {
                 false
             }
         }
+    }
+
+    /// Leaves its innermost block, which is a scope, and asks for that.
+    #[inline(never)]
+    pub(crate) fn leave_scope(&mut self, asked: &mut Op)
+        ensures asked { asked.new ≡ op.Leave }
+        ensures left { self.new ≡ pop_frame self.old }
+    {
+        self.leave();
+        *asked = Op::Leave;
     }
 
     // What is thrown is caught by the line of this try, and it goes on behind.
@@ -406,6 +416,15 @@ impl Script {
             Mode::Running | Mode::Breaking => *asked = Op::Nop,
         }
     }
+}
+
+/// Asks for nothing. What writes an operation clears the memory of a whole one first, so a poll that asks for something is
+/// kept free of this.
+#[inline(never)]
+pub(crate) fn ask_nothing(asked: &mut Op)
+    ensures { asked.new ≡ op.Nop }
+{
+    *asked = Op::Nop;
 }
 
 /// What a script asked for that tells whether it asked for an operation.

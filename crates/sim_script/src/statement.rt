@@ -46,8 +46,7 @@ impl Script {
             }
             Stmt::EndPlain => false,
             Stmt::EndWith => {
-                self.leave();
-                *asked = Op::Leave;
+                self.leave_scope(asked);
                 true
             }
             _ => {
@@ -184,12 +183,28 @@ impl Script {
             Stmt::Fail { on, value } => {
                 *asked = Op::Fail(self.event(*on), self.number(*value, time));
             }
-            Stmt::All { of, .. } => *asked = Op::AllOf(self.members(of)),
-            Stmt::Any { of, .. } => *asked = Op::AnyOf(self.members(of)),
+            Stmt::All { of, .. } => self.all_of(of, asked),
+            Stmt::Any { of, .. } => self.any_of(of, asked),
             Stmt::Has { cond, on, .. } => *asked = Op::Has(self.event_in(*cond), self.event(*on)),
             Stmt::Chain { on, to } => *asked = Op::Chain(self.event(*on), self.event(*to)),
             _ => unreachable!(),
         }
+    }
+
+    // Asks for a condition over all of these events. Apart, as the next one, since its members are large.
+    #[inline(never)]
+    fn all_of(&self, of: &Refs, asked: &mut Op)
+        ensures { asked.new ≡ op.AllOf (map (event_of_ref self.now) of.now) }
+    {
+        *asked = Op::AllOf(self.members(of));
+    }
+
+    // Asks for a condition over any of these events.
+    #[inline(never)]
+    fn any_of(&self, of: &Refs, asked: &mut Op)
+        ensures { asked.new ≡ op.AnyOf (map (event_of_ref self.now) of.now) }
+    {
+        *asked = Op::AnyOf(self.members(of));
     }
 
     // The members of a condition.
@@ -211,7 +226,7 @@ impl Script {
     {
         match statement {
             Stmt::Sleep { delay } => *asked = Op::Pause(self.number(*delay, time), 0),
-            Stmt::Spawn { kind, args, .. } => *asked = Op::Spawn(*kind, self.arguments(args, time)),
+            Stmt::Spawn { kind, args, .. } => self.spawn(*kind, args, time, asked),
             Stmt::Interrupt { who, value } => {
                 *asked = Op::Interrupt(self.process(*who), self.number(*value, time));
             }
@@ -225,6 +240,15 @@ impl Script {
             }
             _ => unreachable!(),
         }
+    }
+
+    // Asks for a process of a kind. Apart, since what it is given is large.
+    #[inline(never)]
+    fn spawn(&self, kind: u32, given: &SpawnArgs, time: i64, asked: &mut Op)
+        requires { IsTrue (list_all (event_is_small self.now) given.now) }
+        ensures { asked.new ≡ op.Spawn kind (map (value_of_arg time self.now) given.now) }
+    {
+        *asked = Op::Spawn(kind, self.arguments(given, time));
     }
 
     // What a process that is spawned is given.

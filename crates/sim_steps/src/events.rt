@@ -1,7 +1,9 @@
 //! Events that a process makes, triggers and chains (SimPy's "Events").
 ghost use Rattle.std.specs.Prelude.{◌≡◌, ◌↔◌, ◌<◌, ◌^◌, [], ◌∷◌, length, IsFalse, IsSome, IsErr, OnOk, OnErr};
 ghost use Rattle.sim_types.specs.declared.event.Callback.TheVariants as callback;
+ghost use Rattle.sim_types.specs.declared.event.Outcome.TheVariants as outcome;
 ghost use Rattle.sim_types.specs.declared.op.Op.TheVariants as op;
+ghost use Rattle.sim_types.specs.Throws.{failure};
 ghost use Rattle.sim_machine.specs.Effect as effect;
 ghost use Rattle.sim_machine.specs.Processes as processes;
 ghost use Rattle.sim_machine.specs.Triggering as triggering;
@@ -16,7 +18,9 @@ use crate::parts::Parts;
 use sim_events::EventState;
 use sim_happen::AlreadyTriggered;
 use sim_procs::Body;
-use sim_types::{ALREADY_TRIGGERED, Callback, EventId, EventKind, Outcome, ProcId, Signal};
+use sim_types::{
+    ALREADY_TRIGGERED, Callback, EventId, EventKind, FAILURE, Outcome, ProcId, Signal, Throw,
+};
 
 impl<B: Body> Parts<B> {
     /// Whether an event is processed.
@@ -99,15 +103,48 @@ impl<B: Body> Parts<B> {
         }
     }
 
-    /// The running process triggers an event, and is told whether it had its outcome already.
+    /// The running process makes an event succeed, and is told whether it had its outcome already.
     #[inline(never)]
-    pub(crate) fn trigger_by(
+    pub(crate) fn succeed(
         &mut self,
         event: EventId,
         process: ProcId,
         triggered: EventId,
-        outcome: Outcome,
+        value: i64,
     )
+        requires running { IsRunningIn event process self.old.control }
+        requires kept { IsKept self.old.shared.happen.events triggered }
+        requires not_cancelled { IsFalse
+            (kept_at self.old.shared.happen.events triggered).event.cancelled }
+        ensures becomes { Becomes B.body
+            (effect.trigger_pending triggered (outcome.Ok value)) self.old self.new }
+    {
+        self.trigger_by(event, process, triggered, Outcome::Ok(value));
+    }
+
+    /// The running process makes an event fail, and is told whether it had its outcome already.
+    #[inline(never)]
+    pub(crate) fn fail(&mut self, event: EventId, process: ProcId, triggered: EventId, value: i64)
+        requires running { IsRunningIn event process self.old.control }
+        requires kept { IsKept self.old.shared.happen.events triggered }
+        requires not_cancelled { IsFalse
+            (kept_at self.old.shared.happen.events triggered).event.cancelled }
+        ensures becomes { Becomes B.body
+            (effect.trigger_pending triggered
+            (outcome.Fail (record { kind = failure; value = value })))
+            self.old self.new }
+    {
+        let kind = FAILURE;
+        self.trigger_by(
+            event,
+            process,
+            triggered,
+            Outcome::Fail(Throw { kind, value }),
+        );
+    }
+
+    // The running process triggers an event, and is told whether it had its outcome already.
+    fn trigger_by(&mut self, event: EventId, process: ProcId, triggered: EventId, outcome: Outcome)
         requires running { IsRunningIn event process self.old.control }
         requires kept { IsKept self.old.shared.happen.events triggered }
         requires not_cancelled { IsFalse

@@ -17,7 +17,7 @@ ghost use Rattle.sim_steps_model.specs.StandsFor.{StandsForSome};
 use crate::parts::Parts;
 use sim_procs::Body;
 use sim_steps_model::{Mode, Unit, Units};
-use sim_types::{EventId, FAILURE, Line, Op, Outcome, ProcId, Signal, Throw};
+use sim_types::{EventId, Line, Op, ProcId, Signal};
 
 // Whether a process that is told this may put an event into a place.
 fn fills_place(told: Signal) -> bool
@@ -149,23 +149,13 @@ impl<B: Body> Parts<B> {
         let mut asked = Op::Nop;
         let made = self.ask(code, event, process, told, place, most, &mut asked);
         match asked {
-            Op::Nop => self.tell(event, process, Signal::Done),
+            Op::Nop => self.tell_done(),
             Op::Timeout(delay, value) => self.timeout(event, process, delay, value),
             Op::Pause(delay, value) => self.pause(event, process, delay, value),
             Op::Wait(on) => self.wait(event, process, on),
             Op::NewEvent => self.new_event(event, process),
-            Op::Succeed(triggered, value) => {
-                self.trigger_by(event, process, triggered, Outcome::Ok(value))
-            }
-            Op::Fail(triggered, value) => {
-                let kind = FAILURE;
-                self.trigger_by(
-                    event,
-                    process,
-                    triggered,
-                    Outcome::Fail(Throw { kind, value }),
-                )
-            }
+            Op::Succeed(triggered, value) => self.succeed(event, process, triggered, value),
+            Op::Fail(triggered, value) => self.fail(event, process, triggered, value),
             Op::Spawn(kind, args) => self.spawn(code, event, process, kind, args),
             Op::Interrupt(other, cause) => self.interrupt(event, process, other, cause),
             Op::Drop(other, value) => self.drop_process(event, process, other, value),
@@ -189,10 +179,10 @@ impl<B: Body> Parts<B> {
             Op::Cancel(cancelled) => self.cancel(event, process, cancelled),
             Op::Count(res) => self.count(event, process, res),
             Op::Draw(lo, hi) => self.draw(event, process, lo, hi),
-            Op::Finish(value) => self.end(event, process, Outcome::Ok(value)),
-            Op::Die(what) => self.end(event, process, Outcome::Fail(what)),
+            Op::Finish(value) => self.finish(event, process, value),
+            Op::Die(what) => self.die(event, process, what),
             Op::Log(value) => {
-                self.tell(event, process, Signal::Done);
+                self.tell_done();
                 let time = self.shared.happen().now();
                 let last = Unit::Line(Line::Log {
                     time,

@@ -1,6 +1,7 @@
 //! Processes: how they are made, interrupted and ended (SimPy's "Process interaction").
 ghost use Rattle.std.specs.Prelude.{◌≡◌, ◌<◌, ◌≤◌, ◌≤ℤ◌, ◌+◌, ◌^◌, pos, length, [], IfSome, IsSomeAnd, IsTrue, OnOk, None};
 ghost use Rattle.sim_types.specs.declared.event.Callback.TheVariants as callback;
+ghost use Rattle.sim_types.specs.declared.event.Outcome.TheVariants as outcome;
 ghost use Rattle.sim_types.specs.declared.op.Op.TheVariants as op;
 ghost use Rattle.sim_machine.specs.Effect as effect;
 ghost use Rattle.sim_machine.specs.Processes as processes;
@@ -149,9 +150,40 @@ impl<B: Body> Parts<B> {
         }
     }
 
-    /// The running process ends: its event gets this outcome.
+    /// The running process ends, and its event succeeds.
     #[inline(never)]
-    pub(crate) fn end(&mut self, event: EventId, process: ProcId, outcome: Outcome)
+    pub(crate) fn finish(&mut self, event: EventId, process: ProcId, value: i64)
+        requires running { IsRunningIn event process self.old.control }
+        requires alive { IsSomeAnd (record_of process self.old.live) (λ r. r.scopes ≡ []) }
+        requires places { IfSome (record_of process self.old.live)
+            (λ r. StandInPlaces (B.body.tell self.old.code) (B.events_held r.body) r.body) }
+        requires is_open { IsOpen self.old.shared.happen (processes.event_of process) }
+        requires owing { IsOwing B.body [] self.old }
+        ensures becomes { Becomes B.body
+            (λ s. processes.rest (processes.end_process process (outcome.Ok value) s))
+            self.old self.new }
+    {
+        self.end(event, process, Outcome::Ok(value));
+    }
+
+    /// The running process ends by what it did not catch, and its event fails with that.
+    #[inline(never)]
+    pub(crate) fn die(&mut self, event: EventId, process: ProcId, what: Throw)
+        requires running { IsRunningIn event process self.old.control }
+        requires alive { IsSomeAnd (record_of process self.old.live) (λ r. r.scopes ≡ []) }
+        requires places { IfSome (record_of process self.old.live)
+            (λ r. StandInPlaces (B.body.tell self.old.code) (B.events_held r.body) r.body) }
+        requires is_open { IsOpen self.old.shared.happen (processes.event_of process) }
+        requires owing { IsOwing B.body [] self.old }
+        ensures becomes { Becomes B.body
+            (λ s. processes.rest (processes.end_process process (outcome.Fail what) s))
+            self.old self.new }
+    {
+        self.end(event, process, Outcome::Fail(what));
+    }
+
+    // The running process ends: its event gets this outcome.
+    fn end(&mut self, event: EventId, process: ProcId, outcome: Outcome)
         requires running { IsRunningIn event process self.old.control }
         requires alive { IsSomeAnd (record_of process self.old.live) (λ r. r.scopes ≡ []) }
         requires places { IfSome (record_of process self.old.live)

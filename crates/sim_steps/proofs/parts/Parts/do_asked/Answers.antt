@@ -24,23 +24,23 @@ wait-requires-clause-kept g c =
     first_named (g.B.LawfulBody.body.facts c.args.code.now) c.ask-made.new.self (op.Wait c.in-Wait.on) c.in-Wait.on [] refl
     (rw c.in-Wait.is at c.ask-made.ensures.names)
 
-pub trigger_by-requires-clause-kept : goal.trigger_by-requires-clause-kept
-trigger_by-requires-clause-kept g c =
+pub succeed-requires-clause-kept : goal.succeed-requires-clause-kept
+succeed-requires-clause-kept g c =
     first_named (g.B.LawfulBody.body.facts c.args.code.now) c.ask-made.new.self (op.Succeed c.in-Succeed.triggered c.in-Succeed.value)
     c.in-Succeed.triggered [] refl (rw c.in-Succeed.is at c.ask-made.ensures.names)
 
-pub trigger_by-requires-clause-not_cancelled : goal.trigger_by-requires-clause-not_cancelled
-trigger_by-requires-clause-not_cancelled g c =
+pub succeed-requires-clause-not_cancelled : goal.succeed-requires-clause-not_cancelled
+succeed-requires-clause-not_cancelled g c =
     first_triggered (g.B.LawfulBody.body.facts c.args.code.now) c.ask-made.new.self (op.Succeed c.in-Succeed.triggered c.in-Succeed.value)
     c.in-Succeed.triggered [] refl (rw c.in-Succeed.is at c.ask-made.ensures.names)
 
-pub trigger_by-requires-in-Fail-clause-kept : goal.trigger_by-requires-in-Fail-clause-kept
-trigger_by-requires-in-Fail-clause-kept g c =
+pub fail-requires-clause-kept : goal.fail-requires-clause-kept
+fail-requires-clause-kept g c =
     first_named (g.B.LawfulBody.body.facts c.args.code.now) c.ask-made.new.self (op.Fail c.in-Fail.triggered c.in-Fail.value) c.in-Fail.triggered []
     refl (rw c.in-Fail.is at c.ask-made.ensures.names)
 
-pub trigger_by-requires-in-Fail-clause-not_cancelled : goal.trigger_by-requires-in-Fail-clause-not_cancelled
-trigger_by-requires-in-Fail-clause-not_cancelled g c =
+pub fail-requires-clause-not_cancelled : goal.fail-requires-clause-not_cancelled
+fail-requires-clause-not_cancelled g c =
     first_triggered (g.B.LawfulBody.body.facts c.args.code.now) c.ask-made.new.self (op.Fail c.in-Fail.triggered c.in-Fail.value)
     c.in-Fail.triggered [] refl (rw c.in-Fail.is at c.ask-made.ensures.names)
 
@@ -86,28 +86,28 @@ spawn-requires-clause-not_alive g c =
     spawned_none g.B.LawfulBody.body old c.ask-made.new.self c.args.process a.before.told (op.Spawn c.in-Spawn.kind c.in-Spawn.args) a.before.stands
     a.last.asks
 
-pub end-requires-clause-alive : goal.end-requires-clause-alive
-end-requires-clause-alive g c =
+pub finish-requires-clause-alive : goal.finish-requires-clause-alive
+finish-requires-clause-alive g c =
     let a = rw c.in-Finish.is at c.ask-made.ensures.asked in
     let old = with_live a.before.live a.before.control c.args.self.now in
     ended_scopes g.B.LawfulBody.body old c.ask-made.new.self c.args.process a.before.told (op.Finish c.in-Finish.value) c.args.event
     (λ own places scopes h. h) (g.B.LawfulBody.lawful old.code) a.before.stands (omega (arith, c.requires.events)) a.before.running a.last.asks
 
-pub end-requires-clause-is_open : goal.end-requires-clause-is_open
-end-requires-clause-is_open g c =
+pub finish-requires-clause-is_open : goal.finish-requires-clause-is_open
+finish-requires-clause-is_open g c =
     let a = rw c.in-Finish.is at c.ask-made.ensures.asked in
     let old = with_live a.before.live a.before.control c.args.self.now in
     polled_open g.B.LawfulBody.body old c.ask-made.new.self c.args.process a.before.told _ a.before.stands c.requires.needed a.last.asks
 
-pub end-requires-in-Die-clause-alive : goal.end-requires-in-Die-clause-alive
-end-requires-in-Die-clause-alive g c =
+pub die-requires-clause-alive : goal.die-requires-clause-alive
+die-requires-clause-alive g c =
     let a = rw c.in-Die.is at c.ask-made.ensures.asked in
     let old = with_live a.before.live a.before.control c.args.self.now in
     ended_scopes g.B.LawfulBody.body old c.ask-made.new.self c.args.process a.before.told (op.Die c.in-Die.what) c.args.event
     (λ own places scopes h. h) (g.B.LawfulBody.lawful old.code) a.before.stands (omega (arith, c.requires.events)) a.before.running a.last.asks
 
-pub end-requires-in-Die-clause-is_open : goal.end-requires-in-Die-clause-is_open
-end-requires-in-Die-clause-is_open g c =
+pub die-requires-clause-is_open : goal.die-requires-clause-is_open
+die-requires-clause-is_open g c =
     let a = rw c.in-Die.is at c.ask-made.ensures.asked in
     let old = with_live a.before.live a.before.control c.args.self.now in
     polled_open g.B.LawfulBody.body old c.ask-made.new.self c.args.process a.before.told _ a.before.stands c.requires.needed a.last.asks
@@ -115,7 +115,7 @@ end-requires-in-Die-clause-is_open g c =
 pub returns-in-Nop-clause-does : goal.returns-in-Nop-clause-does
 returns-in-Nop-clause-does g c =
     does_at_last g.B.LawfulBody.body c.args.event c.args.process _ _ c.args.self.now c.ask-made.new.self _ 0 op.Nop unit.Quiet
-    (rw c.in-Nop.is at c.ask-made.ensures.asked) refl (omega arith) (rw c.tell.ensures (becomes_told signal.Done c.ask-made.new.self))
+    (rw c.in-Nop.is at c.ask-made.ensures.asked) refl (omega arith) (rw c.tell_done.ensures (becomes_told signal.Done c.ask-made.new.self))
 
 pub returns-in-Log-clause-does : goal.returns-in-Log-clause-does
 returns-in-Log-clause-does g c =
@@ -123,8 +123,8 @@ returns-in-Log-clause-does g c =
     let time : FitsSigned w64 c.now-time.result = search rules in
     let now = to_z-of_z w64 c.now-time.result time ∙ (c.now-time.ensures ∙ ap (λ h. h.time) c.happen.ensures ∙ ap
     (λ (v : PartsOf g.row.B.Denot g.row.B-Code.Denot). v.shared.happen.time) c.self.view_is) in
-    logs_at_last g.B.LawfulBody.body c.args.event c.args.process _ _ c.args.self.now c.ask-made.new.self c.tell-in-Log.new.self c.in-Log.value _ _
-    (rw c.in-Log.is at c.ask-made.ensures.asked) now (to_z-of_z w64 c.in-Log.value value) c.tell-in-Log.ensures
+    logs_at_last g.B.LawfulBody.body c.args.event c.args.process _ _ c.args.self.now c.ask-made.new.self c.tell_done-in-Log.new.self c.in-Log.value _ _
+    (rw c.in-Log.is at c.ask-made.ensures.asked) now (to_z-of_z w64 c.in-Log.value value) c.tell_done-in-Log.ensures
 
 pub returns-in-Draw-clause-does : goal.returns-in-Draw-clause-does
 returns-in-Draw-clause-does g c =
@@ -146,12 +146,12 @@ pub returns-in-Finish-clause-does : goal.returns-in-Finish-clause-does
 returns-in-Finish-clause-does g c =
     let value : FitsSigned w64 c.in-Finish.value = search rules in
     does_at_last g.B.LawfulBody.body c.args.event c.args.process _ _ c.args.self.now c.ask-made.new.self _ 0 (op.Finish c.in-Finish.value) unit.Quiet
-    (rw c.in-Finish.is at c.ask-made.ensures.asked) refl (omega arith) (rw (to_z-of_z w64 c.in-Finish.value value) at c.end.ensures.becomes)
+    (rw c.in-Finish.is at c.ask-made.ensures.asked) refl (omega arith) (rw (to_z-of_z w64 c.in-Finish.value value) at c.finish.ensures.becomes)
 
 pub returns-in-Die-clause-does : goal.returns-in-Die-clause-does
 returns-in-Die-clause-does g c =
     does_at_last g.B.LawfulBody.body c.args.event c.args.process _ _ c.args.self.now c.ask-made.new.self _ 0 (op.Die c.in-Die.what) unit.Quiet
-    (rw c.in-Die.is at c.ask-made.ensures.asked) refl (omega arith) c.end-in-Die.ensures.becomes
+    (rw c.in-Die.is at c.ask-made.ensures.asked) refl (omega arith) c.die.ensures.becomes
 
 pub returns-in-Timeout-clause-does : goal.returns-in-Timeout-clause-does
 returns-in-Timeout-clause-does g c =
@@ -174,14 +174,14 @@ returns-in-NewEvent-clause-does g c =
 pub returns-in-Succeed-clause-does : goal.returns-in-Succeed-clause-does
 returns-in-Succeed-clause-does g c =
     let value : FitsSigned w64 c.in-Succeed.value = search rules in
-    let becomes = rw (to_z-of_z w64 c.in-Succeed.value value) at c.trigger_by.ensures.becomes in
+    let becomes = rw (to_z-of_z w64 c.in-Succeed.value value) at c.succeed.ensures.becomes in
     does_at_last g.B.LawfulBody.body c.args.event c.args.process _ _ c.args.self.now c.ask-made.new.self _ 0
     (op.Succeed c.in-Succeed.triggered c.in-Succeed.value) unit.Quiet (rw c.in-Succeed.is at c.ask-made.ensures.asked) refl (omega arith) becomes
 
 pub returns-in-Fail-clause-does : goal.returns-in-Fail-clause-does
 returns-in-Fail-clause-does g c =
     let value : FitsSigned w64 c.in-Fail.value = search rules in
-    let becomes = rw (to_z-of_z w64 c.in-Fail.value value) at c.trigger_by-in-Fail.ensures.becomes in
+    let becomes = rw (to_z-of_z w64 c.in-Fail.value value) at c.fail.ensures.becomes in
     does_at_last g.B.LawfulBody.body c.args.event c.args.process _ _ c.args.self.now c.ask-made.new.self _ 0
     (op.Fail c.in-Fail.triggered c.in-Fail.value) unit.Quiet (rw c.in-Fail.is at c.ask-made.ensures.asked) refl (omega arith) becomes
 
@@ -388,8 +388,8 @@ release-requires-clause-scope g c =
     (omega (arith, c.requires.events)) a.before.running in
     releases_at mid c.args.process _ c.in-Release.request found some c.ask-made.ensures.can
 
-pub end-requires-clause-places : goal.end-requires-clause-places
-end-requires-clause-places g c =
+pub finish-requires-clause-places : goal.finish-requires-clause-places
+finish-requires-clause-places g c =
     let a = rw c.in-Finish.is at c.ask-made.ensures.asked in
     let old = with_live a.before.live a.before.control c.args.self.now in
     let place = g.B.Body.told_place old.code in
@@ -398,8 +398,8 @@ end-requires-clause-places g c =
     all_stand g.B.LawfulBody.body g.B.Body.events_held place old c.args.process c.args.event a.before.told reads (g.B.LawfulBody.lawful old.code)
     a.before.stands (omega (arith, c.requires.events)) a.before.running c.ask-made.new.self _ a.last.asks c.args.process
 
-pub end-requires-in-Die-clause-places : goal.end-requires-in-Die-clause-places
-end-requires-in-Die-clause-places g c =
+pub die-requires-clause-places : goal.die-requires-clause-places
+die-requires-clause-places g c =
     let a = rw c.in-Die.is at c.ask-made.ensures.asked in
     let old = with_live a.before.live a.before.control c.args.self.now in
     let place = g.B.Body.told_place old.code in
