@@ -14,14 +14,14 @@ use Rattle.sim_chains.specs.Keeping.{KeepsOthers}
 use Rattle.sim_events.specs.Slots.{kept_in, condition_in, is_slot_needed}
 use Rattle.sim_events.specs.Stores.{spare_of, kept_by_key, events_in, table_of, IsStored, ArePlaced, IsSoundTable, GivesBack, ForgetsSlot, FreesPart}
 use Rattle.sim_events.specs.TableOf.{Kept, IsKept, is_needed, is_settled, kept_at, kept_count, kept_and_spare}
-use Rattle.sim_events.specs.Changes.{change_or_forget, callbacks_freed, conditions_freed}
+use Rattle.sim_events.specs.Changes.{without_holder, change_or_forget, callbacks_freed, conditions_freed}
 use Rattle.sim_events.proofs.Slabs.{with_value_len, there_from}
 use Rattle.sim_events.proofs.Nodes.{KeepsNodes, nodes_relinked}
 use Rattle.sim_events.proofs.Parts.{KeepsParts, parts_same, parts_updated, free_own}
 use Rattle.sim_events.proofs.Storing.{stored_with, others_with}
 use Rattle.sim_events.proofs.Placing.{event_found, kept_found, kept_is_placed, placed_less, events_less}
 use Rattle.sim_events.proofs.KeptLists.{kept_is, count_changed, kept_changed, forgotten_changed, forgotten_needed, forgotten_unneeded, count_forgotten, ordered_forgotten}
-use Rattle.sim_events.proofs.Rewriting.{Rewrites, is_kept}
+use Rattle.sim_events.proofs.Rewriting.{Rewrites, is_kept, one_fewer, rewrites_released}
 
 -- ---- the store
 
@@ -149,6 +149,14 @@ pub forgotten_slot : (index later : IndexOf) (s new : Store) (left : Chain) (t :
 forgotten_slot index later s new left t e key x y change at found r settled d =
     let same = ap (λ n. s.slots.capacity - n) (with_value_len s.slots key y (there_from s.slots key x found)) in
     forgotten index later s (record s { slots = with_value s.slots key y }) new left left t e key change at r same refl refl settled d
+
+-- where one holder fewer is all that changed before
+pub released : (index later : IndexOf) (s new : Store) (left : Chain) (t : IsSoundTable index.places s left) (e : EventId) (key : ℕ) (x : Slot)
+    → place_of_number e.0 index.places ≡ Some key → get s.slots key ≡ Some x
+    → ForgetsSlot e index (record s { slots = with_value s.slots key (one_fewer x) }) later new left → Forgotten index s left later new left e without_holder
+released index later s new left t e key x at found d =
+    forgotten_slot index later s new left t e key x (one_fewer x) without_holder at found (rewrites_released index.places s left t e key x at found)
+    (t.in_order e (is_kept index.places s left t e key at)).1 d
 
 -- an event without callbacks frees none
 pub freed_none : (k : Kept) → k.callbacks ≡ [] → callbacks_freed k ≡ 0

@@ -1,5 +1,5 @@
 -- The slot of an event is written, and what it has: the table stays sound, and shows that event changed.
-use Rattle.std.proofs.Common.{◌≡◌, ℕ, suc, Bool, true, false, cond, List, set, Option, Some, None, is_some, IsSome, refl, sym, ap, ◌∙◌, arith}
+use Rattle.std.proofs.Common.{◌≡◌, ℕ, suc, ◌-◌, Bool, true, false, cond, List, set, Option, Some, None, is_some, IsSome, refl, sym, ap, ◌∙◌, arith}
 use Rattle.std.specs.Option.{option_map}
 use Rattle.std.proofs.lemmas.Bool.{false≢true}
 use Rattle.std.proofs.lemmas.Option.{same_Some}
@@ -17,7 +17,7 @@ use Rattle.sim_chains.specs.Keeping.{Relinked, MayBePassedOn}
 use Rattle.sim_events.specs.Slots.{kept_in}
 use Rattle.sim_events.specs.Stores.{events_in, HasPart, IsStored, ArePlaced, IsSoundTable}
 use Rattle.sim_events.specs.TableOf.{Kept, IsKept, IsInOrder, kept_at}
-use Rattle.sim_events.specs.Changes.{change_kept, on_condition}
+use Rattle.sim_events.specs.Changes.{change_kept, on_condition, without_holder}
 use Rattle.sim_events.proofs.Slabs.{with_value_len, there_from}
 use Rattle.sim_events.proofs.Nodes.{KeepsNodes, nodes_same, nodes_relinked, nodes_begun}
 use Rattle.sim_events.proofs.Parts.{condition_written, KeepsParts, parts_same, parts_updated, free_own}
@@ -30,6 +30,10 @@ pub record Rewrites (places : List (Option ℕ)) (old new : Store) (calls : Chai
   pub placed : ArePlaced places new.slots
   pub stored : IsStored new calls
   pub events : events_in places new ≡ change_kept e change (events_in places old)
+
+-- the slot of an event once it has one holder fewer
+abbrev pub one_fewer : Slot → Slot
+one_fewer x = record x { holders = x.holders - 1 }
 
 pub is_kept : (places : List (Option ℕ)) (s : Store) (left : Chain) → IsSoundTable places s left → (e : EventId) (key : ℕ)
     → place_of_number e.0 places ≡ Some key → IsKept (events_in places s) e
@@ -74,6 +78,10 @@ module _ (places : List (Option ℕ)) (s : Store) (left : Chain) (t : IsSoundTab
   rewrites_slot y change chain condition part is =
       let linked = nodes_same s.nodes t.stored.owners key (Some y) left (λ z is. rw (sym (same_Some y z is), chain) (t.stored.chains key x found)) t.stored.left in
       rewrites places s (record s { slots = with_value s.slots key y }) left left t e key x y change at found (Updates-with_value s.slots key y (there_from s.slots key x found)) (still_fit y) linked (own_parts y condition part) is
+
+  -- one holder fewer
+  pub rewrites_released : Rewrites places s (record s { slots = with_value s.slots key (one_fewer x) }) left e without_holder
+  rewrites_released = rewrites_slot (one_fewer x) without_holder refl refl refl refl
 
   -- its chain
   pub own_chain : IsChain s.nodes x.callbacks

@@ -1,4 +1,5 @@
-ghost use Rattle.std.specs.Prelude.{◌≡◌, ◌-◌, not, is_none};
+ghost use Rattle.std.specs.Prelude.{◌≡◌, ◌-◌, ◌&&◌, not, is_none};
+ghost use Rattle.sim_machine.specs.Events.{is_fail};
 ghost use Rattle.sim_chains.specs.Chains.{IsEmpty};
 ghost use Rattle.sim_events.specs.Slots.{new_slot, outcome_in, slot_with_outcome, is_slot_needed};
 
@@ -80,6 +81,13 @@ impl Slot {
                 value: self.value,
             })),
         }
+    }
+
+    /// Whether the event failed, and nobody defused it.
+    pub(crate) fn is_unhandled(&self) -> bool
+        ensures { result ≡ (is_fail (outcome_in self.now) && not self.now.defused) }
+    {
+        matches!(self.stage, Stage::Failed) && !self.defused
     }
 
     /// The event gets an outcome.

@@ -1,6 +1,6 @@
-ghost use Rattle.std.specs.Prelude.{◌≡◌, ◌↔◌, ◌+◌, ◌<◌, ◌≤◌, ◌^◌, [], ◌∷◌, ◌++◌, length, Some, None, IsSome, IsFalse, IsTrue, is_some, not, IsOk, IfOk, IfNone, OnOk, OnErr, MatchOption, slice_index_or};
+ghost use Rattle.std.specs.Prelude.{◌≡◌, ◌↔◌, ◌+◌, ◌<◌, ◌≤◌, ◌^◌, ◌&&◌, [], ◌∷◌, ◌++◌, length, Some, None, IsSome, IsFalse, IsTrue, is_some, is_none, not, IsOk, IfOk, IfNone, IfSome, OnOk, OnErr, MatchOption, slice_index_or};
 ghost use Rattle.std.specs.List.{list_any};
-ghost use Rattle.sim_machine.specs.Events.{pending_event, without_first};
+ghost use Rattle.sim_machine.specs.Events.{is_fail, pending_event, without_first};
 ghost use Rattle.sim_machine.specs.Standing.{one_if};
 ghost use Rattle.sim_machine.specs.Users.{first_of_list};
 ghost use Rattle.sim_chains.specs.Callbacks.{is_same_callback};
@@ -189,6 +189,22 @@ impl Table {
         add(&mut self.index, &mut self.store.slots, Slot::new(kind))
     }
 
+    /// A triggered event more, which takes the next number: it is made and set at once.
+    #[inline(always)]
+    pub fn make_triggered(&mut self, kind: EventKind, outcome: Outcome) -> EventId
+        requires spare { 0 < self.old.spare.events }
+        requires number { length self.old.events < 2 ^ 62 }
+        ensures id { result.0 ≡ length self.old.events }
+        ensures events { self.new.events ≡ self.old.events
+            ++ Some (with_outcome outcome (new_kept (pending_event kind))) ∷ [] }
+        ensures left { self.new.left ≡ self.old.left }
+        ensures spare { more_events 1 self.new.spare ≡ self.old.spare }
+    {
+        let mut slot = Slot::new(kind);
+        slot.set_outcome(outcome);
+        add(&mut self.index, &mut self.store.slots, slot)
+    }
+
     /// How far an event has come.
     pub fn state(&self, event: EventId) -> EventState
         requires kept { IsKept self.now.events event }
@@ -221,6 +237,17 @@ impl Table {
             ↔ (state_of (kept_at self.now.events event).event ≡ state.Pending) }
     {
         self.store.slots[key_of(&self.index, event)].outcome()
+    }
+
+    /// What an event is for, and how it turned out. It is looked up once.
+    #[inline(always)]
+    pub fn kind_and_outcome(&self, event: EventId) -> (EventKind, Option<Outcome>)
+        requires kept { IsKept self.now.events event }
+        ensures kind { result.0 ≡ (kept_at self.now.events event).event.kind }
+        ensures outcome { result.1 ≡ (kept_at self.now.events event).event.outcome }
+    {
+        let slot = &self.store.slots[key_of(&self.index, event)];
+        (slot.kind, slot.outcome())
     }
 
     /// Whether a failure of the event ends no run.
@@ -419,6 +446,37 @@ impl Table {
         let key = key_of(&self.index, event);
         self.store.slots[key].holders -= 1;
         forget_unneeded(&mut self.index, &mut self.store, event, key);
+    }
+
+    /// One holder fewer of an event that is no condition, as by `unhold`. It is looked up once. The answer is whether it
+    /// failed and nobody defused it. None where it is a condition: its holder stays.
+    #[inline(always)]
+    pub fn unhold_plain(&mut self, event: EventId) -> Option<bool>
+        requires kept { IsKept self.old.events event }
+        requires held { 0 < (kept_at self.old.events event).holders }
+        ensures plain { is_some result
+            ≡ is_none (kept_at self.old.events event).event.condition }
+        ensures condition { IfNone result (self.new ≡ self.old) }
+        ensures unhandled { IfSome result (λ unhandled. let x = (kept_at self.old.events event).event in
+            unhandled ≡ (is_fail x.outcome && not x.defused)) }
+        ensures events { IfSome result (λ _.
+            self.new.events ≡ change_or_forget event without_holder self.old.events) }
+        ensures left { self.new.left ≡ self.old.left }
+        ensures kept_and_spare { kept_and_spare self.new ≡ kept_and_spare self.old }
+        ensures callbacks { IfSome result (λ _. self.new.spare.callbacks
+            ≡ self.old.spare.callbacks
+            + callbacks_freed (without_holder (kept_at self.old.events event))) }
+        ensures conditions { self.new.spare.conditions ≡ self.old.spare.conditions }
+    {
+        let key = key_of(&self.index, event);
+        if self.store.slots[key].is_condition {
+            return None;
+        }
+        let slot = &mut self.store.slots[key];
+        slot.holders -= 1;
+        let unhandled = slot.is_unhandled();
+        forget_unneeded(&mut self.index, &mut self.store, event, key);
+        Some(unhandled)
     }
 
     /// Whether an event goes where it has one holder fewer.

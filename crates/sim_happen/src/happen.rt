@@ -1,4 +1,4 @@
-ghost use Rattle.std.specs.Prelude.{◌≡◌, ◌↔◌, ◌+◌, ◌<◌, ◌≤◌, ◌^◌, pos, ◌≤ℤ◌, ◌<ℤ◌, ◌+ℤ◌, [], ◌∷◌, length, Some, None, IsSome, IsFalse, IsTrue, is_some, not, IfOk, IsOk, IsErr, IfNone, IfSome, OnOk, OnErr, MatchOption, if◌then◌else◌};
+ghost use Rattle.std.specs.Prelude.{◌≡◌, ◌↔◌, ◌+◌, ◌<◌, ◌≤◌, ◌^◌, pos, ◌≤ℤ◌, ◌<ℤ◌, ◌+ℤ◌, [], ◌∷◌, length, Some, None, IsSome, IsFalse, IsTrue, is_some, is_none, not, ◌&&◌, IfOk, IsOk, IsErr, IfNone, IfSome, OnOk, OnErr, MatchOption, if◌then◌else◌};
 ghost use Rattle.std.specs.List.{list_any};
 ghost use Rattle.sim_types.specs.declared.event.Entry.{Entry};
 ghost use Rattle.sim_machine.specs.Conditions as conditions;
@@ -281,6 +281,25 @@ impl Happen {
         self.table.unhold(event);
     }
 
+    /// One holder fewer of an event that is no condition, as by `release`. The answer is whether it failed and nobody defused
+    /// it. None where it is a condition: its holder stays.
+    #[inline(always)]
+    pub(crate) fn release_plain(&mut self, event: EventId) -> Option<bool>
+        requires held { HasOwnHolder self.old.events event }
+        ensures plain { is_some result
+            ≡ is_none (kept_at self.old.events event).event.condition }
+        ensures condition { IfNone result (self.new ≡ self.old) }
+        ensures unhandled { IfSome result (λ unhandled. let x = (kept_at self.old.events event).event in
+            unhandled ≡ (events.is_fail x.outcome && not x.defused)) }
+        ensures events { IfSome result (λ _.
+            self.new.events ≡ change_or_forget event without_holder self.old.events) }
+        ensures rest { self.new
+            ≡ record self.old { events = self.new.events; spare = self.new.spare } }
+        ensures room { KeepsRoom self.old self.new }
+    {
+        self.table.unhold_plain(event)
+    }
+
     /// Whether now and a delay pass the last time.
     pub(crate) fn is_too_late(&self, delay: i64) -> bool
         ensures { IsTrue result ↔ pos (2 ^ 62) <ℤ (self.now.time +ℤ delay) }
@@ -299,6 +318,31 @@ impl Happen {
         } }
     {
         Key::new(self.time + delay, priority, self.scheduled)
+    }
+
+    /// An event of this kind is made that has its outcome, and an entry after a delay.
+    #[inline(always)]
+    pub(crate) fn make_scheduled(
+        &mut self,
+        kind: EventKind,
+        outcome: Outcome,
+        priority: u8,
+        delay: i64,
+    ) -> EventId
+        requires spare { 0 < self.old.spare.events }
+        requires number { length self.old.events < 2 ^ 62 }
+        requires not_past { pos 0 ≤ℤ delay }
+        requires high { (self.old.time +ℤ delay) ≤ℤ pos (2 ^ 62) }
+        ensures id { result.0 ≡ length self.old.events }
+        ensures made { Turns (λ c. triggering.schedule (events.next_event c) outcome
+            priority delay (triggering.make kind c)) unheld_event self.old self.new }
+        ensures spare { more_events 1 self.new.spare ≡ self.old.spare }
+    {
+        let key = self.key_after(priority, delay);
+        let event = self.table.make_triggered(kind, outcome);
+        self.scheduled += 1;
+        push(&mut self.agenda, Entry { key, event });
+        event
     }
 
     /// A pending event gets its outcome, and an entry after a delay.

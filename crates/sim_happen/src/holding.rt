@@ -43,9 +43,8 @@ impl Happen {
         }
     }
 
-    /// One holder fewer, beside those that are conditions. Where the event is processed or cancelled and nobody else holds
-    /// it, it goes, and where it is a condition each of its members has a holder fewer, and so on inwards.
-    pub fn unhold(&mut self, event: EventId)
+    // One holder fewer of a condition, as by `unhold`.
+    fn unhold_condition(&mut self, event: EventId)
         requires held { HasOwnHolder self.old.events event }
         ensures events { self.new.events ≡ unheld event self.old.events }
         ensures rest { self.new
@@ -60,6 +59,21 @@ impl Happen {
         }
     }
 
+    /// One holder fewer, beside those that are conditions. Where the event is processed or cancelled and nobody else holds
+    /// it, it goes, and where it is a condition each of its members has a holder fewer, and so on inwards.
+    pub fn unhold(&mut self, event: EventId)
+        requires held { HasOwnHolder self.old.events event }
+        ensures events { self.new.events ≡ unheld event self.old.events }
+        ensures rest { self.new
+            ≡ record self.old { events = self.new.events; spare = self.new.spare } }
+        ensures room { KeepsRoom self.old self.new }
+    {
+        // Most events are no conditions, and are looked up once.
+        if self.release_plain(event).is_none() {
+            self.unhold_condition(event);
+        }
+    }
+
     /// All callbacks of an event were called: the holder that it had while it was processed is given back. The answer is
     /// whether it failed and nobody defused it, so that it ends the run.
     pub fn settle(&mut self, event: EventId) -> bool
@@ -71,8 +85,13 @@ impl Happen {
             ≡ record self.old { events = self.new.events; spare = self.new.spare } }
         ensures room { KeepsRoom self.old self.new }
     {
-        let unhandled = self.is_unhandled(event);
-        self.unhold(event);
-        unhandled
+        match self.release_plain(event) {
+            Some(unhandled) => unhandled,
+            None => {
+                let unhandled = self.is_unhandled(event);
+                self.unhold_condition(event);
+                unhandled
+            }
+        }
     }
 }

@@ -69,22 +69,6 @@ impl Happen {
         self.put_now(event, Outcome::Fail(what), NORMAL)
     }
 
-    // An event of this kind is made that has its outcome, and an entry after a delay.
-    fn make_scheduled(&mut self, kind: EventKind, outcome: Outcome, delay: i64) -> EventId
-        requires spare { 0 < self.old.spare.events }
-        requires number { length self.old.events < 2 ^ 62 }
-        requires not_past { pos 0 ≤ℤ delay }
-        requires high { (self.old.time +ℤ delay) ≤ℤ pos (2 ^ 62) }
-        ensures id { result.0 ≡ length self.old.events }
-        ensures made { Turns (λ c. triggering.schedule (events.next_event c) outcome
-            triggering.normal delay (triggering.make kind c)) unheld_event self.old self.new }
-        ensures spare { more_events 1 self.new.spare ≡ self.old.spare }
-    {
-        let event = self.make(kind);
-        let _put = self.put(event, outcome, NORMAL, delay);
-        event
-    }
-
     /// A timeout event: it succeeds, and is popped after this delay.
     pub fn timeout(&mut self, delay: i64, value: i64) -> Result<EventId, TimeoutFault>
         requires spare { 0 < self.old.spare.events }
@@ -103,7 +87,7 @@ impl Happen {
         } else if self.is_too_late(delay) {
             Err(TimeoutFault::TimeLimit)
         } else {
-            Ok(self.make_scheduled(EventKind::Timeout, Outcome::Ok(value), delay))
+            Ok(self.make_scheduled(EventKind::Timeout, Outcome::Ok(value), NORMAL, delay))
         }
     }
 

@@ -10,6 +10,7 @@ pub mod Soundness
 pub mod Spares
 pub mod PoppedEntries
 pub mod NewEvents
+pub mod MadeScheduled
 pub mod Judging
 pub mod Shutting
 pub mod Unholding

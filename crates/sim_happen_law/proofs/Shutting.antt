@@ -1,17 +1,20 @@
 -- An event goes where nobody holds it.
-use Rattle.std.proofs.Common.{◌≡◌, ◌≢◌, ⊎_elim, fold, ℕ, ◌+◌, ◌<◌, ◌≤◌, Bool, true, false, not, ◌||◌, List, [], ◌∷◌, ◌++◌, refl, sym, ap, subst, ◌∙◌, arith, zero, suc, Option, Some, None, if◌then◌else◌, ◌⊎◌, inl, inr}
+use Rattle.std.proofs.Common.{◌≡◌, ◌≢◌, ⊎_elim, fold, ℕ, ◌+◌, ◌<◌, ◌≤◌, Bool, true, false, not, ◌||◌, List, [], ◌∷◌, ◌++◌, length, refl, sym, ap, subst, ◌∙◌, arith, zero, suc, Option, Some, None, if◌then◌else◌, ◌⊎◌, inl, inr}
 use Rattle.std.specs.Prelude.{slice_set, slice_index_or, nat_lt, IsSome, count_by}
+use Rattle.std.specs.List.{sum_by}
 use Rattle.std.proofs.lemmas.Bool.{false≢true}
 use Rattle.sim_types.specs.declared.event.EventId.{EventId}
 use Rattle.sim_machine.specs.State.{EventOf}
 use Rattle.sim_machine.specs.Events.{is_same, cancel_event}
 use Rattle.sim_machine_law.proofs.CallbackLaws.{count_by-cons, count_by-append, counts_one, counts_none}
-use Rattle.sim_events.specs.TableOf.{Kept, IsKept, kept_at, kept_or_new, is_needed}
-use Rattle.sim_events.specs.Changes.{some_if_needed, with_cancelled, without_holder}
+use Rattle.sim_agenda.specs.Agendas.{AgendaOf}
+use Rattle.sim_events.specs.TableOf.{Kept, IsKept, TableOf, kept_at, kept_count, kept_and_spare, kept_or_new, is_needed}
+use Rattle.sim_events.specs.Changes.{change_or_forget, some_if_needed, with_cancelled, without_holder}
 use Rattle.sim_happen_model.specs.HappenOf.{HappenOf, held, gone_if_unheld, none_if_unheld}
 use Rattle.sim_happen_model.specs.Holders.{members_in, member_count, memberships, AreOwed, HasOwnHolder, unheld_within}
 use Rattle.sim_happen_model.specs.Shows.{IsShown, Turns}
-use Rattle.sim_happen_model.specs.Sound.{awaits, kept_one, pending_one, AreNarrow, IsInOrder, IsSound}
+use Rattle.sim_happen_model.specs.Sound.{awaits, kept_one, pending_one, spare_in, AreNarrow, IsInOrder, IsSound}
+use Rattle.sim_happen_law.proofs.Spares.{kept_fewer, spare_given}
 use Rattle.sim_happen_law.proofs.KeptPlaces.{kept_made, kept_is, at_set, sum_set}
 use Rattle.sim_happen_law.proofs.Held.{held_set, held_at, holders_at}
 use Rattle.sim_happen_law.proofs.Shown.{shows_set, same_but_changed, changed_shown}
@@ -212,6 +215,15 @@ sound_released h n room e own t is s =
     (λ z. owed_fewer (members_in k) [] (slice_set h.events e.0 None) (owed_goes [] h.events e kept (unneeded_is j z).0 owed)) (λ z. owed_stays [] h.events e kept owed))
     (needed_or_gone (λ x. AreNarrow (slice_set h.events e.0 x)) j (λ z. narrow_gone h.events e kept s.narrow) (λ z. narrow_with h.events e j kept refl s.narrow))
     s
+
+-- the room of what goes is given again
+pub released_spare : (a : AgendaOf) (t u : TableOf) (e : EventId) → HasOwnHolder t.events e → sum_by kept_one t.events ≤ length a.entries + a.spare
+    → u.events ≡ change_or_forget e without_holder t.events → kept_and_spare u ≡ kept_and_spare t
+    → kept_count u.events + (spare_in a u).events ≡ kept_count t.events + (spare_in a t).events
+released_spare a t u e own fit is same =
+    let j : Kept = without_holder (kept_at t.events e) in
+    let one = needed_or_gone (λ o. kept_one o ≤ 1) j (λ z. omega arith) (λ z. omega arith) in
+    spare_given a t u same fit (kept_fewer t.events u.events e (some_if_needed j) (own_kept t.events e own) is one)
 
 -- ---- and so on through what it held
 

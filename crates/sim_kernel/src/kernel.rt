@@ -86,7 +86,8 @@ impl<B: Body> Kernel<B> {
         requires units { self.old.units + most ≤ 2 ^ 32 }
         ensures most { IfOk result (λ units. units.made ≤ most) }
         // From each lawful state that it stood for, and by the invariant there is one.
-        ensures steps { IfOk result (λ units. MakesSteps B.body units.made self.old.parts units.last self.new.parts) }
+        ensures steps { IfOk result (λ units. MakesSteps B.body units.made
+            self.old.parts units.last self.new.parts) }
 
         ensures opened { OnOk result (IsOpenedAs self.old.parts self.new.parts) }
         ensures units { IfOk result (λ units. self.new.units ≡ self.old.units + units.made) }

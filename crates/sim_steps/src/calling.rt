@@ -9,6 +9,7 @@ ghost use Rattle.sim_machine.specs.Steps as steps;
 ghost use Rattle.sim_machine.specs.LawfulTries.{tries_well};
 ghost use Rattle.sim_events.specs.Changes.{more_callbacks};
 ghost use Rattle.sim_events.specs.TableOf.{AreNeeded, IsKept, kept_at};
+ghost use Rattle.sim_happen_model.specs.Holders.{HasOwnHolder, unheld};
 ghost use Rattle.sim_happen_model.specs.Shows.{Follows};
 ghost use Rattle.sim_happen_model.specs.HappenOf.{held};
 ghost use Rattle.sim_shared_model.specs.Waiting.{AreAllOpen};
@@ -16,10 +17,11 @@ ghost use Rattle.sim_accounts.specs.Naming.{but_zero, triggered_by};
 ghost use Rattle.sim_steps_model.specs.Becoming.{AreFew, Becomes, BecomesOwing, IsOwing, Moves};
 ghost use Rattle.sim_steps_model.specs.Calling.{called, CallsKept, TakesCallback};
 ghost use Rattle.sim_steps_model.specs.Conditions.{CallsCondition};
-ghost use Rattle.sim_steps_model.specs.PartsOf.{HasRoomForNext, IsCalling, KeepsButHappen, call_takes_room, plan_of};
+ghost use Rattle.sim_steps_model.specs.PartsOf.{HasRoomForNext, IsCalling, KeepsButHappen, call_takes_room, plan_of, with_happen};
 ghost use Rattle.sim_steps_model.specs.Resources.{AreResourcesReady};
 ghost use Rattle.sim_steps_model.specs.StandsFor.{StandsForSome};
 
+use crate::events::told_of;
 use crate::parts::Parts;
 use sim_procs::Body;
 use sim_steps_model::{Mode, Unit};
@@ -67,31 +69,29 @@ impl<B: Body> Parts<B> {
         self.mode = Mode::Idle;
     }
 
-    // Whether the event failed, and nobody defused it.
-    fn is_unhandled(&self, event: EventId) -> bool
-        requires kept { IsKept self.now.shared.happen.events event }
-        ensures { let x = (kept_at self.now.shared.happen.events event).event in
-            result ≡ (is_fail x.outcome && not x.defused) }
-    {
-        self.shared.happen().is_unhandled(event)
-    }
-
-    // No callback of the event is left: a failure that nobody defused ends the run. The event is not processed any more, and
-    // its holder is to be given back.
-    fn finish_event(&mut self, event: EventId)
-        requires done { self.old.control ≡ Calling event [] }
+    // The holder is given back that an event has while it is processed. The answer is whether it failed and nobody defused
+    // it. Event 0 has no such holder.
+    #[inline(always)]
+    fn unhold_settled(&mut self, event: EventId) -> bool
         requires kept { IsKept self.old.shared.happen.events event }
-        ensures owes { BecomesOwing B.body [] (but_zero (event ∷ [])) 0 (steps.settle event)
-            self.old self.new }
+        requires held { event.0 ≢ 0 → HasOwnHolder self.old.shared.happen.events event }
+        ensures unhandled { let x = (kept_at self.old.shared.happen.events event).event in
+            result ≡ (is_fail x.outcome && not x.defused) }
+        ensures zero { event.0 ≡ 0 → self.new ≡ self.old }
+        ensures events { event.0 ≢ 0
+            → self.new.shared.happen.events ≡ unheld event self.old.shared.happen.events }
+        ensures rest { let x = self.new.shared.happen in self.new ≡ with_happen
+            (record self.old.shared.happen { events = x.events; spare = x.spare }) self.old }
     {
-        if self.is_unhandled(event) {
-            self.end_run(End::Crash, event);
+        if event.0 == 0 {
+            self.shared.happen().is_unhandled(event)
         } else {
-            self.go_idle(event);
+            self.shared.happen_mut().settle(event)
         }
     }
 
-    // The event is settled, and goes where nobody holds it any more.
+    // No callback of the event is left: it is settled, and goes where nobody holds it any more. A failure that nobody defused
+    // ends the run.
     #[inline(always)]
     fn settle(&mut self, event: EventId)
         requires done { self.old.control ≡ Calling event [] }
@@ -99,8 +99,11 @@ impl<B: Body> Parts<B> {
         requires owing { IsOwing B.body [] self.old }
         ensures becomes { Becomes B.body (steps.settle event) self.old self.new }
     {
-        self.finish_event(event);
-        self.unhold(event);
+        if self.unhold_settled(event) {
+            self.end_run(End::Crash, event);
+        } else {
+            self.go_idle(event);
+        }
     }
 
     // The event ends the run. It is not processed any more, and its holder is to be given back.
@@ -136,9 +139,9 @@ impl<B: Body> Parts<B> {
         ensures { let x = (kept_at self.now.shared.happen.events event).event in
             result ≡ steps.signal_by x.kind x.outcome }
     {
-        match self.shared.happen().table().kind(event) {
-            EventKind::Init => Signal::Begin,
-            _ => self.signal_of(event),
+        match self.shared.happen().table().kind_and_outcome(event) {
+            (EventKind::Init, _) => Signal::Begin,
+            (_, outcome) => told_of(outcome),
         }
     }
 

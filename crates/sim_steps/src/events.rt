@@ -22,6 +22,18 @@ use sim_types::{
     ALREADY_TRIGGERED, Callback, EventId, EventKind, FAILURE, Outcome, ProcId, Signal, Throw,
 };
 
+/// What a process is told of an event that turned out so.
+#[inline(always)]
+pub(crate) fn told_of(outcome: Option<Outcome>) -> Signal
+    ensures { result ≡ processes.signal_of outcome }
+{
+    match outcome {
+        None => Signal::Value(0),
+        Some(Outcome::Ok(value)) => Signal::Value(value),
+        Some(Outcome::Fail(what)) => Signal::Thrown(what),
+    }
+}
+
 impl<B: Body> Parts<B> {
     /// Whether an event is processed.
     pub(crate) fn is_processed(&self, event: EventId) -> bool
@@ -49,11 +61,7 @@ impl<B: Body> Parts<B> {
         ensures { result
             ≡ processes.signal_of (kept_at self.now.shared.happen.events event).event.outcome }
     {
-        match self.outcome(event) {
-            None => Signal::Value(0),
-            Some(Outcome::Ok(value)) => Signal::Value(value),
-            Some(Outcome::Fail(what)) => Signal::Thrown(what),
-        }
+        told_of(self.outcome(event))
     }
 
     /// A failure that a process is told of ends no run by itself. Any other event stays as it is.

@@ -1,7 +1,7 @@
 -- Pops, calls of callbacks and the settling of an event are those of the machine.
 use Rattle.std.proofs.Common.{◌≡◌, ◌≢◌, ℕ, ◌+◌, ◌<◌, ◌≤◌, Bool, true, false, arith, List, [], ◌∷◌, ◌++◌, length, refl, sym, ap, subst, ◌∙◌, Option, Some, None, if◌then◌else◌}
-use Rattle.std.specs.Prelude.{◌&&◌, ◌||◌, not, All, IsSome, slice_index_or}
-use Rattle.std.proofs.lemmas.Bool.{and_parts, both_ways, false≢true, not-true}
+use Rattle.std.specs.Prelude.{◌&&◌, ◌||◌, ◌==◌, not, All, IsSome, slice_index_or}
+use Rattle.std.proofs.lemmas.Bool.{and_parts, both_ways, eqb-false, eqb-true, false≢true, not-true}
 use Rattle.std.proofs.lemmas.List.{append-nil}
 use Rattle.sim_types.specs.declared.event.EventId.{EventId}
 use Rattle.sim_types.specs.declared.event.Entry.{Entry}
@@ -42,7 +42,7 @@ use Rattle.sim_steps_model.specs.StandsFor.{StandsFor, LawfulOf}
 use Rattle.sim_steps_model.specs.Becoming.{Stands, Becomes, BecomesOwing, BecomesWith, IsOwing, Moves, most_held}
 use Rattle.sim_procs.specs.RecordOf.{RecordOf, record_of}
 use Rattle.sim_steps_model.specs.Calling.{called, events_left, target_in, CallsKept, TakesCallback}
-use Rattle.sim_happen_model.specs.Holders.{PassesOn}
+use Rattle.sim_happen_model.specs.Holders.{HasOwnHolder, PassesOn, unheld}
 use Rattle.sim_accounts.specs.Accounts.{Balanced, AreGoneClosed}
 use Rattle.sim_accounts.specs.Changes.{StatesTrade}
 use Rattle.sim_accounts.specs.Naming.{but_zero, held_alone, triggered_by}
@@ -53,9 +53,9 @@ use Rattle.sim_accounts.proofs.Quiet.{called_trade, settled_trade}
 use Rattle.sim_accounts.proofs.StateChanges.{popped_trade, processed_trade}
 use Rattle.sim_steps_model.specs.StandsFor.{Balances}
 use Rattle.sim_steps_law.proofs.Keeping.{adds_one_more, none_is_few, few_by, few_same, few_more}
-use Rattle.sim_steps_law.proofs.Accounting.{other_is, owing_after, owing_besides, owing_by, stay_stated}
-use Rattle.sim_steps_law.proofs.Becoming.{lawful_stands, becomes_then, becomes_as, becomes_followed, no_fewer, owing_controlled, shown_with}
-use Rattle.sim_steps_law.proofs.Holding.{returning_any}
+use Rattle.sim_steps_law.proofs.Accounting.{other_is, owing_after, owing_holder, owing_besides, owing_by, stay_stated, zero_is}
+use Rattle.sim_steps_law.proofs.Becoming.{lawful_stands, becomes_then, becomes_as, becomes_followed, becomes_none, no_fewer, owing_controlled, shown_with}
+use Rattle.sim_steps_law.proofs.Holding.{returning_any, returning_owes}
 
 -- what comes next is what the control says
 pub at_control : {B : Type 0} (g : Plan B) (turn : Turn B) (s t : State B) (c : Control) → c ≡ s.control → IsStepAt g turn s t c → IsStep g turn s t
@@ -343,6 +343,47 @@ module _ {B Code : Type 0} {body : BodyOf B Code} (a n : PartsOf B Code) (event 
       over_trade s calling why =
           processed_trade a.setup.events (body.tell a.code) s (Over why event (left_of s.control)) [] (event ∷ [])
           (λ f. rw calling (omega (arith, count_by-one (is_same f) event, ap one_if (is_same-swap f event)))) (λ f. omega arith)
+
+-- all its callbacks were called
+module _ {B Code : Type 0} {body : BodyOf B Code} (a : PartsOf B Code) (event : EventId) (unhandled : Bool) (kept : IsKept a.shared.happen.events event)
+    (done : a.control ≡ Calling event []) (read : unhandled ≡ (is_fail (kept_now a event).outcome && not (kept_now a event).defused)) (owing : IsOwing body [] a) where
+  -- the event is not processed any more, and its holder still to be given back
+  abbrev finished : PartsOf B Code
+  finished = record a { control = if unhandled then Over end.Crash event [] else Idle }
+
+  finished_owes : BecomesOwing body [] (but_zero (event ∷ [])) 0 (settle event) a finished
+  finished_owes = settled_owes a finished event kept unhandled done read refl
+
+  finished_owing : IsOwing body (but_zero (event ∷ [])) finished
+  finished_owing = owing_after (settle event) a finished finished_owes owing
+
+  pub settled_held : event.0 ≢ 0 → HasOwnHolder a.shared.happen.events event
+  settled_held other = owing_holder event finished (subst (λ xs. IsOwing body xs finished) (other_is event other) finished_owing)
+
+  -- it is, and its holder is given back
+  pub settled_becomes : (m n : PartsOf B Code) → (event.0 ≡ 0 → m ≡ a) → (event.0 ≢ 0 → m.shared.happen.events ≡ unheld event a.shared.happen.events) →
+      m ≡ with_happen (record a.shared.happen { events = m.shared.happen.events; spare = m.shared.happen.spare }) a →
+      n ≡ record m { control = finished.control } → Becomes body (settle event) a n
+  settled_becomes m n zero events rest is =
+      becomes_then (settle event) (λ s. s) a finished n finished_owes
+      (subst (λ (x : PartsOf B Code). BecomesOwing body (but_zero (event ∷ [])) [] 0 (λ s. s) finished x) (sym now) (go (event.0 == 0) refl))
+    where
+      x : HappenOf
+      x = m.shared.happen
+
+      others : x ≡ record a.shared.happen { events = x.events; spare = x.spare }
+      others = ap (λ (y : PartsOf B Code). y.shared.happen) rest
+
+      now : n ≡ with_happen x finished
+      now = is ∙ ap (λ (y : PartsOf B Code). record y { control = finished.control }) rest ∙ ap (λ (y : HappenOf). with_happen y finished) (sym others)
+
+      go : (b : Bool) → (event.0 == 0) ≡ b → BecomesOwing body (but_zero (event ∷ [])) [] 0 (λ s. s) finished (with_happen x finished)
+      go true at =
+          let none = eqb-true event.0 0 at in
+          rw (zero_is event none, ap (λ (y : PartsOf B Code). y.shared.happen) (zero none)) (becomes_none finished)
+      go false at =
+          let other = eqb-false event.0 0 at in
+          returning_owes event finished x other finished_owing (events other) others
 
 -- a process that it resumes runs, and a failure that it is told of ends no run by itself
 pub resumed_becomes : {B Code : Type 0} {body : BodyOf B Code} (g : Plan B)

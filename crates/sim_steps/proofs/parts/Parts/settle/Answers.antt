@@ -1,7 +1,28 @@
-use Rattle.sim_machine.specs.Steps as steps
-use Rattle.sim_steps_law.proofs.Becoming.{becomes_then}
+use Rattle.std.proofs.Common.{◌≡◌, [], true, false, sym, refl, ap, ◌∙◌}
+use Rattle.sim_machine.specs.State.{Calling, Over}
+use Rattle.sim_machine.specs.Standing.{left_of}
+use Rattle.sim_types.specs.declared.line.End.TheVariants as end
+use Rattle.sim_steps_law.proofs.Calls.{settled_held, settled_becomes}
 use Rattle.sim_steps.proofs.parts.Parts.settle.Goals as goal
 
-pub returns : goal.returns
-returns g c =
-    record { becomes = becomes_then (steps.settle c.args.event) (λ s. s) c.args.self.now c.finish_event.new.self c.unhold.new.self c.finish_event.ensures.owes c.unhold.ensures.owes }
+pub unhold_settled-requires-clause-held : goal.unhold_settled-requires-clause-held
+unhold_settled-requires-clause-held g c =
+    settled_held c.args.self.now c.args.event _ c.requires.kept c.requires.done refl c.requires.owing
+
+pub returns-then-unhold_settled : goal.returns-then-unhold_settled
+returns-then-unhold_settled g c =
+    let settled = c.unhold_settled.ensures in
+    let still : c.unhold_settled.new.self.control ≡ Calling c.args.event [] = rw settled.rest c.requires.done in
+    record {
+      becomes = settled_becomes c.args.self.now c.args.event true c.requires.kept c.requires.done (sym c.if-unhold_settled.true ∙ settled.unhandled) c.requires.owing
+          c.unhold_settled.new.self c.end_run.new.self settled.zero settled.events settled.rest
+          (c.end_run.ensures ∙ ap (λ k. record c.unhold_settled.new.self { control = Over end.Crash c.args.event (left_of k) }) still);
+    }
+
+pub returns-else-unhold_settled : goal.returns-else-unhold_settled
+returns-else-unhold_settled g c =
+    let settled = c.unhold_settled.ensures in
+    record {
+      becomes = settled_becomes c.args.self.now c.args.event false c.requires.kept c.requires.done (sym c.if-unhold_settled.false ∙ settled.unhandled) c.requires.owing
+          c.unhold_settled.new.self c.go_idle.new.self settled.zero settled.events settled.rest c.go_idle.ensures;
+    }
