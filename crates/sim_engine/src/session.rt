@@ -117,6 +117,7 @@ impl Session {
 
     /// Makes a unit, and goes on until the run is idle or empty again, is over, or has spent all its units. The lines are
     /// written. After a fault it may only be closed.
+    #[inline(always)]
     pub fn turn<K: Sink>(&mut self, scenario: &Scenario, out: &mut K) -> Result<Turn, EngineFault>
         requires code { scenario.now ≡ self.old.parts.code }
         requires idle { turn_of self.old ≡ Turn.Idle }
