@@ -16,7 +16,7 @@ use Rattle.sim_events.specs.Stores.{spare_of, kept_by_key, events_in, table_of, 
 use Rattle.sim_events.specs.TableOf.{Kept, IsKept, is_needed, is_settled, kept_at, kept_count, kept_and_spare}
 use Rattle.sim_events.specs.Changes.{without_holder, change_or_forget, callbacks_freed, conditions_freed}
 use Rattle.sim_events.proofs.Slabs.{with_value_len, there_from}
-use Rattle.sim_events.proofs.Nodes.{KeepsNodes, nodes_relinked}
+use Rattle.sim_events.proofs.Nodes.{nodes_relinked}
 use Rattle.sim_events.proofs.Parts.{KeepsParts, parts_same, parts_updated, free_own}
 use Rattle.sim_events.proofs.Storing.{stored_with, others_with}
 use Rattle.sim_events.proofs.Placing.{event_found, kept_found, kept_is_placed, placed_less, events_less}
@@ -43,7 +43,9 @@ module _ (s : Store) (calls : Chain) (w : IsStored s calls) (key : ℕ) (x : Slo
       fit = omega (arith, w.parts_fit, f.len, f.capacity)
 
       go : (b : Bool) → x.is_condition ≡ b → KeepsParts s.parts parts w.part_owner key None
-      go true holds = parts_updated s.parts parts w.part_owner key x.part None (f.one holds) None (free_own s.parts w.part_owner key x.part (w.parts key x found holds).mine) (λ y is. absurd (cc)) fit
+      go true holds =
+          let own = free_own s.parts w.part_owner key x.part (w.parts key x found holds).mine in
+          parts_updated s.parts parts w.part_owner key x.part None (f.one holds) None own (λ y is. absurd (cc)) fit
       go false fails = let same = f.none fails in rw same (parts_same s.parts w.part_owner key None (λ y is. absurd (cc)) w.parts_fit)
 
   pub gives_back : (new : Store) (chain : Chain) → Updates s.slots new.slots key None → slab_len new.slots + 1 ≡ slab_len s.slots
@@ -52,7 +54,7 @@ module _ (s : Store) (calls : Chain) (w : IsStored s calls) (key : ℕ) (x : Slo
       → FreesPart x.is_condition x.part s.parts new.parts → GivesBack s key new calls
   gives_back new chain updates len capacity others spare f =
       let r = others w.owners (suc key) (w.chains key x found) in
-      let n : KeepsNodes s.nodes new.nodes w.owners key None calls = nodes_relinked s.nodes new.nodes w.owners key None calls chain r (λ y is. absurd (cc)) w.left in
+      let n = nodes_relinked s.nodes new.nodes w.owners key None calls chain r (λ y is. absurd (cc)) w.left in
       let p = parts_freed new.parts f in
       let is : kept_by_key s key ≡ Some (kept_in s.nodes s.parts x) = ap (option_map (kept_in s.nodes s.parts)) found in
       record {
@@ -70,7 +72,8 @@ module _ (s : Store) (calls : Chain) (w : IsStored s calls) (key : ℕ) (x : Slo
 spare_more : (i n c d : ℕ) → d + 1 ≡ c → d + min (i + 1) (n + 1) ≡ c + min i n
 spare_more i n c d less = omega arith
 
-module _ (index : IndexOf) (s : Store) (calls : Chain) (placed : ArePlaced index.places s.slots) (w : IsStored s calls) (e : EventId) (key : ℕ) (x : Slot) (at : place_of_number e.0 index.places ≡ Some key) (found : get s.slots key ≡ Some x) where
+module _ (index : IndexOf) (s : Store) (calls : Chain) (placed : ArePlaced index.places s.slots) (w : IsStored s calls) (e : EventId) (key : ℕ) (x : Slot)
+    (at : place_of_number e.0 index.places ≡ Some key) (found : get s.slots key ≡ Some x) where
   there : IsKept (events_in index.places s) e
   there = kept_is_placed index.places s placed e.0 ∙ ap is_some at
 
@@ -95,16 +98,17 @@ module _ (index : IndexOf) (s : Store) (calls : Chain) (placed : ArePlaced index
   pub goes : is_slot_needed x ≡ false → (later : IndexOf) (new : Store) → later.places ≡ set index.places e.0 None → later.spare ≡ index.spare + 1
       → GivesBack s key new calls → ForgetsSlot e index s later new calls
   goes needed later new places spare c =
-      let fails : is_needed (kept_at (events_in index.places s) e) ≡ false = rw seen needed in
-      let gone : events_in later.places new ≡ set (events_in index.places s) e.0 None = ap (λ ps. events_in ps new) places ∙ events_less index.places s new placed e.0 key at c.others in
-      let is : kept_by_key s key ≡ Some (kept_at (events_in index.places s) e) = sym (event_found index.places s e.0 key at) ∙ kept_is (events_in index.places s) e there in
+      let was = events_in index.places s in
+      let fails : is_needed (kept_at was e) ≡ false = rw seen needed in
+      let gone : events_in later.places new ≡ set was e.0 None = ap (λ ps. events_in ps new) places ∙ events_less index.places s new placed e.0 key at c.others in
+      let is : kept_by_key s key ≡ Some (kept_at was e) = sym (event_found index.places s e.0 key at) ∙ kept_is was e there in
       record {
         placed = rw places (placed_less index.places s new placed e.0 key at c.updates);
         stored = c.stored;
         forgets = record {
-          events = gone ∙ forgotten_unneeded (events_in index.places s) e fails;
+          events = gone ∙ forgotten_unneeded was e fails;
           left = c.left;
-          all = rw (gone, spare, c.slots) (spare_more index.spare (spare_of s.slots) _ _ (count_forgotten (events_in index.places s) e there));
+          all = rw (gone, spare, c.slots) (spare_more index.spare (spare_of s.slots) _ _ (count_forgotten was e there));
           callbacks = rw fails (c.nodes _ is);
           conditions = rw fails (c.parts _ is);
         };
@@ -113,7 +117,8 @@ module _ (index : IndexOf) (s : Store) (calls : Chain) (placed : ArePlaced index
 -- ---- an event changes, and then goes or stays
 
 -- what holds of the table then
-pub record Forgotten (index : IndexOf) (old : Store) (was : Chain) (later : IndexOf) (new : Store) (calls : Chain) (e : EventId) (change : Kept → Kept) : Type 0 where
+pub record Forgotten (index : IndexOf) (old : Store) (was : Chain) (later : IndexOf) (new : Store) (calls : Chain) (e : EventId) (change : Kept → Kept)
+    : Type 0 where
   pub sound : IsSoundTable later.places new calls
   pub events : events_in later.places new ≡ change_or_forget e change (events_in index.places old)
   pub left : callbacks_in new.nodes calls ≡ callbacks_in old.nodes calls
@@ -121,23 +126,26 @@ pub record Forgotten (index : IndexOf) (old : Store) (was : Chain) (later : Inde
   pub callbacks : spare_in new.nodes ≡ spare_in old.nodes + callbacks_freed (change (kept_at (events_in index.places old) e))
   pub conditions : spare_of new.parts ≡ spare_of old.parts + conditions_freed (change (kept_at (events_in index.places old) e))
 
-module _ (index later : IndexOf) (old mid new : Store) (left calls : Chain) (t : IsSoundTable index.places old left) (e : EventId) (key : ℕ) (change : Kept → Kept) where
+module _ (index later : IndexOf) (old mid new : Store) (left calls : Chain) (t : IsSoundTable index.places old left) (e : EventId) (key : ℕ)
+    (change : Kept → Kept) where
   pub forgotten : place_of_number e.0 index.places ≡ Some key → Rewrites index.places old mid calls e change
       → spare_of mid.slots ≡ spare_of old.slots → mid.nodes ≡ old.nodes → spare_of mid.parts ≡ spare_of old.parts
       → IsTrue (is_settled (change (kept_at (events_in index.places old) e)))
       → ForgetsSlot e index mid later new calls → Forgotten index old left later new calls e change
   forgotten at r slots nodes parts settled d =
+      let was = events_in index.places old in
+      let now = events_in index.places mid in
       let kept = is_kept index.places old left t e key at in
-      let events = forgotten_changed (events_in index.places old) e change kept (events_in index.places mid) (events_in later.places new) r.events d.forgets.events in
-      let count : kept_count (events_in index.places mid) ≡ kept_count (events_in index.places old) = ap kept_count r.events ∙ count_changed (events_in index.places old) e change kept in
-      let is : kept_at (events_in index.places mid) e ≡ change (kept_at (events_in index.places old) e) = ap (λ es. kept_at es e) r.events ∙ kept_changed (events_in index.places old) e change kept in
+      let events = forgotten_changed was e change kept now (events_in later.places new) r.events d.forgets.events in
+      let count : kept_count now ≡ kept_count was = ap kept_count r.events ∙ count_changed was e change kept in
+      let is : kept_at now e ≡ change (kept_at was e) = ap (λ es. kept_at es e) r.events ∙ kept_changed was e change kept in
       record {
-        sound = record { placed = d.placed; stored = d.stored; in_order = rw events (ordered_forgotten (events_in index.places old) e change t.in_order kept settled) };
+        sound = record { placed = d.placed; stored = d.stored; in_order = rw events (ordered_forgotten was e change t.in_order kept settled) };
         events = events;
         left = d.forgets.left ∙ ap (λ ns. callbacks_in ns calls) nodes;
         all = d.forgets.all ∙ rw (count, slots) refl;
-        callbacks = d.forgets.callbacks ∙ ap (λ ns. spare_in ns + callbacks_freed (kept_at (events_in index.places mid) e)) nodes ∙ ap (λ k. spare_in old.nodes + callbacks_freed k) is;
-        conditions = d.forgets.conditions ∙ ap (λ n. n + conditions_freed (kept_at (events_in index.places mid) e)) parts ∙ ap (λ k. spare_of old.parts + conditions_freed k) is;
+        callbacks = d.forgets.callbacks ∙ ap (λ ns. spare_in ns + callbacks_freed (kept_at now e)) nodes ∙ ap (λ k. spare_in old.nodes + callbacks_freed k) is;
+        conditions = d.forgets.conditions ∙ ap (λ n. n + conditions_freed (kept_at now e)) parts ∙ ap (λ k. spare_of old.parts + conditions_freed k) is;
       }
 
 -- where the slot alone changed before
@@ -145,15 +153,19 @@ pub forgotten_slot : (index later : IndexOf) (s new : Store) (left : Chain) (t :
     (change : Kept → Kept) → place_of_number e.0 index.places ≡ Some key → get s.slots key ≡ Some x
     → Rewrites index.places s (record s { slots = with_value s.slots key y }) left e change
     → IsTrue (is_settled (change (kept_at (events_in index.places s) e)))
-    → ForgetsSlot e index (record s { slots = with_value s.slots key y }) later new left → Forgotten index s left later new left e change
+    → ((calls : Chain) → IsStored (record s { slots = with_value s.slots key y }) calls
+    → ForgetsSlot e index (record s { slots = with_value s.slots key y }) later new calls)
+    → Forgotten index s left later new left e change
 forgotten_slot index later s new left t e key x y change at found r settled d =
     let same = ap (λ n. s.slots.capacity - n) (with_value_len s.slots key y (there_from s.slots key x found)) in
-    forgotten index later s (record s { slots = with_value s.slots key y }) new left left t e key change at r same refl refl settled d
+    forgotten index later s (record s { slots = with_value s.slots key y }) new left left t e key change at r same refl refl settled (d left r.stored)
 
 -- where one holder fewer is all that changed before
 pub released : (index later : IndexOf) (s new : Store) (left : Chain) (t : IsSoundTable index.places s left) (e : EventId) (key : ℕ) (x : Slot)
     → place_of_number e.0 index.places ≡ Some key → get s.slots key ≡ Some x
-    → ForgetsSlot e index (record s { slots = with_value s.slots key (one_fewer x) }) later new left → Forgotten index s left later new left e without_holder
+    → ((calls : Chain) → IsStored (record s { slots = with_value s.slots key (one_fewer x) }) calls
+    → ForgetsSlot e index (record s { slots = with_value s.slots key (one_fewer x) }) later new calls)
+    → Forgotten index s left later new left e without_holder
 released index later s new left t e key x at found d =
     forgotten_slot index later s new left t e key x (one_fewer x) without_holder at found (rewrites_released index.places s left t e key x at found)
     (t.in_order e (is_kept index.places s left t e key at)).1 d

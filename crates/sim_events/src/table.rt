@@ -1,11 +1,11 @@
-ghost use Rattle.std.specs.Prelude.{◌≡◌, ◌↔◌, ◌+◌, ◌<◌, ◌≤◌, ◌^◌, ◌&&◌, [], ◌∷◌, ◌++◌, length, Some, None, IsSome, IsFalse, IsTrue, is_some, is_none, not, IsOk, IfOk, IfNone, IfSome, OnOk, OnErr, MatchOption, slice_index_or};
+ghost use Rattle.std.specs.Prelude.{◌≡◌, ◌↔◌, ◌+◌, ◌<◌, ◌≤◌, ◌^◌, [], ◌∷◌, ◌++◌, length, Some, None, IsSome, IsFalse, IsTrue, is_some, IsOk, IfOk, IfNone, OnOk, OnErr, MatchOption, slice_index_or};
 ghost use Rattle.std.specs.List.{list_any};
-ghost use Rattle.sim_machine.specs.Events.{is_fail, pending_event, without_first};
+ghost use Rattle.sim_machine.specs.Events.{pending_event, without_first};
 ghost use Rattle.sim_machine.specs.Standing.{one_if};
 ghost use Rattle.sim_machine.specs.Users.{first_of_list};
 ghost use Rattle.sim_chains.specs.Callbacks.{is_same_callback};
-ghost use Rattle.sim_events.specs.TableOf.{new_kept, first_kept, kept_at, IsKept, AreNeeded, is_needed, kept_count, kept_and_spare};
-ghost use Rattle.sim_events.specs.Changes.{with_outcome, with_defused, with_processed, with_cancelled, with_callback, without_callback, with_holder, without_holder, change_kept, change_or_forget, callbacks_freed, conditions_freed, more_events, more_callbacks};
+ghost use Rattle.sim_events.specs.TableOf.{new_kept, first_kept, kept_at, IsKept, AreNeeded, kept_count, kept_and_spare};
+ghost use Rattle.sim_events.specs.Changes.{with_outcome, with_defused, with_processed, with_cancelled, with_callback, without_callback, with_holder, change_kept, change_or_forget, callbacks_freed, conditions_freed, more_events, more_callbacks};
 ghost use Rattle.sim_events.specs.States.{state_of};
 ghost use Rattle.sim_events.specs.declared.table.EventState.TheVariants as state;
 ghost use Rattle.sim_events.specs.Stores.{IsStore, IsStored, ArePlaced, ForgetsSlot, AddsSlot};
@@ -14,6 +14,7 @@ ghost use Rattle.sim_index.specs.IndexOf.{place_of_number};
 ghost use Rattle.slab.specs.Slab.{HasRoomFor};
 
 mod conditions;
+mod holding;
 
 use crate::slot::Slot;
 use crate::store::Store;
@@ -220,14 +221,6 @@ impl Table {
         }
     }
 
-    /// What an event is for.
-    pub fn kind(&self, event: EventId) -> EventKind
-        requires kept { IsKept self.now.events event }
-        ensures { result ≡ (kept_at self.now.events event).event.kind }
-    {
-        self.store.slots[key_of(&self.index, event)].kind
-    }
-
     /// How an event turned out. None where it is pending.
     #[inline(always)]
     pub fn outcome(&self, event: EventId) -> Option<Outcome>
@@ -416,75 +409,6 @@ impl Table {
         ensures absent { IsFalse result → self.new ≡ self.old }
     {
         self.store.nodes.take_out(&mut self.left, callback)
-    }
-
-    /// One holder more: the event is kept until it is let go.
-    pub fn hold(&mut self, event: EventId)
-        requires kept { IsKept self.old.events event }
-        requires few { (kept_at self.old.events event).holders < 2 ^ 61 }
-        ensures events { self.new.events ≡ change_kept event with_holder self.old.events }
-        ensures rest { self.new ≡ record self.old { events = self.new.events } }
-    {
-        let key = key_of(&self.index, event);
-        self.store.slots[key].holders += 1;
-    }
-
-    /// One holder fewer. The event goes where it is processed or cancelled and nobody else holds it.
-    pub fn unhold(&mut self, event: EventId)
-        requires kept { IsKept self.old.events event }
-        requires held { 0 < (kept_at self.old.events event).holders }
-        ensures events { self.new.events ≡ change_or_forget event without_holder self.old.events }
-        ensures left { self.new.left ≡ self.old.left }
-        ensures kept_and_spare { kept_and_spare self.new ≡ kept_and_spare self.old }
-        ensures callbacks { self.new.spare.callbacks
-            ≡ self.old.spare.callbacks
-            + callbacks_freed (without_holder (kept_at self.old.events event)) }
-        ensures conditions { self.new.spare.conditions
-            ≡ self.old.spare.conditions
-            + conditions_freed (without_holder (kept_at self.old.events event)) }
-    {
-        let key = key_of(&self.index, event);
-        self.store.slots[key].holders -= 1;
-        forget_unneeded(&mut self.index, &mut self.store, event, key);
-    }
-
-    /// One holder fewer of an event that is no condition, as by `unhold`. It is looked up once. The answer is whether it
-    /// failed and nobody defused it. None where it is a condition: its holder stays.
-    #[inline(always)]
-    pub fn unhold_plain(&mut self, event: EventId) -> Option<bool>
-        requires kept { IsKept self.old.events event }
-        requires held { 0 < (kept_at self.old.events event).holders }
-        ensures plain { is_some result
-            ≡ is_none (kept_at self.old.events event).event.condition }
-        ensures condition { IfNone result (self.new ≡ self.old) }
-        ensures unhandled { IfSome result (λ unhandled. let x = (kept_at self.old.events event).event in
-            unhandled ≡ (is_fail x.outcome && not x.defused)) }
-        ensures events { IfSome result (λ _.
-            self.new.events ≡ change_or_forget event without_holder self.old.events) }
-        ensures left { self.new.left ≡ self.old.left }
-        ensures kept_and_spare { kept_and_spare self.new ≡ kept_and_spare self.old }
-        ensures callbacks { IfSome result (λ _. self.new.spare.callbacks
-            ≡ self.old.spare.callbacks
-            + callbacks_freed (without_holder (kept_at self.old.events event))) }
-        ensures conditions { self.new.spare.conditions ≡ self.old.spare.conditions }
-    {
-        let key = key_of(&self.index, event);
-        if self.store.slots[key].is_condition {
-            return None;
-        }
-        let slot = &mut self.store.slots[key];
-        slot.holders -= 1;
-        let unhandled = slot.is_unhandled();
-        forget_unneeded(&mut self.index, &mut self.store, event, key);
-        Some(unhandled)
-    }
-
-    /// Whether an event goes where it has one holder fewer.
-    pub fn goes_without_holder(&self, event: EventId) -> bool
-        requires kept { IsKept self.now.events event }
-        ensures { result ≡ not (is_needed (without_holder (kept_at self.now.events event))) }
-    {
-        self.store.slots[key_of(&self.index, event)].goes_without_holder()
     }
 
     /// A pending event is cancelled: it was taken out of its queue. It goes where nobody holds it.

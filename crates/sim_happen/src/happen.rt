@@ -1,4 +1,4 @@
-ghost use Rattle.std.specs.Prelude.{◌≡◌, ◌↔◌, ◌+◌, ◌<◌, ◌≤◌, ◌^◌, pos, ◌≤ℤ◌, ◌<ℤ◌, ◌+ℤ◌, [], ◌∷◌, length, Some, None, IsSome, IsFalse, IsTrue, is_some, is_none, not, ◌&&◌, IfOk, IsOk, IsErr, IfNone, IfSome, OnOk, OnErr, MatchOption, if◌then◌else◌};
+ghost use Rattle.std.specs.Prelude.{◌≡◌, ◌↔◌, ◌+◌, ◌<◌, ◌≤◌, ◌^◌, pos, ◌≤ℤ◌, ◌<ℤ◌, ◌+ℤ◌, [], ◌∷◌, length, Some, None, IsSome, IsFalse, IsTrue, is_some, is_none, IfOk, IsOk, IsErr, IfNone, IfSome, OnOk, OnErr, MatchOption, if◌then◌else◌};
 ghost use Rattle.std.specs.List.{list_any};
 ghost use Rattle.sim_types.specs.declared.event.Entry.{Entry};
 ghost use Rattle.sim_machine.specs.Conditions as conditions;
@@ -12,6 +12,7 @@ ghost use Rattle.sim_agenda.specs.Agendas.{PopsFirst};
 ghost use Rattle.sim_chains.specs.Callbacks.{is_same_callback};
 ghost use Rattle.sim_events.specs.TableOf.{IsKept, kept_at, kept_count};
 ghost use Rattle.sim_events.specs.Changes.{more_events, more_callbacks, change_kept, change_or_forget, with_processed, with_holder, without_holder};
+ghost use Rattle.sim_events.specs.States.{is_unhandled};
 ghost use Rattle.sim_happen_model.specs.HappenOf.{IsOpen, AreHeldByFew, held, unheld_event, one_more, gone_if_unheld, KeepsRoom};
 ghost use Rattle.sim_happen_model.specs.Holders.{HasOwnHolder, SameMemberships};
 ghost use Rattle.sim_happen_model.specs.Shows.{Shows, Turns, Follows, PopsEntry};
@@ -289,8 +290,8 @@ impl Happen {
         ensures plain { is_some result
             ≡ is_none (kept_at self.old.events event).event.condition }
         ensures condition { IfNone result (self.new ≡ self.old) }
-        ensures unhandled { IfSome result (λ unhandled. let x = (kept_at self.old.events event).event in
-            unhandled ≡ (events.is_fail x.outcome && not x.defused)) }
+        ensures unhandled { IfSome result (λ unhandled.
+            unhandled ≡ is_unhandled (kept_at self.old.events event).event) }
         ensures events { IfSome result (λ _.
             self.new.events ≡ change_or_forget event without_holder self.old.events) }
         ensures rest { self.new

@@ -1,6 +1,6 @@
 //! How a holder is given back, with what the event held as a condition.
-ghost use Rattle.std.specs.Prelude.{◌≡◌, ◌⊎◌, not, ◌&&◌, [], IsTrue, IsFalse};
-ghost use Rattle.sim_machine.specs.Events.{is_fail};
+ghost use Rattle.std.specs.Prelude.{◌≡◌, ◌⊎◌, [], IsTrue, IsFalse};
+ghost use Rattle.sim_events.specs.States.{is_unhandled};
 ghost use Rattle.sim_events.specs.TableOf.{IsKept, is_needed, kept_at};
 ghost use Rattle.sim_events.specs.Changes.{without_holder};
 ghost use Rattle.sim_happen_model.specs.HappenOf.{KeepsRoom};
@@ -78,8 +78,7 @@ impl Happen {
     /// whether it failed and nobody defused it, so that it ends the run.
     pub fn settle(&mut self, event: EventId) -> bool
         requires held { HasOwnHolder self.old.events event }
-        ensures unhandled { let x = (kept_at self.old.events event).event in
-            result ≡ (is_fail x.outcome && not x.defused) }
+        ensures unhandled { result ≡ is_unhandled (kept_at self.old.events event).event }
         ensures events { self.new.events ≡ unheld event self.old.events }
         ensures rest { self.new
             ≡ record self.old { events = self.new.events; spare = self.new.spare } }

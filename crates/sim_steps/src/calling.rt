@@ -1,17 +1,17 @@
 //! Events are popped, their callbacks are called, and then they are settled (SimPy's Environment.step).
-ghost use Rattle.std.specs.Prelude.{◌≡◌, ◌&&◌, not, ◌≢◌, ◌<◌, ◌^◌, [], ◌∷◌, IsTrue, Some, IfNone, IfSome, ◌+◌, ◌≤◌, length};
+ghost use Rattle.std.specs.Prelude.{◌≡◌, ◌≢◌, ◌<◌, ◌^◌, [], ◌∷◌, IsTrue, Some, IfNone, IfSome, ◌+◌, ◌≤◌, length};
 ghost use Rattle.sim_types.specs.declared.event.Callback.TheVariants as callback;
 ghost use Rattle.sim_machine.specs.State.{Active, Calling, Idle, Over};
-ghost use Rattle.sim_machine.specs.Events.{is_fail};
 ghost use Rattle.sim_machine.specs.Standing.{left_of};
 ghost use Rattle.sim_machine.specs.Processes as processes;
 ghost use Rattle.sim_machine.specs.Steps as steps;
 ghost use Rattle.sim_machine.specs.LawfulTries.{tries_well};
 ghost use Rattle.sim_events.specs.Changes.{more_callbacks};
+ghost use Rattle.sim_events.specs.States.{is_unhandled};
 ghost use Rattle.sim_events.specs.TableOf.{AreNeeded, IsKept, kept_at};
 ghost use Rattle.sim_happen_model.specs.Holders.{HasOwnHolder, unheld};
 ghost use Rattle.sim_happen_model.specs.Shows.{Follows};
-ghost use Rattle.sim_happen_model.specs.HappenOf.{held};
+ghost use Rattle.sim_happen_model.specs.HappenOf.{KeepsRoom, held};
 ghost use Rattle.sim_shared_model.specs.Waiting.{AreAllOpen};
 ghost use Rattle.sim_accounts.specs.Naming.{but_zero, triggered_by};
 ghost use Rattle.sim_steps_model.specs.Becoming.{AreFew, Becomes, BecomesOwing, IsOwing, Moves};
@@ -75,13 +75,14 @@ impl<B: Body> Parts<B> {
     fn unhold_settled(&mut self, event: EventId) -> bool
         requires kept { IsKept self.old.shared.happen.events event }
         requires held { event.0 ≢ 0 → HasOwnHolder self.old.shared.happen.events event }
-        ensures unhandled { let x = (kept_at self.old.shared.happen.events event).event in
-            result ≡ (is_fail x.outcome && not x.defused) }
+        ensures unhandled { result
+            ≡ is_unhandled (kept_at self.old.shared.happen.events event).event }
         ensures zero { event.0 ≡ 0 → self.new ≡ self.old }
         ensures events { event.0 ≢ 0
             → self.new.shared.happen.events ≡ unheld event self.old.shared.happen.events }
         ensures rest { let x = self.new.shared.happen in self.new ≡ with_happen
             (record self.old.shared.happen { events = x.events; spare = x.spare }) self.old }
+        ensures room { KeepsRoom self.old.shared.happen self.new.shared.happen }
     {
         if event.0 == 0 {
             self.shared.happen().is_unhandled(event)

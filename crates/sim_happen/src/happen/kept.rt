@@ -1,9 +1,10 @@
 //! What is asked of an event that is kept, and of what it has as a condition.
-ghost use Rattle.std.specs.Prelude.{◌≡◌, ◌+◌, ◌<◌, ◌≤◌, ◌^◌, [], length, Some, None, IsSome, is_some, not, ◌&&◌, All, if◌then◌else◌};
+ghost use Rattle.std.specs.Prelude.{◌≡◌, ◌+◌, ◌<◌, ◌≤◌, ◌^◌, [], length, Some, None, IsSome, is_some, not, All, if◌then◌else◌};
 ghost use Rattle.std.specs.List.{list_any, sum_by};
 ghost use Rattle.sim_machine.specs.State.{Every, Either};
 ghost use Rattle.sim_machine.specs.Conditions as conditions;
 ghost use Rattle.sim_machine.specs.Events as events;
+ghost use Rattle.sim_events.specs.States as states;
 ghost use Rattle.sim_events.specs.TableOf.{IsKept, is_needed, kept_at, kept_condition};
 ghost use Rattle.sim_events.specs.Changes.{more_events, more_conditions, without_holder};
 ghost use Rattle.sim_happen_model.specs.HappenOf.{held, unheld_event};
@@ -20,8 +21,7 @@ impl Happen {
     /// Whether an event failed and nobody defused it, so that it ends the run once its callbacks were called.
     pub fn is_unhandled(&self, event: EventId) -> bool
         requires kept { IsKept self.now.events event }
-        ensures { let x = (kept_at self.now.events event).event in
-            result ≡ (events.is_fail x.outcome && not x.defused) }
+        ensures { result ≡ states.is_unhandled (kept_at self.now.events event).event }
     {
         self.is_failed(event) && !self.table.is_defused(event)
     }

@@ -6,7 +6,9 @@ use Rattle.sim_events.proofs.table.Table.unhold.Goals as goal
 pub forget_unneeded-requires-clause-store : goal.forget_unneeded-requires-clause-store
 forget_unneeded-requires-clause-store c =
     let i = c.self.inside in
-    record { left = i.left; stored = (rewrites_released i.index.places i.store i.left c.self.invariant c.args.event c.key_of-key.result c.index_mut.result.now c.key_of-key.ensures c.index_mut.ensures.value).stored }
+    let r = rewrites_released i.index.places i.store i.left c.self.invariant c.args.event c.key_of-key.result c.index_mut.result.now c.key_of-key.ensures
+    c.index_mut.ensures.value in
+    record { left = i.left; stored = r.stored }
 
 done : (c : goal.After-forget_unneeded)
     → Forgotten c.self.inside.index c.self.inside.store c.self.inside.left c.forget_unneeded.new.index c.forget_unneeded.new.store c.self.inside.left
@@ -15,9 +17,8 @@ done c =
     let i = c.self.inside in
     let at = c.key_of-key.ensures in
     let found = c.index_mut.ensures.value in
-    let stored = (rewrites_released i.index.places i.store i.left c.self.invariant c.args.event c.key_of-key.result c.index_mut.result.now at found).stored in
-    released i.index c.forget_unneeded.new.index i.store c.forget_unneeded.new.store i.left c.self.invariant c.args.event c.key_of-key.result c.index_mut.result.now at found
-    (c.forget_unneeded.ensures i.left stored)
+    released i.index c.forget_unneeded.new.index i.store c.forget_unneeded.new.store i.left c.self.invariant c.args.event c.key_of-key.result
+    c.index_mut.result.now at found c.forget_unneeded.ensures
 
 pub invariant_of-self : goal.invariant_of-self
 invariant_of-self c = (done c).sound

@@ -15,7 +15,9 @@ use Rattle.sim_events.proofs.table.Table.unhold_plain.Goals as goal
 pub forget_unneeded-requires-clause-store : goal.forget_unneeded-requires-clause-store
 forget_unneeded-requires-clause-store c =
     let i = c.self.inside in
-    record { left = i.left; stored = (rewrites_released i.index.places i.store i.left c.self.invariant c.args.event c.key_of-key.result c.index_mut-slot.result.now c.key_of-key.ensures c.index_mut-slot.ensures.value).stored }
+    let r = rewrites_released i.index.places i.store i.left c.self.invariant c.args.event c.key_of-key.result c.index_mut-slot.result.now c.key_of-key.ensures
+    c.index_mut-slot.ensures.value in
+    record { left = i.left; stored = r.stored }
 
 done : (c : goal.After-forget_unneeded)
     → Forgotten c.self.inside.index c.self.inside.store c.self.inside.left c.forget_unneeded.new.index c.forget_unneeded.new.store c.self.inside.left
@@ -24,9 +26,8 @@ done c =
     let i = c.self.inside in
     let at = c.key_of-key.ensures in
     let found = c.index_mut-slot.ensures.value in
-    let stored = (rewrites_released i.index.places i.store i.left c.self.invariant c.args.event c.key_of-key.result c.index_mut-slot.result.now at found).stored in
-    released i.index c.forget_unneeded.new.index i.store c.forget_unneeded.new.store i.left c.self.invariant c.args.event c.key_of-key.result c.index_mut-slot.result.now at found
-    (c.forget_unneeded.ensures i.left stored)
+    released i.index c.forget_unneeded.new.index i.store c.forget_unneeded.new.store i.left c.self.invariant c.args.event c.key_of-key.result
+    c.index_mut-slot.result.now at found c.forget_unneeded.ensures
 
 -- the event is that of the slot
 found_as : (c : goal.After-forget_unneeded)
@@ -41,7 +42,8 @@ is_plain : (c : goal.After-forget_unneeded) → (kept_at (events_in c.self.insid
 is_plain c =
     let i = c.self.inside in
     let same : c.index.result.now ≡ c.index_mut-slot.result.now = same_Some _ _ (sym c.index.ensures ∙ c.index_mut-slot.ensures.value) in
-    ap (λ (k : Kept). k.event.condition) (found_as c) ∙ ap (λ b. cond b (get i.store.parts c.index_mut-slot.result.now.part) None) (ap (λ (x : Slot). x.is_condition) (sym same) ∙ c.if-index.false)
+    let no_part = ap (λ (x : Slot). x.is_condition) (sym same) ∙ c.if-index.false in
+    ap (λ (k : Kept). k.event.condition) (found_as c) ∙ ap (λ b. cond b (get i.store.parts c.index_mut-slot.result.now.part) None) no_part
 
 none_freed : (k : Kept) → k.event.condition ≡ None → conditions_freed (without_holder k) ≡ 0
 none_freed k none = go (is_needed (without_holder k))
@@ -72,4 +74,6 @@ pub returns-clause-callbacks : goal.returns-clause-callbacks
 returns-clause-callbacks c = rw (← c.self.view_is) (done c).callbacks
 
 pub returns-clause-conditions : goal.returns-clause-conditions
-returns-clause-conditions c = rw (← c.self.view_is) (omega (arith, (done c).conditions, none_freed (kept_at (events_in c.self.inside.index.places c.self.inside.store) c.args.event) (is_plain c)))
+returns-clause-conditions c =
+    let i = c.self.inside in
+    rw (← c.self.view_is) (omega (arith, (done c).conditions, none_freed (kept_at (events_in i.index.places i.store) c.args.event) (is_plain c)))
