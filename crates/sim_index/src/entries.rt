@@ -66,7 +66,7 @@ pub(crate) fn position(entries: &[Entry], guesses: Guesses, number: u64) -> Opti
 pub(crate) fn position_by_guesses(
     entries: &[Entry],
     guesses: Guesses,
-    hints: &mut [usize],
+    hints: &mut [u32],
     number: u64,
 ) -> Option<usize>
     requires { NumbersRise entries.now }
@@ -84,18 +84,19 @@ pub(crate) fn position_by_guesses(
 }
 
 // The same, where only the hint is tried before all are searched.
-fn position_by_hint(entries: &[Entry], hints: &mut [usize], number: u64) -> Option<usize>
+fn position_by_hint(entries: &[Entry], hints: &mut [u32], number: u64) -> Option<usize>
     requires { NumbersRise entries.now }
     ensures { FindsNumber entries.now number result }
 {
     let lowest_bits = hints.len().wrapping_sub(1);
     match hints.get_mut(number as usize & lowest_bits) {
         Some(hint) => {
-            if is_at(entries, number, *hint) {
-                return Some(*hint);
+            let guess = *hint as usize;
+            if is_at(entries, number, guess) {
+                return Some(guess);
             }
             let at = search(entries, number).ok()?;
-            *hint = at;
+            *hint = u32::try_from(at).unwrap_or(u32::MAX);
             Some(at)
         }
         None => search(entries, number).ok(),

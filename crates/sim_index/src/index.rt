@@ -20,9 +20,9 @@ pub struct Index {
     guesses: Guesses,
     // Where a number was found when it was last searched for by halving, at the slot that its lowest bits name. There
     // are none, or as many as a power of two. A hint is only a guess, tested by the number of the entry there: entries
-    // move, and numbers share slots. Processes that go on in no order of their numbers are found by theirs, without
-    // halving.
-    hints: Vec<usize>,
+    // move, and numbers share slots, and a place that 32 bits do not name has no hint of its own. Processes that go on in
+    // no order of their numbers are found by theirs, without halving.
+    hints: Vec<u32>,
     // How many numbers have a place.
     live: usize,
     // The least number that may still be given.

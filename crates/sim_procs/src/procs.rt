@@ -21,9 +21,10 @@ pub struct Procs<B> {
     sought: usize,
     // Where records stood when the index was last asked for them by `seek`, each at the slot that the lowest bits of half
     // the number of its process name. There are no slots, or as many as a power of two. A hint, like `sought`, is only a
-    // guess, tested by the number of the record there: records move, and numbers share slots. Processes that go on in no
-    // order of their numbers are found by theirs, without the index.
-    hints: Vec<usize>,
+    // guess, tested by the number of the record there: records move, and numbers share slots, and a place that 32 bits do
+    // not name has no hint of its own. Processes that go on in no order of their numbers are found by theirs, without the
+    // index.
+    hints: Vec<u32>,
     // Where the record of each process stands.
     index: Index,
     // How many scopes find room in each record.
@@ -151,12 +152,13 @@ impl<B> Procs<B> {
         let lowest_bits = self.hints.len().wrapping_sub(1);
         match self.hints.get_mut((id.0 / 2) as usize & lowest_bits) {
             Some(hint) => {
-                if is_at(self.records.as_slice(), id, *hint) {
-                    self.sought = *hint;
-                    return Some(*hint);
+                let guess = *hint as usize;
+                if is_at(self.records.as_slice(), id, guess) {
+                    self.sought = guess;
+                    return Some(guess);
                 }
                 let at = self.index.get(id.0)?;
-                *hint = at;
+                *hint = u32::try_from(at).unwrap_or(u32::MAX);
                 self.sought = at;
                 Some(at)
             }
