@@ -38,7 +38,6 @@ impl LawfulBody for Car {
 
 impl Body for Car {
     ghost use Rattle.std.specs.Prelude.{None, [], refl};
-    ghost use Rattle.std.proofs.Common.{lit≤};
     ghost use Rattle.std.proofs.lemmas.Option.{none-some};
     ghost use Rattle.sim_bodies.specs.CarLaw.{car_enters_within};
 
@@ -47,8 +46,6 @@ impl Body for Car {
     ghost told_place = { λ code b. None };
 
     ghost places = { λ code b sound. refl };
-
-    ghost few_places = { λ code b sound. lit≤ tt };
 
     ghost told_place_within = { λ code b e at can is. absurd (none-some at is) };
 
@@ -111,6 +108,10 @@ impl Body for Car {
 
     fn place(&self, _at: u8) -> EventId {
         EventId(0)
+    }
+
+    fn places_in_use(&self) -> u8 {
+        0
     }
 
     fn place_told(&self, _code: &Road) -> Option<u8> {

@@ -49,7 +49,6 @@ impl LawfulBody for Clock {
 
 impl Body for Clock {
     ghost use Rattle.std.specs.Prelude.{None, [], refl};
-    ghost use Rattle.std.proofs.Common.{lit≤};
     ghost use Rattle.std.proofs.lemmas.Option.{none-some};
     ghost use Rattle.sim_bodies.specs.Clocks.{clock_enters_within};
 
@@ -58,8 +57,6 @@ impl Body for Clock {
     ghost told_place = { λ code b. None };
 
     ghost places = { λ code b sound. refl };
-
-    ghost few_places = { λ code b sound. lit≤ tt };
 
     ghost told_place_within = { λ code b e at can is. absurd (none-some at is) };
 
@@ -105,6 +102,10 @@ impl Body for Clock {
 
     fn place(&self, _at: u8) -> EventId {
         EventId(0)
+    }
+
+    fn places_in_use(&self) -> u8 {
+        0
     }
 
     fn place_told(&self, _code: &Pace) -> Option<u8> {

@@ -52,7 +52,6 @@ impl LawfulBody for Traveller {
 
 impl Body for Traveller {
     ghost use Rattle.std.specs.Prelude.{None, [], refl};
-    ghost use Rattle.std.proofs.Common.{lit≤};
     ghost use Rattle.std.proofs.lemmas.Option.{none-some};
     ghost use Rattle.sim_bodies.specs.Travellers.{traveller_enters_within};
 
@@ -61,8 +60,6 @@ impl Body for Traveller {
     ghost told_place = { λ code b. None };
 
     ghost places = { λ code b sound. refl };
-
-    ghost few_places = { λ code b sound. lit≤ tt };
 
     ghost told_place_within = { λ code b e at can is. absurd (none-some at is) };
 
@@ -112,6 +109,10 @@ impl Body for Traveller {
 
     fn place(&self, _at: u8) -> EventId {
         EventId(0)
+    }
+
+    fn places_in_use(&self) -> u8 {
+        0
     }
 
     fn place_told(&self, _code: &Land) -> Option<u8> {

@@ -65,6 +65,12 @@ pub trait Body: LawfulBody + Sized + Drop {
         requires { at < 64 }
         ensures { result ≡ slice_index_or (events_held self.now) at (record { 0 = 0 }) };
 
+    /// How many places, counted from the first, are to be looked at for events: event 0 stands in all behind them.
+    fn places_in_use(&self) -> u8
+        ensures few { result ≤ 64 }
+        ensures rest { (at : ℕ) → result ≤ at
+            → slice_index_or (events_held self.now) at (record { 0 = 0 }) ≡ record { 0 = 0 } };
+
     /// The place that gets the event that the body is told next, where that is one that it made. None where none does.
     fn place_told(&self, code: &Self::Code) -> Option<u8>
         ensures { result ≡ told_place code.now self.now };
@@ -72,10 +78,6 @@ pub trait Body: LawfulBody + Sized + Drop {
     /// The places that a sound body tells are those that `place` reads.
     ghost places: { (code : Self.Code) (b : Self) → Self.body.sound code b
         → events_in_places Self.body code b ≡ events_held b };
-
-    /// A sound body has at most 64 places.
-    ghost few_places: { (code : Self.Code) (b : Self) → Self.body.sound code b
-        → length (events_held b) ≤ 64 };
 
     /// The place that gets an event is one of the 64.
     ghost told_place_within: { (code : Self.Code) (b : Self) (e : EventId) (at : ℕ)

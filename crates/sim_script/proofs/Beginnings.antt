@@ -3,6 +3,7 @@ use Rattle.std.proofs.Common.{◌≡◌, ℕ, suc, ◌+◌, ◌-◌, ◌<◌, �
 use Rattle.std.proofs.lemmas.List.{set-append_left, set_at, take_more, length-take-le, append_assoc, replicate-append-replicate}
 use Rattle.std.proofs.Math.Nat.{min-le_left}
 use Rattle.std.specs.Prelude.{max}
+use Rattle.sim_types.specs.Scenarios.{ScenarioOf}
 use Rattle.sim_types.specs.declared.script.Kind.{Kind}
 use Rattle.sim_script_model.specs.Scripts.{Script, set_variable}
 use Rattle.sim_script_model.specs.Needs.{last_variable, last_given_in, most_params}
@@ -33,6 +34,14 @@ filled_up args last few most =
     let many : last - length args + (63 - last) ≡ 63 - length args = omega arith in
     rw (append_assoc args (replicate (last - length args) (pos 0)) (replicate (63 - last) (pos 0)), replicate-append-replicate (last - length args) (63 - last) (pos 0), many) refl
 
+-- the last variable that is given a value is one of 64
+last_within : (x : ScenarioOf) → last_variable x ≤ 63
+last_within x = min-le_left 63 (max (most_params x.kinds) (last_given_in x.code))
+
+-- and so at most 64 are kept
+pub few_kept : (x : ScenarioOf) (n : ℕ) → n ≡ last_variable x + 1 → n ≤ 64
+few_kept x n is = let few = last_within x in omega (arith, few, is)
+
 -- a script as it begins, of what it keeps then
 pub begins_with : (s t : Script) (kind : ℕ) (declared : Kind) (args vs : List ℤ) → length args ≤ last_variable s.scenario
     → vs ≡ pos 0 ∷ args ++ replicate (last_variable s.scenario + 1 - 1 - length args) (pos 0)
@@ -40,7 +49,7 @@ pub begins_with : (s t : Script) (kind : ℕ) (declared : Kind) (args vs : List 
     → t ≡ script_of_kind s.scenario kind declared args
 begins_with s t kind declared args vs few is at =
     let last : last_variable s.scenario + 1 - 1 ≡ last_variable s.scenario = omega arith in
-    let filled = filled_up args (last_variable s.scenario) few (min-le_left 63 (max (most_params s.scenario.kinds) (last_given_in s.scenario.code))) in
+    let filled = filled_up args (last_variable s.scenario) few (last_within s.scenario) in
     let whole : variables_with (last_variable s.scenario) vs ≡ pos 0 ∷ args ++ replicate (63 - length args) (pos 0) = rw (is, last) filled in
     at ∙ ap (λ (ws : List ℤ). record (script_of_kind s.scenario kind declared args) { variables = ws }) whole
 

@@ -1,8 +1,8 @@
 -- The bits that say which variables are numbers.
-use Rattle.std.proofs.Common.{◌≡◌, ◌≢◌, ℕ, ◌+◌, ◌-◌, ◌*◌, ◌%◌, ◌^◌, ◌<◌, ◌⊎◌, inl, inr, Bool, true, false, List, refl, ◌∙◌, arith, w64}
+use Rattle.std.proofs.Common.{◌≡◌, ◌≢◌, ℕ, ◌+◌, ◌-◌, ◌*◌, ◌%◌, ◌^◌, ◌<◌, ◌≤◌, ◌⊎◌, inl, inr, Bool, true, false, List, refl, ◌∙◌, arith, w64}
 use Rattle.std.specs.Prelude.{slice_index_or, replicate, if◌then◌else◌, bit_or}
 use Rattle.std.specs.Int.{bit_at}
-use Rattle.std.proofs.lemmas.Nat.Bits.{bit_at-zero, bit_at_set_same, bit_at_set_other, bit_at_ones, bit_at_ones_above}
+use Rattle.std.proofs.lemmas.Nat.Bits.{bit_at-zero, bit_at_set_same, bit_at_set_other, bit_at_ones}
 use Rattle.std.proofs.lemmas.List.{get_or-replicate}
 use Rattle.std.proofs.Math.Nat.{eq-or-lt_of_le}
 use Rattle.sim_types.specs.declared.setup.Class.{Class}
@@ -13,21 +13,24 @@ use Rattle.sim_script.specs.Kept.{MarksNumbers}
 abbrev number_at : List Class → ℕ → Bool
 number_at cs i = is_class (slice_index_or cs i class.Number) class.Number
 
+-- the first n variables are marked, and no other bit is set
+pub record MarksThemAlone (n bits : ℕ) (cs : List Class) : Type 0 where
+  pub marked : MarksNumbers n bits cs
+  pub rest : (i : ℕ) → n ≤ i → bit_at bits i ≡ 0
+
 -- no variable is marked yet
-pub none_marked : (cs : List Class) → MarksNumbers 0 0 cs
+pub none_marked : (cs : List Class) → MarksThemAlone 0 0 cs
 none_marked cs = record { marked = λ i lt. absurd (omega (arith, lt)); rest = λ i le. bit_at-zero i }
 
--- all variables are numbers
-pub all_marked : (cs : List Class) → cs ≡ replicate 64 class.Number → MarksNumbers 64 (2 ^ 64 - 1) cs
-all_marked cs all =
-    record {
-      marked = λ i lt. rw (all, get_or-replicate 64 i class.Number class.Number lt) (bit_at_ones 64 i lt);
-      rest = λ i le. bit_at_ones_above 64 i le;
-    }
+-- where all variables are numbers, all bits mark the first
+pub all_marked : (n : ℕ) (cs : List Class) → n ≤ 64 → cs ≡ replicate 64 class.Number → MarksNumbers n (2 ^ 64 - 1) cs
+all_marked n cs few all i lt =
+    let within : i < 64 = omega (arith, few, lt) in
+    rw (all, get_or-replicate 64 i class.Number class.Number within) (bit_at_ones 64 i within)
 
-module _ (n bits : ℕ) (cs : List Class) (within : n < 64) (h : MarksNumbers n bits cs) where
+module _ (n bits : ℕ) (cs : List Class) (within : n < 64) (h : MarksThemAlone n bits cs) where
   -- one variable more: a number, whose bit is set
-  pub number_marked : slice_index_or cs n class.Number ≡ class.Number → MarksNumbers (n + 1) (bit_or bits (1 * 2 ^ n % 2 ^ 64)) cs
+  pub number_marked : slice_index_or cs n class.Number ≡ class.Number → MarksThemAlone (n + 1) (bit_or bits (1 * 2 ^ n % 2 ^ 64)) cs
   number_marked number =
       record {
         marked = λ i lt. by i (eq-or-lt_of_le {n = i} {m = n} (omega (arith, lt)));
@@ -39,7 +42,7 @@ module _ (n bits : ℕ) (cs : List Class) (within : n < 64) (h : MarksNumbers n 
       by i (inr lt) = bit_at_set_other w64 bits n within i (λ e. omega (arith, e, lt)) ∙ h.marked i lt
 
   -- or another
-  pub other_passed : number_at cs n ≡ false → MarksNumbers (n + 1) bits cs
+  pub other_passed : number_at cs n ≡ false → MarksThemAlone (n + 1) bits cs
   other_passed other = record { marked = λ i lt. by i (eq-or-lt_of_le {n = i} {m = n} (omega (arith, lt))); rest = λ i le. h.rest i (omega (arith, le)) }
     where
       by : (i : ℕ) → (i ≡ n) ⊎ (i < n) → bit_at bits i ≡ (if number_at cs i then 1 else 0)

@@ -1,5 +1,5 @@
 -- What a script keeps, as it is seen.
-use Rattle.std.specs.Prelude.{◌≡◌, ℕ, ◌-◌, ◌<◌, ◌≤◌, ℤ, pos, List, [], ◌∷◌, ◌++◌, length, replicate, slice_index_or, if◌then◌else◌}
+use Rattle.std.specs.Prelude.{◌≡◌, ℕ, ◌-◌, ◌<◌, ℤ, pos, List, [], ◌∷◌, ◌++◌, length, replicate, slice_index_or, if◌then◌else◌}
 use Rattle.std.specs.Prelude.{Option, Some, None, Result, Ok, Err}
 use Rattle.std.specs.Int.{bit_at}
 use Rattle.sim_types.specs.Scenarios.{ScenarioOf}
@@ -58,10 +58,9 @@ script_of_kind x kind declared args =
       asked = None;
     }
 
--- the bits of the first n variables are set where these are numbers, and no other bit is
-pub record MarksNumbers (n bits : ℕ) (classes : List Class) : Type 0 where
-  pub marked : (i : ℕ) → i < n → bit_at bits i ≡ (if is_class (slice_index_or classes i class.Number) class.Number then 1 else 0)
-  pub rest : (i : ℕ) → n ≤ i → bit_at bits i ≡ 0
+-- the bits of the first n variables are set exactly where these are numbers
+abbrev pub MarksNumbers : ℕ → ℕ → List Class → Type 0
+MarksNumbers n bits classes = (i : ℕ) → i < n → bit_at bits i ≡ (if is_class (slice_index_or classes i class.Number) class.Number then 1 else 0)
 
 -- the 64 variables, of which those up to this one are kept; 0 stands in all others
 abbrev pub variables_with : ℕ → List ℤ → List ℤ

@@ -20,7 +20,7 @@ impl LawfulBody for Script {
 impl Body for Script {
     ghost use Rattle.sim_script_model.specs.Needs.{most_open_scopes};
     ghost use Rattle.sim_script_law.specs.ScriptMembers.{script_holds, script_is_for, script_told_place};
-    ghost use Rattle.sim_script_law.proofs.ScriptLaw.{script_enters_within, script_has_places, script_has_few_places};
+    ghost use Rattle.sim_script_law.proofs.ScriptLaw.{script_enters_within, script_has_places};
     ghost use Rattle.sim_script_law.proofs.GivenPlaces.{script_gives_within, script_holds_as_many, script_keeps_others};
 
     ghost events_held = { script_holds };
@@ -28,8 +28,6 @@ impl Body for Script {
     ghost told_place = { script_told_place };
 
     ghost places = { script_has_places };
-
-    ghost few_places = { script_has_few_places };
 
     ghost told_place_within = { λ x b e at can is.
         script_gives_within x b e can.sound can.told at is };
@@ -88,6 +86,10 @@ impl Body for Script {
 
     fn place(&self, at: u8) -> EventId {
         self.held(at)
+    }
+
+    fn places_in_use(&self) -> u8 {
+        self.kept_variables()
     }
 
     fn place_told(&self, code: &Scenario) -> Option<u8> {

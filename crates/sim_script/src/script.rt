@@ -1,5 +1,5 @@
 //! The state of a script.
-ghost use Rattle.std.specs.Prelude.{◌≡◌, ◌+◌, ◌-◌, ◌^◌, ◌<◌, ◌≤◌, pos, [], ◌∷◌, ◌++◌, length, replicate, slice_index_or, vec_len, IfOk, IsTrue, MatchOption};
+ghost use Rattle.std.specs.Prelude.{◌≡◌, ℕ, ◌+◌, ◌-◌, ◌^◌, ◌<◌, ◌≤◌, pos, [], ◌∷◌, ◌++◌, length, replicate, slice_index_or, vec_len, IfOk, IsTrue, MatchOption};
 ghost use Rattle.sim_types.specs.Throws.{error};
 ghost use Rattle.sim_types.specs.declared.op.Op.TheVariants as op;
 ghost use Rattle.sim_script_model.specs.Scripts.{Throwing, variable, set_variable, set_place, set_mode, tail_of, push_frame, pop_frame, stmt_at, value_of_num, value_of_arg, event_in, event_of_ref, process_of_ref};
@@ -32,7 +32,7 @@ pub struct Script {
     /// event is held by its number.
     variables: Vec<i64>,
     frames: Frames,
-    /// Which variables are numbers, by their bits.
+    /// Which of the variables that are kept are numbers, by their bits.
     numbers: u64,
     me: ProcId,
     /// Its kind, the classes of its variables, and what it asked for last, which contracts alone see.
@@ -64,7 +64,7 @@ impl Model for Script {
     ghost invariant = { λ a. (a.me.0 < 2 ^ 63)
         × (vec_len a.variables ≡ last_variable a.scenario.value + 1)
         × (a.frames.room ≡ most_frames a.scenario.value.code)
-        × MarksNumbers 64 a.numbers a.classes.value };
+        × MarksNumbers (vec_len a.variables) a.numbers a.classes.value };
 }
 
 impl Script {
@@ -96,7 +96,7 @@ impl Script {
         self.mode = Mode::Running;
         begin_variables(&mut self.variables, args);
         self.frames.clear();
-        self.numbers = numbers_of(&declared.classes);
+        self.numbers = numbers_of(&declared.classes, self.variables.len());
         self.me = ProcId(0);
         self.kind = Memo::of(&kind);
         self.classes = Memo::of(&declared.classes);
@@ -121,6 +121,15 @@ impl Script {
         } else {
             self.event_in(at)
         }
+    }
+
+    /// How many variables are kept, counted from the first: 0 stands in all others.
+    pub(crate) fn kept_variables(&self) -> u8
+        ensures few { result ≤ 64 }
+        ensures rest { (at : ℕ) → result ≤ at
+            → slice_index_or (script_holds self.now) at (record { 0 = 0 }) ≡ record { 0 = 0 } }
+    {
+        self.variables.len() as u8
     }
 
     /// What a number of a statement stands for.
@@ -468,12 +477,13 @@ fn begin_variables(variables: &mut Vec<i64>, args: &[i64])
     }
 }
 
-/// Which variables of these classes are numbers, by their bits.
-fn numbers_of(classes: &Classes) -> u64
-    ensures { MarksNumbers 64 result classes.now }
+/// Which of the variables that are kept are numbers, by their bits, of the classes of all 64.
+fn numbers_of(classes: &Classes, kept: usize) -> u64
+    requires { kept ≤ 64 }
+    ensures { MarksNumbers kept result classes.now }
 {
     let mut numbers = 0;
-    for at in 0..64 {
+    for at in 0..kept {
         if let Class::Number = classes.get(at) {
             numbers |= 1 << at;
         }

@@ -1,18 +1,16 @@
 -- A script keeps the law of bodies: it is never stuck.
-use Rattle.std.proofs.Common.{◌≡◌, refl, ap, ◌∙◌, ℕ, ◌<◌, ◌≤◌, ℤ, Bool, List, [], ◌∷◌, length, map, Option, Some, arith}
+use Rattle.std.proofs.Common.{◌≡◌, refl, ap, ◌∙◌, ℕ, ◌<◌, ℤ, Bool, List, length, map, Option, Some}
 use Rattle.std.specs.Prelude.{IsTrue}
-use Rattle.std.proofs.lemmas.List.{length-map, length-reverse}
+use Rattle.std.proofs.lemmas.List.{length-reverse}
 use Rattle.sim_types.specs.Scenarios.{ScenarioOf}
 use Rattle.sim_types.specs.declared.event.Signal.{Signal}
 use Rattle.sim_types.specs.declared.op.Op.{Op}
 use Rattle.sim_types.specs.declared.op.Op.TheVariants as op
-use Rattle.sim_types.specs.declared.setup.Class.{Class}
 use Rattle.sim_types.specs.declared.script.Kind.{Kind}
-use Rattle.sim_machine.specs.Tellings.{Place}
 use Rattle.sim_machine.specs.MayFollow.{may_be_told}
 use Rattle.sim_machine.specs.BodyLaw.{IsLawfulBody, IsLawfulPoll, scopes_told}
 use Rattle.sim_language.specs.FittingBlocks.{Open}
-use Rattle.sim_script_model.specs.Scripts.{Mode, Running, Throwing, Breaking, Finishing, Script, script_telling, places_of, requests_in, stmt_at}
+use Rattle.sim_script_model.specs.Scripts.{Mode, Running, Throwing, Breaking, Finishing, Script, script_telling, requests_in, stmt_at}
 use Rattle.sim_script_model.specs.Polls.{take_in, ask}
 use Rattle.sim_script_model.specs.Needs.{most_open_scopes}
 use Rattle.sim_machine.specs.Bodies.{start_of}
@@ -131,11 +129,3 @@ script_enters_within x b time told res priority preempts d h may turned =
 
 pub script_has_places : (x : ScenarioOf) (b : Script) → IsSoundScript x b → map (λ p. p.event) (script_telling.places b) ≡ script_holds b
 script_has_places x b h = refl
-
-few_places_of : (cs : List Class) (vs : List ℤ) → length (places_of cs vs) ≤ length cs
-few_places_of [] vs = omega arith
-few_places_of (c ∷ cs) [] = omega arith
-few_places_of (c ∷ cs) (v ∷ vs) = omega (arith, few_places_of cs vs)
-
-pub script_has_few_places : (x : ScenarioOf) (b : Script) → IsSoundScript x b → length (script_holds b) ≤ 64
-script_has_few_places x b h = omega (arith, length-map (places_of b.classes b.variables) (λ (p : Place). p.event), few_places_of b.classes b.variables, h.long)

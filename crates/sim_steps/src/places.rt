@@ -15,7 +15,6 @@ use sim_types::{EventId, ProcId, Signal};
 impl<B: Body> Parts<B> {
     /// A holder is taken of each event that stands in a place of the body.
     pub(crate) fn hold_places(&mut self, body: &B)
-        requires places { length (B.events_held body.now) ≤ 64 }
         requires kept { (at : ℕ) → IsKept self.old.shared.happen.events
             (slice_index_or (B.events_held body.now) at (record { 0 = 0 })) }
         requires few { AreFew (2 ^ 42) (held self.old.shared.happen) }
@@ -23,20 +22,19 @@ impl<B: Body> Parts<B> {
             self.old self.new }
         ensures rest { KeepsButHappen self.old self.new }
     {
-        for at in 0..64 {
+        for at in 0..body.places_in_use() {
             self.hold(body.place(at));
         }
     }
 
     /// A holder is given back of each event that stands in a place of the body.
     pub(crate) fn unhold_places(&mut self, body: &B)
-        requires places { length (B.events_held body.now) ≤ 64 }
         requires owed { IsOwing B.body (but_zero (B.events_held body.now)) self.old }
         ensures owes { BecomesOwing B.body (but_zero (B.events_held body.now)) [] 0 (λ s. s)
             self.old self.new }
         ensures rest { KeepsButHappen self.old self.new }
     {
-        for at in 0..64 {
+        for at in 0..body.places_in_use() {
             self.unhold(body.place(at));
         }
     }

@@ -259,7 +259,7 @@ module _ {B Code : Type 0} (body : BodyOf B Code) (code : Code) (events : B → 
       let is_sound : body.sound code begins = law.begins k args p can.fits in
       stand_where (body.tell code) begins (events begins)
       (begun_numbers (slice_index_or (body.facts code).params k []) args ((body.tell code).places begins) starts.places)
-      (reads.places begins is_sound) (reads.few begins is_sound)
+      (reads.places begins is_sound)
 
   -- it is kept where its arguments are
   pub begun_kept : (table : List (Option Kept)) → AreArgumentsKept (body.facts code) k args table → (i : ℕ) →

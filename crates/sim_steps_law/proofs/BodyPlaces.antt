@@ -1,5 +1,5 @@
 -- What stands in the places of a body: in those for numbers event 0 alone.
-use Rattle.std.proofs.Common.{◌≡◌, ◌≤◌, ℤ, pos, negsuc, Bool, true, false, ◌||◌, ◌&&◌, not, List, [], ◌∷◌, length, map, refl, sym, ap, subst, ◌∙◌, Option, Some, None, ⊎_elim}
+use Rattle.std.proofs.Common.{◌≡◌, ℤ, pos, negsuc, Bool, true, false, ◌||◌, ◌&&◌, not, List, [], ◌∷◌, map, refl, sym, ap, subst, ◌∙◌, Option, Some, None, ⊎_elim}
 use Rattle.std.specs.Prelude.{All, ◌==◌}
 use Rattle.std.specs.List.{list_all}
 use Rattle.std.proofs.lemmas.Bool.{and_parts, and_from, false≢true, eqb-true, or_cases}
@@ -26,9 +26,8 @@ event_in y = y.event
 
 -- where that is so, the events in the places are those that the body names
 pub stand_where : {B : Type 0} (tell : Telling B) (b : B) (es : List EventId) → list_all number_is_zero (tell.places b) ≡ true →
-    map event_in (tell.places b) ≡ es →
-    length es ≤ 64 → StandInPlaces tell es b
-stand_where tell b es numbers is few = record { few = few; named = numbers_alike (tell.places b) numbers ∙ ap but_zero is }
+    map event_in (tell.places b) ≡ es → StandInPlaces tell es b
+stand_where tell b es numbers is = record { named = numbers_alike (tell.places b) numbers ∙ ap but_zero is }
 
 if_number : (b z : Bool) → (b ≡ true → z ≡ true) → (not b || z) ≡ true
 if_number true z h = h refl

@@ -4,7 +4,7 @@ use Rattle.std.specs.Prelude.{All}
 use Rattle.std.proofs.Math.ListN.{drop}
 use Rattle.std.proofs.Math.Seq.{drop-cons}
 use Rattle.std.proofs.lemmas.Bool.{cases_lt}
-use Rattle.std.proofs.lemmas.List.{get_or_past, take_all}
+use Rattle.std.proofs.lemmas.List.{append-nil, get_or_past, take-append-drop}
 use Rattle.sim_types.specs.declared.event.EventId.{EventId}
 use Rattle.sim_machine.specs.State.{Calendar, State}
 use Rattle.sim_machine.specs.Events.{is_same}
@@ -23,7 +23,7 @@ use Rattle.sim_steps_model.specs.PartsOf.{PartsOf}
 use Rattle.sim_steps_model.specs.Becoming.{BecomesOwing, IsOwing}
 use Rattle.sim_steps_model.specs.Holding.{HoldsMore}
 use Rattle.sim_steps_law.proofs.Accounting.{other_is, owing_after, owing_besides, zero_is}
-use Rattle.sim_steps_law.proofs.Becoming.{becomes_none, becomes_then}
+use Rattle.sim_steps_law.proofs.Becoming.{becomes_none, becomes_then, becomes_within}
 use Rattle.sim_steps_law.proofs.CountedHolders.{AreAlike, alike_itself, is_owing_first, owing_alike}
 use Rattle.sim_machine.specs.Bodies.{BodyOf}
 
@@ -53,6 +53,26 @@ drop_past (e ∷ es) (suc i) le = drop_past es i (omega (arith, le))
 none_dropped : (es : List EventId) → drop 0 es ≡ es
 none_dropped [] = refl
 none_dropped (e ∷ es) = refl
+
+-- event 0 stands in all places from this one on
+abbrev pub NoneFrom : List EventId → ℕ → Type 0
+NoneFrom es n = (i : ℕ) → n ≤ i → in_place es i ≡ record { 0 = 0 }
+
+-- then no other stands behind those before it
+none_behind : (es : List EventId) (n : ℕ) → NoneFrom es n → but_zero (drop n es) ≡ []
+none_behind [] zero none = refl
+none_behind [] (suc n) none = refl
+none_behind (e ∷ es) (suc n) none = none_behind es n (λ i le. none (suc i) (omega (arith, le)))
+none_behind (e ∷ es) zero none =
+    let behind : but_zero es ≡ [] = ap but_zero (sym (none_dropped es)) ∙ none_behind es 0 (λ i le. none (suc i) (omega arith)) in
+    ap (λ x. but_zero (x ∷ es)) (none 0 (omega arith)) ∙ behind
+
+all_before : (es : List EventId) (n : ℕ) → NoneFrom es n → but_zero (take n es) ≡ but_zero es
+all_before es n none =
+    sym (append-nil (but_zero (take n es)))
+    ∙ ap (λ xs. but_zero (take n es) ++ xs) (sym (none_behind es n none))
+    ∙ sym (but_zero-append (take n es) (drop n es))
+    ∙ ap but_zero (take-append-drop n es)
 
 pub first_dropped : (es : List EventId) (i : ℕ) → but_zero (drop i es) ≡ but_zero (in_place es i ∷ []) ++ but_zero (drop (i + 1) es)
 first_dropped es i = ⊎_elim within past (cases_lt i (length es))
@@ -90,8 +110,11 @@ module _ {B Code : Type 0} (body : BodyOf B Code) (es : List EventId) where
       owing_alike none (but_zero (take (i + 1) es)) (λ (s : State B). s) first b (alike_itself none) (next_taken es i)
       (becomes_then (λ (s : State B). s) (λ (s : State B). s) first a b h (owing_besides (but_zero (take i es)) (λ (s : State B). s) a b k))
 
-  pub held_all : (n : ℕ) (a b : PartsOf B Code) → length es ≤ n → HoldsBefore n a b → BecomesOwing body [] (but_zero es) n (λ (s : State B). s) a b
-  held_all n a b few h = subst (λ xs. BecomesOwing body [] (but_zero xs) n (λ (s : State B). s) a b) (take_all n es few) h
+  pub held_all : (n : ℕ) (a b : PartsOf B Code) → n ≤ 64 → NoneFrom es n → HoldsBefore n a b →
+      BecomesOwing body [] (but_zero es) 64 (λ (s : State B). s) a b
+  held_all n a b few none h =
+      becomes_within n 64 (λ (s : State B). s) a b few
+      (subst (λ xs. BecomesOwing body [] xs n (λ (s : State B). s) a b) (all_before es n none) h)
 
   -- ---- given back
 
@@ -118,8 +141,8 @@ module _ {B Code : Type 0} (body : BodyOf B Code) (es : List EventId) where
       (subst (λ xs. BecomesOwing body (but_zero es) xs 0 (λ (s : State B). s) first a) (first_dropped es i) h)
       (owing_besides behind (λ (s : State B). s) a b k)
 
-  pub given_all : (n : ℕ) (a b : PartsOf B Code) → length es ≤ n → OwesBehind n a b → BecomesOwing body (but_zero es) [] 0 (λ (s : State B). s) a b
-  given_all n a b few h = subst (λ xs. BecomesOwing body (but_zero es) (but_zero xs) 0 (λ (s : State B). s) a b) (drop_past es n few) h
+  pub given_all : (n : ℕ) (a b : PartsOf B Code) → NoneFrom es n → OwesBehind n a b → BecomesOwing body (but_zero es) [] 0 (λ (s : State B). s) a b
+  given_all n a b none h = subst (λ xs. BecomesOwing body (but_zero es) xs 0 (λ (s : State B). s) a b) (none_behind es n none) h
 
 -- ---- what is kept in each place
 

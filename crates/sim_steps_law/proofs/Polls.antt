@@ -1,5 +1,5 @@
 -- What a polled process asks for is done as the machine does it.
-use Rattle.std.proofs.Common.{◌≡◌, ◌+◌, ◌<◌, ◌≤◌, ◌^◌, arith, ℕ, ℤ, true, false, List, [], ◌∷◌, ◌++◌, length, refl, sym, ap, subst, ◌∙◌, Option, Some, None}
+use Rattle.std.proofs.Common.{◌≡◌, ◌+◌, ◌<◌, ◌^◌, arith, ℕ, ℤ, true, false, List, [], ◌∷◌, ◌++◌, length, refl, sym, ap, subst, ◌∙◌, Option, Some, None}
 use Rattle.std.specs.Prelude.{int_lt, slice_index_or, is_some, IsSome}
 use Rattle.std.proofs.lemmas.Bool.{false≢true}
 use Rattle.std.specs.Option.{option_map}
@@ -96,11 +96,10 @@ gone_still a b c takes h = record {
       (none_before (slice_index_or a.events e.0 None) (slice_index_or b.events e.0 None) (takes.kept e) gone);
 }
 
--- what a kind of bodies tells of its places by reading them: they are those that a sound body tells, 64 at most, and a poll
--- that tells of an event that the body made changes one of them at most
+-- what a kind of bodies tells of its places by reading them: they are those that a sound body tells, and a poll that tells
+-- of an event that the body made changes one of them at most
 pub record ReadsPlaces {B Code : Type 0} (body : BodyOf B Code) (code : Code) (events : B → List EventId) (place : B → Option ℕ) : Type 0 where
   pub places : (b : B) → body.sound code b → events_in_places body code b ≡ events b
-  pub few : (b : B) → body.sound code b → length (events b) ≤ 64
   pub others : (b : B) (time : ℤ) (e : EventId) (asked : Op) (d : B) → CanBeTold body code b (signal.Made e) →
       body.turn code b time (signal.Made e) asked d →
       ChangesOnly (place b) (events b) (events d)
@@ -124,7 +123,7 @@ module _ {B Code : Type 0} (body : BodyOf B Code) (events : B → List EventId) 
       record_of p a.live ≡ Some r → StandInPlaces (body.tell a.code) (events r.body) r.body
   lawful_stand a p r reads h found =
       let is = lawful_places a p r reads h found in
-      stand_where (body.tell a.code) r.body (events r.body) is.0 (reads.places r.body is.1) (reads.few r.body is.1)
+      stand_where (body.tell a.code) r.body (events r.body) is.0 (reads.places r.body is.1)
 
   module _ (old : PartsOf B Code) (p : ProcId) (event : EventId) (told : Signal)
       (reads : ReadsPlaces body old.code events place) (law : KeepsLaw body old.code)
@@ -158,7 +157,7 @@ module _ {B Code : Type 0} (body : BodyOf B Code) (events : B → List EventId) 
         stand_where (body.tell old.code) a.later (events a.later)
         (polled_numbers ((body.tell old.code).last a.before) told ((body.tell old.code).places a.before)
         ((body.tell old.code).places a.later) poll.places numbers)
-        (reads.places a.later sound_later) (reads.few a.later sound_later)
+        (reads.places a.later sound_later)
 
     -- what stood in the place that changed, and what stands there then
     abbrev pub left : EventId

@@ -34,7 +34,6 @@ pub record HoldsMore (e : EventId) (old new : List (Option Kept)) : Type 0 where
   pub balanced : (alone : EventId → ℕ) (todo : List EventId) → Balanced alone todo old →
       Balanced alone (but_zero (e ∷ []) ++ todo) new
 
--- these stand in the places of the body: 64 at most, and but for event 0 they are those that it names
+-- these stand in the places of the body: but for event 0 they are those that it names
 pub record StandInPlaces {B : Type 0} (tell : Telling B) (events : List EventId) (b : B) : Type 0 where
-  pub few : length events ≤ 64
   pub named : but_zero (named_in_places tell b) ≡ but_zero events

@@ -20,7 +20,7 @@ hold-requires-clause-kept g c =
     let old = c.args.self.now in
     let place = g.B.Body.told_place old.code in
     let reads : ReadsPlaces g.B.LawfulBody.body old.code g.B.Body.events_held place =
-    record { places = g.met.B.Body.places old.code; few = g.met.B.Body.few_places old.code; others = g.met.B.Body.other_places_stay old.code } in
+    record { places = g.met.B.Body.places old.code; others = g.met.B.Body.other_places_stay old.code } in
     let fits = rw (c.requires.code) at c.requires.fits in
     let given = rw c.requires.code at c.requires.place in
     let asks = c.poll_body-made.ensures.asks in
@@ -37,7 +37,7 @@ returns-clause-asked g c =
     let old = c.args.self.now in
     let place = g.B.Body.told_place old.code in
     let reads : ReadsPlaces g.B.LawfulBody.body old.code g.B.Body.events_held place =
-    record { places = g.met.B.Body.places old.code; few = g.met.B.Body.few_places old.code; others = g.met.B.Body.other_places_stay old.code } in
+    record { places = g.met.B.Body.places old.code; others = g.met.B.Body.other_places_stay old.code } in
     let fits = rw (c.requires.code) at c.requires.fits in
     let given = rw c.requires.code at c.requires.place in
     owing_at_last g.B.LawfulBody.body g.B.Body.events_held place old c.args.process c.args.event c.args.told reads fits

@@ -33,7 +33,7 @@ hold_places-requires-clause-kept g c =
     λ e is. subst (λ k. IsKept k.shared.happen.events e) (sym c.self-2.view_is) (c.hold.ensures.takes.kept e (kept_still a x made e is)) in
     rw own
     (begun_kept body code g.B.Body.events_held (g.B.Body.told_place code) (g.B.LawfulBody.lawful code)
-    (record { places = g.met.B.Body.places code; few = g.met.B.Body.few_places code; others = g.met.B.Body.other_places_stay code })
+    (record { places = g.met.B.Body.places code; others = g.met.B.Body.other_places_stay code })
     c.args.kind c.args.args p c.requires.can c.self-2.inside.shared.happen.events
     (arguments_still (body.facts code) c.args.kind c.args.args a.events c.self-2.inside.shared.happen.events still kept))
 
@@ -60,7 +60,7 @@ returns-clause-becomes g c =
     let init = rw (c.make_process.ensures.init, c.happen_mut.ensures.value) at c.hold.ensures.owes in
     let places = rw own at c.hold_places.ensures.owes in
     let stand = begun_stand body code g.B.Body.events_held (g.B.Body.told_place code) (g.B.LawfulBody.lawful code)
-    (record { places = g.met.B.Body.places code; few = g.met.B.Body.few_places code; others = g.met.B.Body.other_places_stay code })
+    (record { places = g.met.B.Body.places code; others = g.met.B.Body.other_places_stay code })
     c.args.kind c.args.args p can in
     let joined = rw (c.make_process.ensures.process, c.make_process.ensures.init, c.happen_mut.ensures.value, own) at c.add.ensures.live in
     let room = c.self-in-Some.inside.processes.room in

@@ -394,7 +394,7 @@ finish-requires-clause-places g c =
     let old = with_live a.before.live a.before.control c.args.self.now in
     let place = g.B.Body.told_place old.code in
     let reads : ReadsPlaces g.B.LawfulBody.body old.code g.B.Body.events_held place =
-    record { places = g.met.B.Body.places old.code; few = g.met.B.Body.few_places old.code; others = g.met.B.Body.other_places_stay old.code } in
+    record { places = g.met.B.Body.places old.code; others = g.met.B.Body.other_places_stay old.code } in
     all_stand g.B.LawfulBody.body g.B.Body.events_held place old c.args.process c.args.event a.before.told reads (g.B.LawfulBody.lawful old.code)
     a.before.stands (omega (arith, c.requires.events)) a.before.running c.ask-made.new.self _ a.last.asks c.args.process
 
@@ -404,7 +404,7 @@ die-requires-clause-places g c =
     let old = with_live a.before.live a.before.control c.args.self.now in
     let place = g.B.Body.told_place old.code in
     let reads : ReadsPlaces g.B.LawfulBody.body old.code g.B.Body.events_held place =
-    record { places = g.met.B.Body.places old.code; few = g.met.B.Body.few_places old.code; others = g.met.B.Body.other_places_stay old.code } in
+    record { places = g.met.B.Body.places old.code; others = g.met.B.Body.other_places_stay old.code } in
     all_stand g.B.LawfulBody.body g.B.Body.events_held place old c.args.process c.args.event a.before.told reads (g.B.LawfulBody.lawful old.code)
     a.before.stands (omega (arith, c.requires.events)) a.before.running c.ask-made.new.self _ a.last.asks c.args.process
 
@@ -414,7 +414,7 @@ drop_process-requires-clause-places g c =
     let old = with_live a.before.live a.before.control c.args.self.now in
     let place = g.B.Body.told_place old.code in
     let reads : ReadsPlaces g.B.LawfulBody.body old.code g.B.Body.events_held place =
-    record { places = g.met.B.Body.places old.code; few = g.met.B.Body.few_places old.code; others = g.met.B.Body.other_places_stay old.code } in
+    record { places = g.met.B.Body.places old.code; others = g.met.B.Body.other_places_stay old.code } in
     all_stand g.B.LawfulBody.body g.B.Body.events_held place old c.args.process c.args.event a.before.told reads (g.B.LawfulBody.lawful old.code)
     a.before.stands (omega (arith, c.requires.events)) a.before.running c.ask-made.new.self _ a.last.asks c.in-Drop.other
 

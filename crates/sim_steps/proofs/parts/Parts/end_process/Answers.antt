@@ -17,8 +17,8 @@ unhold-requires g c =
     let ended = ended_owing body _ c.args.process c.args.outcome r found c.trigger.new.self c.trigger.new.self.shared.happen c.take.new.self.live c.take.new.self.spare none c.in-Some.ensures.live c.in-Ok.ensures.ok (rw (c.in-Ok.ensures.rest, c.in-Ok.ensures.ok.left) refl) in
     record { owed = rw c.target.ensures (owes_target body _ c.args.process c.args.outcome r found c.trigger.new.self (events r.body) ended stand owing) }
 
-pub unhold_places-requires-clause-owed : goal.unhold_places-requires-clause-owed
-unhold_places-requires-clause-owed g c =
+pub unhold_places-requires : goal.unhold_places-requires
+unhold_places-requires g c =
     let body = g.B.LawfulBody.body in
     let events = g.B.Body.events_held in
     let r = c.in-Some.record in
@@ -29,7 +29,8 @@ unhold_places-requires-clause-owed g c =
     let owing = rw (← c.self.view_is) at c.requires.owing in
     let ended = ended_owing body _ c.args.process c.args.outcome r found c.trigger.new.self c.trigger.new.self.shared.happen c.take.new.self.live c.take.new.self.spare none c.in-Some.ensures.live c.in-Ok.ensures.ok (rw (c.in-Ok.ensures.rest, c.in-Ok.ensures.ok.left) refl) in
     let first = rw c.target.ensures at c.unhold.ensures.owes in
-    rw c.body.ensures (owes_places body _ c.args.process c.args.outcome r found c.trigger.new.self (events r.body) ended stand owing c.unhold.new.self first)
+    let owed = owes_places body _ c.args.process c.args.outcome r found c.trigger.new.self (events r.body) ended stand owing c.unhold.new.self first in
+    record { owed = rw c.body.ensures owed }
 
 pub returns-clause-becomes : goal.returns-clause-becomes
 returns-clause-becomes g c =

@@ -29,8 +29,10 @@ pub returns : goal.returns
 returns g c =
     let body = g.B.LawfulBody.body in
     let es = g.B.Body.events_held c.args.body.now in
-    let all : c.loop-at.at ≡ 64 = omega (arith, c.loop-at-test.false, c.loop-at.auto.at-end) in
+    let n = c.places_in_use-at-end.result in
+    let all : c.loop-at.at ≡ n = omega (arith, c.loop-at-test.false, c.loop-at.auto.at-end) in
     record {
-      owes = held_all body es 64 c.args.self.now c.loop-at.self c.requires.places (subst (λ n. HoldsBefore body es n c.args.self.now c.loop-at.self) all c.loop-at.invariant.holds);
+      owes = held_all body es n c.args.self.now c.loop-at.self c.places_in_use-at-end.ensures.few c.places_in_use-at-end.ensures.rest
+          (subst (λ n. HoldsBefore body es n c.args.self.now c.loop-at.self) all c.loop-at.invariant.holds);
       rest = c.loop-at.invariant.rest;
     }
