@@ -19,7 +19,7 @@ abbrev pub head_of_line : Version → Word → Option (Named (List Class))
 head_of_line version l = head_of version (words (cut l))
 
 -- those that the lines so far declare, one line further
-pub heads_further : (version : Version) (known more : ProcessLines) (l : Word) (ls : List Word)
+heads_further : (version : Version) (known more : ProcessLines) (l : Word) (ls : List Word)
     → more ≡ with_all known (option_to_list (head_of version (words (cut l))))
     → with_all more (filter_map (head_of_line version) ls) ≡ with_all known (filter_map (head_of_line version) (l ∷ ls))
 heads_further version known more l ls added = rw added (by (head_of version (words (cut l))))
@@ -28,6 +28,12 @@ heads_further version known more l ls added = rw added (by (head_of version (wor
         ≡ with_all known (cons_option o (filter_map (head_of_line version) ls))
     by None = refl
     by (Some head) = refl
+
+pub heads_line : (version : Version) (known more all : ProcessLines) (l : Word) (ls before : List Word) → before ≡ l ∷ ls
+    → more ≡ with_all known (option_to_list (head_of version (words (cut l)))) → with_all known (filter_map (head_of_line version) before) ≡ all
+    → with_all more (filter_map (head_of_line version) ls) ≡ all
+heads_line version known more all l ls before lines_are added so_far =
+    heads_further version known more l ls added ∙ sym (ap (λ ms. with_all known (filter_map (head_of_line version) ms)) lines_are) ∙ so_far
 
 one_longer : (known : ProcessLines) (head : Named (List Class)) → length (with_one known head) ≤ length known + 1
 one_longer known head = by (is_named head.name known)

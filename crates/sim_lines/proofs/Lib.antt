@@ -1,3 +1,4 @@
+mod ByLetter
 mod CountsOfLines
 mod Cuts
 mod Digits

@@ -1,19 +1,43 @@
 -- The names that the lines so far declare, and those of what is left.
 --     so_far names n w a      what w is declared as: by the lines so far, with n events, or else as those left declare it
-use Rattle.std.proofs.Common.{◌≡◌, refl, sym, ap, ◌∙◌, ℕ, suc, ◌+◌, Bool, true, false, if◌then◌else◌, List, [], ◌∷◌, ◌++◌, Option, Some, None, is_some, arith}
+use Rattle.std.proofs.Common.{◌≡◌, refl, sym, ap, ◌∙◌, ℕ, suc, ◌+◌, Bool, true, false, ◌&&◌, if◌then◌else◌, List, [], ◌∷◌, ◌++◌, Option, Some, None, is_some, codes, arith}
 use Rattle.std.specs.Prelude.{unwrap_or}
 use Rattle.std.specs.List.{cons_option}
 use Rattle.std.specs.Option.{option_or}
 use Rattle.std.proofs.lemmas.Bool.{false≢true}
+use Rattle.std.proofs.lemmas.Option.{none-some}
 use Rattle.sim_language.specs.declared.form.Sort.{Sort}
+use Rattle.sim_language.specs.declared.form.Version.{Version}
 use Rattle.sim_language.specs.declared.form.Sort.TheVariants as sort
 use Rattle.sim_language.specs.declared.shape.Ahead.{Ahead}
 use Rattle.sim_language.specs.declared.shape.Ahead.TheVariants.{NoEvent, EventAt}
 use Rattle.sim_language.specs.Lines.{Word, same, cut, words}
 use Rattle.sim_language.specs.Named.{Named, is_named, value_of, with_one}
 use Rattle.sim_language.specs.Forms.{same_sort}
-use Rattle.sim_language.specs.AnywhereInText.{ahead, ahead_behind, ahead_here, declaration, declarations}
+use Rattle.sim_language.specs.AnywhereInText.{ahead, ahead_behind, ahead_here, declaration, declarations, head_of, sort_begun}
+use Rattle.sim_language.specs.Names.{is_name}
+use Rattle.sim_lines.specs.Spans.{head_by}
 use Rattle.sim_lines.proofs.SameWords.{same_is}
+
+-- ---- what a line declares
+
+-- a first word that declares nothing makes a line that declares nothing
+pub no_declaration : (line : List Word) (first : Word) (rest : List Word) → line ≡ first ∷ rest → None ≡ sort_begun first
+    → None ≡ declaration line
+no_declaration line first [] is none = rw is refl
+no_declaration line first (name ∷ rest) is none = rw (is, ← none) refl
+
+-- and a line that declares nothing is no process line
+pub no_head : (version : Version) (line : List Word) → None ≡ declaration line → None ≡ head_of version line
+no_head version [] none = refl
+no_head version (first ∷ []) none = refl
+no_head version (first ∷ name ∷ rest) none = by (same first (codes "process")) refl
+  where
+    by : (b : Bool) → same first (codes "process") ≡ b → None ≡ (if b && is_name version name then Some (head_by name rest) else None)
+    by false e = refl
+    by true e =
+        let process = ap (λ w. declaration (w ∷ name ∷ rest)) (same_is first (codes "process") e) in
+        absurd (none-some (record { name = name; value = sort.Process }) (none ∙ process))
 
 -- ---- one more name
 

@@ -1,3 +1,4 @@
+pub mod Letters
 pub mod LineOf
 pub mod OneWord
 pub mod Spans

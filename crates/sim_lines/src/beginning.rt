@@ -1,63 +1,85 @@
 //! The form that a line begins.
-ghost use Rattle.std.specs.Prelude.{◌≡◌, Some, map};
+ghost use Rattle.std.specs.Prelude.{◌≡◌, ◌<◌, Some, map};
 ghost use Rattle.sim_language.specs.declared.form.Form.TheVariants.{Scenario, UntilTime};
 ghost use Rattle.sim_language.specs.declared.form.Version.{Version};
 ghost use Rattle.sim_language.specs.AnywhereInText.{sort_begun};
 ghost use Rattle.sim_language.specs.Forms.{begins, common_first_words, first_words, form_at, made_form, made_words, operands, told_by};
+ghost use Rattle.sim_lines.specs.Letters.{rows_at};
 
+use crate::letter::{letter, row_of};
 use crate::words::Words;
 use sim_language::{Form, Sort, Version};
 
-/// The words of all lines that begin with a word of their own, in both versions of the language.
-const COMMON_FIRST_WORDS: [(&[u8], Form); 44] = [
-    (b"scenario", Form::Scenario),
-    (b"until", Form::UntilTime),
-    (b"seed", Form::Seed),
-    (b"resource", Form::Resource),
-    (b"priority", Form::Priority),
-    (b"preemptive", Form::Preemptive),
-    (b"container", Form::Container),
-    (b"store", Form::Store),
-    (b"pstore", Form::PStore),
-    (b"fstore", Form::FStore),
-    (b"event", Form::Event),
-    (b"port", Form::Port),
-    (b"process", Form::Process),
-    (b"start", Form::Start),
-    (b"journal", Form::Journal),
-    (b"after", Form::After),
-    (b"poster", Form::Poster),
-    (b"let", Form::Let),
-    (b"count", Form::Count),
-    (b"timeout", Form::Timeout),
-    (b"wait", Form::Wait),
-    (b"succeed", Form::Succeed),
-    (b"fail", Form::Fail),
-    (b"has", Form::Has),
-    (b"spawn", Form::Spawn),
-    (b"interrupt", Form::Interrupt),
-    (b"drop", Form::Drop),
-    (b"raise", Form::Raise),
-    (b"finish", Form::Finish),
-    (b"with", Form::With),
-    (b"release", Form::Release),
-    (b"put", Form::Put),
-    (b"get", Form::Get),
-    (b"cancel", Form::Cancel),
-    (b"loop", Form::Loop),
-    (b"repeat", Form::Repeat),
-    (b"if", Form::If),
-    (b"else", Form::Else),
-    (b"try", Form::Try),
-    (b"catch", Form::Catch),
-    (b"end", Form::End),
-    (b"break", Form::Break),
-    (b"log", Form::Log),
-    (b"draw", Form::Draw),
+/// The words of all lines that begin with a word of their own, in both versions of the language, by the letters that they
+/// begin with, from `a` to `z`.
+static COMMON_FIRST_WORDS: [&[(&[u8], Form)]; 26] = [
+    &[(b"after", Form::After)],
+    &[(b"break", Form::Break)],
+    &[
+        (b"container", Form::Container),
+        (b"count", Form::Count),
+        (b"cancel", Form::Cancel),
+        (b"catch", Form::Catch),
+    ],
+    &[(b"drop", Form::Drop), (b"draw", Form::Draw)],
+    &[
+        (b"event", Form::Event),
+        (b"else", Form::Else),
+        (b"end", Form::End),
+    ],
+    &[
+        (b"fstore", Form::FStore),
+        (b"fail", Form::Fail),
+        (b"finish", Form::Finish),
+    ],
+    &[(b"get", Form::Get)],
+    &[(b"has", Form::Has)],
+    &[(b"interrupt", Form::Interrupt), (b"if", Form::If)],
+    &[(b"journal", Form::Journal)],
+    &[],
+    &[
+        (b"let", Form::Let),
+        (b"loop", Form::Loop),
+        (b"log", Form::Log),
+    ],
+    &[],
+    &[],
+    &[],
+    &[
+        (b"priority", Form::Priority),
+        (b"preemptive", Form::Preemptive),
+        (b"pstore", Form::PStore),
+        (b"port", Form::Port),
+        (b"process", Form::Process),
+        (b"poster", Form::Poster),
+        (b"put", Form::Put),
+    ],
+    &[],
+    &[
+        (b"resource", Form::Resource),
+        (b"raise", Form::Raise),
+        (b"release", Form::Release),
+        (b"repeat", Form::Repeat),
+    ],
+    &[
+        (b"scenario", Form::Scenario),
+        (b"seed", Form::Seed),
+        (b"store", Form::Store),
+        (b"start", Form::Start),
+        (b"succeed", Form::Succeed),
+        (b"spawn", Form::Spawn),
+    ],
+    &[(b"timeout", Form::Timeout), (b"try", Form::Try)],
+    &[(b"until", Form::UntilTime)],
+    &[],
+    &[(b"wait", Form::Wait), (b"with", Form::With)],
+    &[],
+    &[],
+    &[],
 ];
 
 /// The words that may stand behind `x =`.
-const MADE_WORDS: [(&[u8], Form); 7] = [
+static MADE_WORDS: [(&[u8], Form); 7] = [
     (b"timeout", Form::NewTimeout),
     (b"event", Form::NewEvent),
     (b"all", Form::NewAll),
@@ -71,13 +93,11 @@ const MADE_WORDS: [(&[u8], Form); 7] = [
 pub fn begins(version: Version, words: &Words<'_>) -> Option<Form>
     ensures { result ≡ begins version words.now }
 {
-    let mut rest = words.again();
-    let first = rest.next()?;
-    match first_form(version, first) {
-        Some(Form::Scenario) => Some(header_form(&rest)),
-        Some(Form::UntilTime) => Some(until_form(version, &rest)),
+    match first_form(version, words.first()?) {
+        Some(Form::Scenario) => Some(header_form(&words.behind_first())),
+        Some(Form::UntilTime) => Some(until_form(version, &words.behind_first())),
         Some(form) => Some(form),
-        None => made_form(&rest),
+        None => made_form(&words.behind_first()),
     }
 }
 
@@ -97,9 +117,7 @@ pub fn operands<'t>(form: Form, words: &Words<'t>) -> Words<'t>
     } else if form.is_made() {
         words.after_made()
     } else {
-        let mut rest = words.again();
-        rest.next();
-        rest
+        words.behind_first()
     }
 }
 
@@ -155,7 +173,15 @@ fn first_form(version: Version, word: &[u8]) -> Option<Form>
 fn common_first_form(word: &[u8]) -> Option<Form>
     ensures { result ≡ form_at word.now common_first_words }
 {
-    form_at(word, &COMMON_FIRST_WORDS)
+    form_at(word, rows_at(letter(word)?))
+}
+
+/// The rows of the words that begin with the letter at this place in the alphabet.
+fn rows_at(place: usize) -> &'static [(&'static [u8], Form)]
+    requires { place < 26 }
+    ensures { map (λ row. (row.0.now, row.1)) result.now ≡ rows_at place common_first_words }
+{
+    row_of(&COMMON_FIRST_WORDS, place)
 }
 
 fn form_of_made(word: &[u8]) -> Option<Form>

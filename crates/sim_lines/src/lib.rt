@@ -3,6 +3,7 @@
 
 mod beginning;
 mod cutting;
+mod letter;
 mod line;
 mod lines;
 mod name;

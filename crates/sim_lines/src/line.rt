@@ -29,13 +29,12 @@ pub enum Saying {
 /// A line of a text with what it says. It is used again for each line.
 #[derive(Drop)]
 pub struct TextLine<'t> {
-    cut: &'t [u8],
+    words: Words<'t>,
     saying: Saying,
     slots: Vec<Operand<'t>>,
 }
 
 impl<'t> Model for TextLine<'t> {
-    ghost use Rattle.sim_language.specs.Lines.{words};
     ghost use Rattle.sim_language.specs.Sayings.{TextLine};
     ghost use Rattle.sim_language.specs.Said.{IsSaid};
     ghost use Rattle.sim_lines.specs.LineOf.{saying_of};
@@ -43,7 +42,7 @@ impl<'t> Model for TextLine<'t> {
     ghost Value = { TextLine };
 
     ghost view = { λ a.
-        record { words = words a.cut.now; saying = saying_of a.saying a.slots.items } };
+        record { words = a.words; saying = saying_of a.saying a.slots.items } };
 
     ghost invariant = { λ a. IsSaid (saying_of a.saying a.slots.items) };
 }
@@ -54,7 +53,7 @@ impl<'t> TextLine<'t> {
         ensures { result ≡ record { words = []; saying = Blank } }
     {
         TextLine {
-            cut: &[],
+            words: Words::new(&[]),
             saying: Saying::Blank,
             slots: Vec::new(alloc),
         }
@@ -65,10 +64,11 @@ impl<'t> TextLine<'t> {
     pub fn read(&mut self, line: &'t [u8], setting: &Setting<'_, '_>) -> Result<(), AllocError>
         ensures { OnOk result (self.new ≡ line_of setting.now line.now) }
     {
-        self.cut = cut(line);
+        let cut = cut(line);
+        self.words = Words::new(cut);
         self.saying = Saying::Blank;
         self.slots.clear();
-        self.saying = say(&mut self.slots, setting, self.cut)?;
+        self.saying = say(&mut self.slots, setting, cut, &self.words)?;
         Ok(())
     }
 
@@ -94,13 +94,13 @@ impl<'t> TextLine<'t> {
     pub fn is_empty(&self) -> bool
         ensures { result ≡ is_empty self.now.words }
     {
-        Words::new(self.cut).is_empty()
+        self.words.is_empty()
     }
 
     /// Whether its first word is this one.
     pub fn begins_with(&self, word: &[u8]) -> bool
         ensures { result ≡ begins_with word.now self.now.words }
     {
-        begins_with(&Words::new(self.cut), word)
+        begins_with(&self.words, word)
     }
 }

@@ -1,69 +1,58 @@
 //! Names.
-ghost use Rattle.std.specs.Prelude.{◌≡◌};
+ghost use Rattle.std.specs.Prelude.{◌≡◌, ◌<◌, map};
 ghost use Rattle.std.specs.List.{list_all};
 ghost use Rattle.sim_language.specs.Lines.{is_among};
 ghost use Rattle.sim_language.specs.Names.{common_words, is_name, is_reserved, is_small_letter, is_spelled, may_stand_in_name};
+ghost use Rattle.sim_lines.specs.Letters.{words_at};
 
+use crate::letter::{letter, row_of};
 use sim_language::Version;
 
-/// The words of both versions of the language, which are no names.
-const COMMON_WORDS: [&[u8]; 56] = [
-    b"scenario",
-    b"until",
-    b"seed",
-    b"resource",
-    b"priority",
-    b"preemptive",
-    b"container",
-    b"store",
-    b"pstore",
-    b"fstore",
-    b"event",
-    b"port",
-    b"process",
-    b"end",
-    b"start",
-    b"let",
-    b"count",
-    b"timeout",
-    b"wait",
-    b"succeed",
-    b"fail",
-    b"all",
-    b"any",
-    b"has",
-    b"spawn",
-    b"interrupt",
-    b"drop",
-    b"raise",
-    b"finish",
-    b"with",
-    b"request",
-    b"preempt",
-    b"release",
-    b"put",
-    b"get",
-    b"cancel",
-    b"loop",
-    b"repeat",
-    b"if",
-    b"else",
-    b"try",
-    b"catch",
-    b"break",
-    b"log",
-    b"draw",
-    b"journal",
-    b"poster",
-    b"after",
-    b"now",
-    b"val",
-    b"me",
-    b"inf",
-    b"empty",
-    b"min",
-    b"max",
-    b"proc",
+/// The words of both versions of the language, which are no names, by the letters that they begin with, from `a` to `z`.
+static COMMON_WORDS: [&[&[u8]]; 26] = [
+    &[b"all", b"any", b"after"],
+    &[b"break"],
+    &[b"container", b"count", b"cancel", b"catch"],
+    &[b"drop", b"draw"],
+    &[b"event", b"end", b"else", b"empty"],
+    &[b"fstore", b"fail", b"finish"],
+    &[b"get"],
+    &[b"has"],
+    &[b"interrupt", b"if", b"inf"],
+    &[b"journal"],
+    &[],
+    &[b"let", b"loop", b"log"],
+    &[b"me", b"min", b"max"],
+    &[b"now"],
+    &[],
+    &[
+        b"priority",
+        b"preemptive",
+        b"pstore",
+        b"port",
+        b"process",
+        b"preempt",
+        b"put",
+        b"poster",
+        b"proc",
+    ],
+    &[],
+    &[b"resource", b"raise", b"request", b"release", b"repeat"],
+    &[
+        b"scenario",
+        b"seed",
+        b"store",
+        b"start",
+        b"succeed",
+        b"spawn",
+    ],
+    &[b"timeout", b"try"],
+    &[b"until"],
+    &[b"val"],
+    &[b"wait", b"with"],
+    &[],
+    &[],
+    &[],
 ];
 
 /// Whether the word is a name in a text of this version.
@@ -88,7 +77,8 @@ fn may_end_name(rest: &[u8]) -> bool
     rest.iter().all(|byte| may_stand_in_name(*byte))
 }
 
-fn is_small_letter(byte: u8) -> bool
+/// Whether it is one of the 26 small letters.
+pub fn is_small_letter(byte: u8) -> bool
     ensures { result ≡ is_small_letter byte }
 {
     byte >= b'a' && byte <= b'z'
@@ -113,5 +103,16 @@ fn is_reserved(version: Version, word: &[u8]) -> bool
 fn is_common(word: &[u8]) -> bool
     ensures { result ≡ is_among word.now common_words }
 {
-    COMMON_WORDS.contains(&word)
+    match letter(word) {
+        Some(place) => words_at(place).contains(&word),
+        None => false,
+    }
+}
+
+/// Those that begin with the letter at this place in the alphabet.
+fn words_at(place: usize) -> &'static [&'static [u8]]
+    requires { place < 26 }
+    ensures { map (λ word. word.now) result.now ≡ words_at place common_words }
+{
+    row_of(&COMMON_WORDS, place)
 }

@@ -1,13 +1,11 @@
 //! The process lines of a text.
-ghost use Rattle.std.specs.Prelude.{◌≡◌, ◌<◌, ◌≤◌, [], ◌∷◌, ◌++◌, IfOk, OnOk, false, length, map, option_map, option_to_list, vec_len};
-ghost use Rattle.sim_language.specs.Lines.{lines};
+ghost use Rattle.std.specs.Prelude.{◌≡◌, ◌<◌, ◌≤◌, [], ◌∷◌, ◌++◌, OnOk, false, length, map, option_map, option_to_list, vec_len};
 ghost use Rattle.sim_language.specs.Named.{is_named, place_of, with_all};
 ghost use Rattle.sim_language.specs.Parameters.{parameter_class};
 ghost use Rattle.sim_lines.specs.Spans.{head_by};
-ghost use Rattle.sim_language.specs.AnywhereInText.{head_of, heads_of, parameters};
+ghost use Rattle.sim_language.specs.AnywhereInText.{head_of, parameters};
 ghost use Rattle.sim_types.specs.Limits.{most_bytes};
 
-use crate::cutting::{cut, first_line};
 use crate::name::is_name;
 use crate::parameter::parameter_class;
 use crate::words::Words;
@@ -47,29 +45,18 @@ impl<'t> Model for ProcessLines<'t> {
 }
 
 impl<'t> ProcessLines<'t> {
-    /// The process lines of a text of this version. They may stand anywhere, since a process may be named before it stands.
-    pub fn of_text(
-        alloc: Global,
-        version: Version,
-        text: &'t [u8],
-    ) -> Result<ProcessLines<'t>, AllocError>
-        requires { length text.now ≤ most_bytes }
-        ensures { IfOk result (λ heads. heads ≡ heads_of version (lines text.now)) }
+    /// No process lines. It takes no memory.
+    pub(crate) fn new(alloc: Global) -> ProcessLines<'t>
+        ensures { result ≡ [] }
     {
-        let mut heads = ProcessLines {
+        ProcessLines {
             spans: Names::new(alloc),
             classes: Vec::new(alloc),
-        };
-        let mut rest = text;
-        while let Some((line, behind)) = first_line(rest) {
-            heads.add(version, &Words::new(cut(line)))?;
-            rest = behind;
         }
-        Ok(heads)
     }
 
     /// The process that the line declares behind the others, if it declares one and its name is not there.
-    fn add(&mut self, version: Version, line: &Words<'t>) -> Result<(), AllocError>
+    pub(crate) fn add(&mut self, version: Version, line: &Words<'t>) -> Result<(), AllocError>
         requires { length self.old < most_bytes }
         ensures { OnOk result
             (self.new ≡ with_all self.old (option_to_list (head_of version line.now))) }
@@ -124,8 +111,8 @@ impl<'t> ProcessLines<'t> {
 fn head_of<'t>(version: Version, line: &Words<'t>) -> Option<(&'t [u8], Words<'t>)>
     ensures { option_map (λ head. head_by head.0.now head.1) result ≡ head_of version line.now }
 {
-    let mut words = line.again();
-    let first = words.next()?;
+    let first = line.first()?;
+    let mut words = line.behind_first();
     let name = words.next()?;
     if first == b"process".as_slice() && is_name(version, name) {
         Some((name, words))

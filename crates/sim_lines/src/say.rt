@@ -1,7 +1,6 @@
 //! What a line says by itself.
 ghost use Rattle.std.specs.Prelude.{◌≡◌, [], IfOk, Some};
 ghost use Rattle.std.specs.List.{list_any};
-ghost use Rattle.sim_language.specs.Lines.{words};
 ghost use Rattle.sim_language.specs.Sayings.{begins_with, context_of, form_in, is_bad_name, is_bad_number, said_by_form, said_by_slots, saying};
 ghost use Rattle.sim_lines.specs.LineOf.{saying_of};
 
@@ -19,18 +18,17 @@ use std::alloc::AllocError;
 /// How many bytes a cut line has, at most.
 const LONGEST_LINE: usize = 200;
 
-/// What a cut line says in this setting. Where it says a form, the slots are filled by its operands.
+/// What a cut line with these words says in this setting. Where it says a form, the slots are filled by its operands.
 pub fn say<'t>(
     slots: &mut Vec<Operand<'t>>,
     setting: &Setting<'_, '_>,
-    line: &'t [u8],
+    line: &[u8],
+    words: &Words<'t>,
 ) -> Result<Saying, AllocError>
     requires { slots.old.items ≡ [] }
     ensures { IfOk result (λ what.
-        saying_of what slots.new.items
-        ≡ saying setting.now line.now (words line.now)) }
+        saying_of what slots.new.items ≡ saying setting.now line.now words.now) }
 {
-    let words = Words::new(line);
     if words.is_empty() {
         return Ok(Saying::Blank);
     }
@@ -40,8 +38,8 @@ pub fn say<'t>(
     if line.len() > LONGEST_LINE {
         return Ok(Saying::Wrong(FaultKind::LineTooLong));
     }
-    match form_in(setting, &words) {
-        Some(form) => say_form(slots, setting, form, &words),
+    match form_in(setting, words) {
+        Some(form) => say_form(slots, setting, form, words),
         None => Ok(Saying::Wrong(FaultKind::UnknownWord)),
     }
 }
@@ -107,7 +105,7 @@ fn form_in(setting: &Setting<'_, '_>, words: &Words<'_>) -> Option<Form>
 pub fn begins_with(words: &Words<'_>, word: &[u8]) -> bool
     ensures { result ≡ begins_with word.now words.now }
 {
-    match words.again().next() {
+    match words.first() {
         Some(first) => first == word,
         None => false,
     }

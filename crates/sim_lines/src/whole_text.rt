@@ -1,6 +1,6 @@
 //! What the lines of a text take from lines anywhere in it, above them or below.
 ghost use Rattle.std.specs.Prelude.{◌≡◌, ◌≤◌, IfOk, length, option_map};
-ghost use Rattle.sim_language.specs.AnywhereInText.{ahead, declaration, declarations, first_worded, is_second_header, version_of, whole_text};
+ghost use Rattle.sim_language.specs.AnywhereInText.{ahead, declaration, declarations, first_worded, heads_of, is_second_header, version_of, whole_text};
 ghost use Rattle.sim_language.specs.Forms.{same_sort};
 ghost use Rattle.sim_language.specs.declared.form.Sort.TheVariants.{Event};
 ghost use Rattle.sim_language.specs.Lines.{lines};
@@ -52,8 +52,7 @@ impl<'t> WholeText<'t> {
         ensures { IfOk result (λ whole. whole ≡ whole_text (lines text.now)) }
     {
         let version = version_of(text);
-        let heads = ProcessLines::of_text(alloc, version, text)?;
-        let names = names_ahead(alloc, text)?;
+        let (heads, names) = look_ahead(alloc, version, text)?;
         Ok(WholeText {
             text,
             version,
@@ -123,19 +122,28 @@ fn is_second_header(words: &Words<'_>) -> bool
     }
 }
 
-/// The names that lines of the text declare, each with what the first such line declares it as.
-fn names_ahead<'t>(alloc: Global, text: &'t [u8]) -> Result<Names<'t, Ahead>, AllocError>
+/// The process lines of a text of this version, and the names that its lines declare, each with what the first such line
+/// declares it as. Only a line that declares something can be a process line.
+fn look_ahead<'t>(
+    alloc: Global,
+    version: Version,
+    text: &'t [u8],
+) -> Result<(ProcessLines<'t>, Names<'t, Ahead>), AllocError>
     requires { length text.now ≤ most_bytes }
-    ensures { IfOk result (λ names. AreAhead names (declarations (lines text.now))) }
+    ensures heads { IfOk result (λ found. found.0 ≡ heads_of version (lines text.now)) }
+    ensures names { IfOk result (λ found. AreAhead found.1 (declarations (lines text.now))) }
 {
+    let mut heads = ProcessLines::new(alloc);
     let mut names = Names::new(alloc);
     let mut events = 0;
     let mut rest = text;
     while let Some((line, behind)) = first_line(rest) {
         rest = behind;
-        let Some((name, sort)) = declaration(&Words::new(cut(line))) else {
+        let words = Words::new(cut(line));
+        let Some((name, sort)) = declaration(&words) else {
             continue;
         };
+        heads.add(version, &words)?;
         if is_event(sort) {
             names.add(name, Ahead::EventAt(events))?;
             events += 1;
@@ -143,7 +151,7 @@ fn names_ahead<'t>(alloc: Global, text: &'t [u8]) -> Result<Names<'t, Ahead>, Al
             names.add(name, Ahead::NoEvent)?;
         }
     }
-    Ok(names)
+    Ok((heads, names))
 }
 
 fn is_event(sort: Sort) -> bool
@@ -157,8 +165,7 @@ fn declaration<'t>(line: &Words<'t>) -> Option<(&'t [u8], Sort)>
     ensures { option_map (λ found. record { name = found.0.now; value = found.1 }) result
         ≡ declaration line.now }
 {
-    let mut words = line.again();
-    let first = words.next()?;
-    let name = words.next()?;
-    Some((name, sort_begun(first)?))
+    let sort = sort_begun(line.first()?)?;
+    let name = line.behind_first().first()?;
+    Some((name, sort))
 }

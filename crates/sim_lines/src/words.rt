@@ -1,6 +1,6 @@
 //! The words of a line, one after the other.
 ghost use Rattle.std.specs.Prelude.{◌≡◌, [], ◌∷◌, MatchOption, not, position};
-ghost use Rattle.sim_language.specs.Forms.{after_made};
+ghost use Rattle.sim_language.specs.Forms.{after_first, after_made};
 ghost use Rattle.sim_language.specs.Lines.{is_blank, is_empty, words};
 
 use std::marker::Model;
@@ -8,18 +8,21 @@ use std::marker::Model;
 /// The words that are left of a cut line.
 #[derive(Drop)]
 pub struct Words<'t> {
-    /// A word that stands in front of the others.
+    /// The first of them; none where no word is left.
     first: Option<&'t [u8]>,
+    /// The part of the line that has the others.
     rest: &'t [u8],
 }
 
 impl<'t> Model for Words<'t> {
-    ghost use Rattle.std.specs.Prelude.{List, ℕ, ◌++◌, option_copied, option_to_list};
+    ghost use Rattle.std.specs.Prelude.{◌≡◌, List, ℕ, [], None, ◌++◌, option_copied, option_to_list};
     ghost use Rattle.sim_language.specs.Lines.{words};
 
     ghost Value = { List (List ℕ) };
 
     ghost view = { λ a. option_to_list (option_copied a.first) ++ words a.rest.now };
+
+    ghost invariant = { λ a. option_copied a.first ≡ None → words a.rest.now ≡ [] };
 }
 
 impl<'t> Words<'t> {
@@ -27,9 +30,15 @@ impl<'t> Words<'t> {
     pub fn new(line: &'t [u8]) -> Words<'t>
         ensures { result ≡ words line.now }
     {
-        Words {
-            first: None,
-            rest: line,
+        match first_word(line) {
+            Some((first, rest)) => Words {
+                first: Some(first),
+                rest,
+            },
+            None => Words {
+                first: None,
+                rest: &[],
+            },
         }
     }
 
@@ -47,7 +56,23 @@ impl<'t> Words<'t> {
     pub fn is_empty(&self) -> bool
         ensures { result ≡ is_empty self.now }
     {
-        self.again().next().is_none()
+        self.first.is_none()
+    }
+
+    /// The first of them.
+    pub fn first(&self) -> Option<&'t [u8]>
+        ensures { MatchOption result
+            (self.now ≡ [])
+            (λ word. self.now ≡ word.now ∷ after_first self.now) }
+    {
+        self.first
+    }
+
+    /// The words behind the first.
+    pub fn behind_first(&self) -> Words<'t>
+        ensures { result ≡ after_first self.now }
+    {
+        Words::new(self.rest)
     }
 
     /// The next word.
@@ -56,9 +81,8 @@ impl<'t> Words<'t> {
             ((self.old ≡ []) × (self.new ≡ []))
             (λ word. self.old ≡ word.now ∷ self.new) }
     {
-        let (word, rest) = self.first_and_rest()?;
-        self.first = None;
-        self.rest = rest;
+        let word = self.first?;
+        *self = Words::new(self.rest);
         Some(word)
     }
 
@@ -81,22 +105,10 @@ impl<'t> Words<'t> {
             (after_made self.now ≡ self.now)
             (λ parts. after_made self.now ≡ parts.0.now ∷ words parts.1.now) }
     {
-        let (first, behind) = self.first_and_rest()?;
-        let (_, behind_second) = first_word(behind)?;
+        let first = self.first?;
+        let (_, behind_second) = first_word(self.rest)?;
         let (_, behind_third) = first_word(behind_second)?;
         Some((first, behind_third))
-    }
-
-    /// The first word, and the part of the line that has the others.
-    fn first_and_rest(&self) -> Option<(&'t [u8], &'t [u8])>
-        ensures { MatchOption result
-            (self.now ≡ [])
-            (λ parts. self.now ≡ parts.0.now ∷ words parts.1.now) }
-    {
-        match self.first {
-            Some(word) => Some((word, self.rest)),
-            None => first_word(self.rest),
-        }
     }
 }
 

@@ -1,5 +1,4 @@
 use Rattle.std.proofs.Common.{sym, subst}
-use Rattle.sim_language.specs.Lines.{words}
 use Rattle.sim_language.specs.Said.{IsSaid}
 use Rattle.sim_lines.proofs.SaidByLines.{saying_is_said}
 use Rattle.sim_lines.proofs.line.TextLine.read.Goals as goal
@@ -7,4 +6,4 @@ use Rattle.sim_lines.proofs.line.TextLine.read.Goals as goal
 pub invariant_of-self-2 : goal.invariant_of-self-2
 invariant_of-self-2 c =
     subst IsSaid (sym c.in_ok-self-inside.ensures)
-    (saying_is_said c.args.setting.now c.cut-self-inside.result.now (words c.cut-self-inside.result.now))
+    (saying_is_said c.args.setting.now c.cut-cut.result.now c.new-self-inside.result)
