@@ -1,11 +1,15 @@
 //! What has a name.
 ghost use Rattle.std.specs.Option.{IfSome};
-ghost use Rattle.std.specs.Prelude.{◌≡◌, ◌<◌, [], length, map, slice_get, Some, OnOk, OnErr};
+ghost use Rattle.std.specs.Prelude.{◌≡◌, ◌<◌, [], length, map, position, slice_get, Some, OnOk, OnErr};
+ghost use Rattle.sim_language.specs.Lines.{same};
 ghost use Rattle.sim_language.specs.Named.{Named, is_named, place_of, value_of, with_one};
 
 use indexmap::IndexMap;
 use std::alloc::{AllocError, Global};
 use std::marker::Model;
+
+/// How many names are looked through one by one, at most. To find where the map has a name takes longer than that.
+const FEW: usize = 8;
 
 /// What has a name, in the order in which the names came. The names are parts of a text.
 #[derive(Drop)]
@@ -43,13 +47,13 @@ impl<'t, V: Copy> Names<'t, V> {
     pub fn get(&self, name: &[u8]) -> Option<V>
         ensures { result ≡ value_of name.now self.now }
     {
-        self.index.get(&name).copied()
+        Some(self.at(self.index_of(name)?))
     }
 
     pub fn contains(&self, name: &[u8]) -> bool
         ensures { result ≡ is_named name.now self.now }
     {
-        self.index.contains_key(&name)
+        self.index_of(name).is_some()
     }
 
     /// The index of the name, counted from 0.
@@ -57,7 +61,11 @@ impl<'t, V: Copy> Names<'t, V> {
         ensures index { result ≡ place_of name.now self.now }
         ensures below { IfSome result (λ index. index < length self.now) }
     {
-        self.index.get_index_of(&name)
+        if self.index.len() <= FEW {
+            place_among(self.index.keys().as_slice(), name)
+        } else {
+            self.index.get_index_of(&name)
+        }
     }
 
     /// What stands at an index, counted from 0.
@@ -79,4 +87,11 @@ impl<'t, V: Copy> Names<'t, V> {
         }
         Ok(())
     }
+}
+
+/// Where the name stands first among these.
+fn place_among(names: &[&[u8]], name: &[u8]) -> Option<usize>
+    ensures { result ≡ position (λ known. same name.now known.now) names.now }
+{
+    names.iter().position(|known| name == *known)
 }

@@ -1,6 +1,6 @@
 use Rattle.std.proofs.Common.{◌∙◌, ap, is_some}
-use Rattle.sim_names.proofs.Entries.{value_of_entries}
+use Rattle.sim_names.proofs.Places.{is_named_at_place}
 use Rattle.sim_names.proofs.names.Names.contains.Goals as goal
 
 pub returns : goal.returns
-returns g c = rw (← c.self.view_is) (c.contains_key.ensures ∙ ap is_some (value_of_entries (λ k. k.now) c.args.name c.self.inside.index.entries))
+returns g c = c.is_some.ensures ∙ ap is_some c.index_of.ensures.index ∙ is_named_at_place c.args.name.now c.args.self.now
