@@ -130,7 +130,8 @@ impl<'a, K: Sink, L: Loan> Sink for Gathering<'a, K, L> {
     }
 }
 
-/// Writes all that is held. What the sink does not take stays held.
+/// Writes all that is held. What the sink does not take stays held. Apart, since it is seldom needed.
+#[inline(never)]
 #[tactic(auto, using(crate::proofs::HeldBack::passing))]
 fn write_held<K: Sink>(inner: &mut K, held: &mut HeldBytes) -> Result<(), Failed>
     ensures whole { OnOk result (held.new ≡ []) }

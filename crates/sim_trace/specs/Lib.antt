@@ -1,2 +1,3 @@
 pub mod SummaryTexts
 pub mod Texts
+pub mod Begins

@@ -1,11 +1,21 @@
 //! Where a line is put together.
 ghost use Rattle.std.specs.Prelude.{◌≡◌, ◌+◌, ◌<◌, ◌≤◌, [], ◌∷◌, ◌++◌, length, decimal};
+ghost use Rattle.sim_trace.specs.Begins.{event_begin};
 
+use crate::words::{append_number, append_signed_digits};
 use itoa::write_digits;
 use std::marker::Model;
 
 /// No line is longer, in bytes.
 pub(crate) const LONGEST_LINE: usize = 160;
+
+/// What the line of an event begins with, and where that ends.
+#[derive(Clone, Copy)]
+struct Begin {
+    time: i64,
+    priority: u8,
+    end: usize,
+}
 
 /// A line, as bytes. It takes no memory.
 #[derive(Drop)]
@@ -13,16 +23,20 @@ pub struct LineBuf {
     bytes: [u8; LONGEST_LINE],
     /// How many of them are the line.
     count: usize,
+    /// What it begins with, where it is that of an event: the next one mostly begins so too, and then it stays.
+    begin: Option<Begin>,
 }
 
 impl Model for LineBuf {
     ghost use Rattle.std.specs.Prelude.{List, ℕ, ◌≤◌, take};
+    ghost use Rattle.std.specs.Option.{IfSome};
+    ghost use Rattle.sim_trace.specs.Begins.{BeginsWith};
 
     ghost Value = { List ℕ };
 
     ghost view = { λ a. take a.count a.bytes };
 
-    ghost invariant = { λ a. a.count ≤ 160 };
+    ghost invariant = { λ a. (a.count ≤ 160) × IfSome a.begin (BeginsWith (take a.count a.bytes)) };
 }
 
 // How many digits a number has.
@@ -65,6 +79,7 @@ impl LineBuf {
         LineBuf {
             bytes: [0; LONGEST_LINE],
             count: 0,
+            begin: None,
         }
     }
 
@@ -75,10 +90,43 @@ impl LineBuf {
         &self.bytes[..self.count]
     }
 
-    pub(crate) fn clear(&mut self)
-        ensures { self.new ≡ [] }
+    /// Begins a line with this word, in place of the one that stood there.
+    pub(crate) fn begin(&mut self, word: &[u8])
+        requires { length word.now ≤ 160 }
+        ensures { self.new ≡ word.now }
     {
+        self.begin = None;
         self.count = 0;
+        self.append(word);
+    }
+
+    /// Begins the line of an event with its time and its priority, in place of the one that stood there.
+    pub(crate) fn begin_event(&mut self, time: i64, priority: u8)
+        ensures items { self.new ≡ event_begin time priority }
+        ensures len { length self.new ≤ 44 }
+    {
+        match self.begin {
+            Some(begin) if begin.time == time && begin.priority == priority => {
+                self.count = begin.end;
+            }
+            _ => self.write_begin(time, priority),
+        }
+    }
+
+    /// Writes what the line of an event begins with.
+    fn write_begin(&mut self, time: i64, priority: u8)
+        ensures items { self.new ≡ event_begin time priority }
+        ensures len { length self.new ≤ 44 }
+    {
+        self.begin(b"@");
+        append_signed_digits(time, self);
+        append_number(u64::from(priority), self);
+        self.push(b' ');
+        self.begin = Some(Begin {
+            time,
+            priority,
+            end: self.count,
+        });
     }
 
     pub(crate) fn push(&mut self, byte: u8)

@@ -11,8 +11,7 @@ pub fn render_arrival(a: &Arrival, ports: &[Name], out: &mut LineBuf)
     requires names { AreNamesShort ports.now }
     ensures { out.new ≡ arrival_text ports.now a.now }
 {
-    out.clear();
-    out.append(b"after");
+    out.begin(b"after");
     append_number(a.after, out);
     append_number(u64::from(a.poster), out);
     append_number(u64::from(a.serial), out);

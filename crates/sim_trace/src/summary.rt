@@ -11,8 +11,7 @@ use sim_types::Summary;
 pub fn render_summary(index: u32, s: &Summary, out: &mut LineBuf)
     ensures { out.new ≡ replication_text index s.now }
 {
-    out.clear();
-    out.append(b"rep");
+    out.begin(b"rep");
     append_number(u64::from(index), out);
     append_summary(s, out);
     out.push(b'\n');
@@ -22,8 +21,7 @@ pub fn render_summary(index: u32, s: &Summary, out: &mut LineBuf)
 pub fn render_load(size: u32, s: &Summary, out: &mut LineBuf)
     ensures { out.new ≡ load_text size s.now }
 {
-    out.clear();
-    out.append(b"load");
+    out.begin(b"load");
     append_number(u64::from(size), out);
     append_summary(s, out);
     out.push(b'\n');
@@ -34,8 +32,7 @@ pub fn render_load(size: u32, s: &Summary, out: &mut LineBuf)
 pub fn render_batch(count: u32, logs: u64, total: i128, out: &mut LineBuf)
     ensures { out.new ≡ batch_text count logs total }
 {
-    out.clear();
-    out.append(b"batch");
+    out.begin(b"batch");
     append_number(u64::from(count), out);
     append_number(logs, out);
     append_sum(total, out);

@@ -6,7 +6,8 @@ ghost use Rattle.sim_trace.specs.Texts.{AreNamesShort, kind_word, end_word, outc
 
 use crate::buffer::LineBuf;
 use crate::words::{
-    append_number, append_signed, append_signed_digits, append_word, end_word, kind_word, port_word,
+    append_kind, append_number, append_signed, append_signed_digits, append_word, end_word,
+    port_word,
 };
 use sim_types::{End, EventId, EventKind, Line, Name, Outcome, ProcId};
 
@@ -16,7 +17,6 @@ pub fn render(line: &Line, ports: &[Name], out: &mut LineBuf)
     requires names { AreNamesShort ports.now }
     ensures { out.new ≡ line_text ports.now line.now }
 {
-    out.clear();
     match line {
         Line::Event {
             time,
@@ -50,27 +50,23 @@ fn append_event(
     outcome: Outcome,
     out: &mut LineBuf,
 )
-    requires { out.old ≡ [] }
     ensures { out.new ≡ line_text [] (Line.Event time number event outcome priority kind) }
 {
-    append_key(time, priority, number, out);
-    append_word(kind_word(kind), out);
-    append_number(event.0, out);
+    begin_key(time, priority, number, out);
+    append_kind(kind, out);
+    out.append_digits(event.0);
     append_outcome(outcome, out);
     out.push(b'\n');
 }
 
-/// Appends what an event is ordered by.
-fn append_key(time: i64, priority: u8, number: u64, out: &mut LineBuf)
-    requires { length out.old + 64 ≤ 160 }
+/// Begins a line with what an event is ordered by.
+fn begin_key(time: i64, priority: u8, number: u64, out: &mut LineBuf)
     ensures items { out.new
-        ≡ out.old ++ 64 ∷ signed_decimal time ++ 32 ∷ decimal priority ++ 32 ∷ decimal number }
-    ensures len { length out.new ≤ length out.old + 64 }
+        ≡ 64 ∷ signed_decimal time ++ 32 ∷ decimal priority ++ 32 ∷ decimal number }
+    ensures len { length out.new ≤ 64 }
 {
-    out.push(b'@');
-    append_signed_digits(time, out);
-    append_number(priority as u64, out);
-    append_number(number, out);
+    out.begin_event(time, priority);
+    out.append_digits(number);
 }
 
 /// Appends a space and the words of the outcome.
@@ -81,8 +77,8 @@ fn append_outcome(outcome: Outcome, out: &mut LineBuf)
 {
     match outcome {
         Outcome::Ok(value) => {
-            out.append(b" ok");
-            append_signed(value, out);
+            out.append(b" ok ");
+            append_signed_digits(value, out);
         }
         Outcome::Fail(thrown) => {
             out.append(b" fail");
@@ -93,10 +89,9 @@ fn append_outcome(outcome: Outcome, out: &mut LineBuf)
 }
 
 fn append_log(time: i64, process: ProcId, value: i64, out: &mut LineBuf)
-    requires { out.old ≡ [] }
     ensures { out.new ≡ line_text [] (Line.Log time process value) }
 {
-    out.append(b"log");
+    out.begin(b"log");
     append_signed(time, out);
     append_number(process.0, out);
     append_signed(value, out);
@@ -104,11 +99,10 @@ fn append_log(time: i64, process: ProcId, value: i64, out: &mut LineBuf)
 }
 
 fn append_arrival(after: u64, port: u32, value: i64, ports: &[Name], out: &mut LineBuf)
-    requires empty { out.old ≡ [] }
-    requires names { AreNamesShort ports.now }
+    requires { AreNamesShort ports.now }
     ensures { out.new ≡ line_text ports.now (Line.Arrive after value port) }
 {
-    out.append(b"arrive");
+    out.begin(b"arrive");
     append_number(after, out);
     append_word(port_word(ports, port), out);
     append_signed(value, out);
@@ -116,10 +110,9 @@ fn append_arrival(after: u64, port: u32, value: i64, ports: &[Name], out: &mut L
 }
 
 fn append_finish(end: End, time: i64, processed: u64, out: &mut LineBuf)
-    requires { out.old ≡ [] }
     ensures { out.new ≡ line_text [] (Line.Finish time processed end) }
 {
-    out.append(b"end");
+    out.begin(b"end");
     append_word(end_word(end), out);
     append_signed(time, out);
     append_number(processed, out);

@@ -72,23 +72,24 @@ pub(crate) fn append_word(word: &[u8], out: &mut LineBuf)
     out.append(word);
 }
 
-/// What the kind of an event is called.
-pub(crate) fn kind_word(kind: EventKind) -> &'static [u8]
-    ensures word { result.now ≡ kind_word kind }
-    ensures short { length result.now ≤ 9 }
+/// Appends what the kind of an event is called, with a space in front of it and one behind.
+pub(crate) fn append_kind(kind: EventKind, out: &mut LineBuf)
+    requires { length out.old + 11 ≤ 160 }
+    ensures items { out.new ≡ out.old ++ 32 ∷ kind_word kind ++ 32 ∷ [] }
+    ensures len { length out.new ≤ length out.old + 11 }
 {
     match kind {
-        EventKind::Init => b"init",
-        EventKind::Timeout => b"timeout",
-        EventKind::Plain => b"event",
-        EventKind::Process => b"process",
-        EventKind::Interrupt => b"interrupt",
-        EventKind::Cond => b"cond",
-        EventKind::Request => b"request",
-        EventKind::Release => b"release",
-        EventKind::Put => b"put",
-        EventKind::Get => b"get",
-        EventKind::Stop => b"stop",
+        EventKind::Init => out.append(b" init "),
+        EventKind::Timeout => out.append(b" timeout "),
+        EventKind::Plain => out.append(b" event "),
+        EventKind::Process => out.append(b" process "),
+        EventKind::Interrupt => out.append(b" interrupt "),
+        EventKind::Cond => out.append(b" cond "),
+        EventKind::Request => out.append(b" request "),
+        EventKind::Release => out.append(b" release "),
+        EventKind::Put => out.append(b" put "),
+        EventKind::Get => out.append(b" get "),
+        EventKind::Stop => out.append(b" stop "),
     }
 }
 
