@@ -1,4 +1,4 @@
-ghost use Rattle.std.specs.Prelude.{◌≡◌, ◌↔◌, ◌+◌, ◌<◌, ◌≤◌, ◌^◌, pos, ◌≤ℤ◌, ◌<ℤ◌, ◌+ℤ◌, [], ◌∷◌, length, Some, None, IsSome, IsFalse, IsTrue, is_some, is_none, IfOk, IsOk, IsErr, IfNone, IfSome, OnOk, OnErr, MatchOption, if◌then◌else◌};
+ghost use Rattle.std.specs.Prelude.{◌≡◌, ◌↔◌, ◌+◌, ◌<◌, ◌≤◌, ◌^◌, pos, ◌≤ℤ◌, ◌<ℤ◌, ◌+ℤ◌, [], ◌∷◌, length, Some, None, IsSome, IsFalse, IsTrue, is_some, is_none, IfOk, IsOk, IsErr, IfNone, IfSome, OnOk, OnErr, MatchOption, option_map, if◌then◌else◌};
 ghost use Rattle.std.specs.List.{list_any};
 ghost use Rattle.sim_types.specs.declared.event.Entry.{Entry};
 ghost use Rattle.sim_machine.specs.Conditions as conditions;
@@ -15,6 +15,7 @@ ghost use Rattle.sim_events.specs.Changes.{more_events, more_callbacks, change_k
 ghost use Rattle.sim_events.specs.States.{is_unhandled};
 ghost use Rattle.sim_happen_model.specs.HappenOf.{IsOpen, AreHeldByFew, held, unheld_event, one_more, gone_if_unheld, KeepsRoom};
 ghost use Rattle.sim_happen_model.specs.Holders.{HasOwnHolder, SameMemberships};
+ghost use Rattle.sim_happen.specs.EntryParts.{entry_of};
 ghost use Rattle.sim_happen_model.specs.Shows.{Shows, Turns, Follows, PopsEntry};
 
 mod kept;
@@ -54,20 +55,47 @@ impl Model for Happen {
 }
 
 // An entry more.
+#[inline(always)]
 fn push(agenda: &mut Agenda, entry: Entry)
     requires { 1 ≤ agenda.old.spare }
     ensures entries { IsPermutation (entry ∷ agenda.old.entries) agenda.new.entries }
     ensures spare { agenda.new.spare + 1 ≡ agenda.old.spare }
 {
-    agenda.push(entry, &mut Count::new());
+    let (time, priority, number) = entry.key.parts();
+    push_parts(agenda, time, priority, number, entry.event);
+}
+
+// An entry more, of these parts. They are handed over one by one, here and where an entry is taken out, so that the bytes
+// between the fields of an entry, which say nothing, are not copied with it.
+fn push_parts(agenda: &mut Agenda, time: i64, priority: u8, number: u64, event: EventId)
+    requires { 1 ≤ agenda.old.spare }
+    ensures entries { IsPermutation
+        (entry_of (time, priority, number, event) ∷ agenda.old.entries) agenda.new.entries }
+    ensures spare { agenda.new.spare + 1 ≡ agenda.old.spare }
+{
+    let key = Key::new(time, priority, number);
+    agenda.push(Entry { key, event }, &mut Count::new());
 }
 
 // The entry that is due is taken out.
+#[inline(always)]
 fn pop(agenda: &mut Agenda) -> Option<Entry>
     ensures due { PopsFirst result agenda.old agenda.new }
     ensures spare { IfSome result (λ x. agenda.new.spare ≡ agenda.old.spare + 1) }
 {
-    agenda.pop(&mut Count::new())
+    let (time, priority, number, event) = pop_parts(agenda)?;
+    let key = Key::new(time, priority, number);
+    Some(Entry { key, event })
+}
+
+// The entry that is due is taken out: its parts.
+fn pop_parts(agenda: &mut Agenda) -> Option<(i64, u8, u64, EventId)>
+    ensures due { PopsFirst (option_map entry_of result) agenda.old agenda.new }
+    ensures spare { IfSome result (λ x. agenda.new.spare ≡ agenda.old.spare + 1) }
+{
+    let entry = agenda.pop(&mut Count::new())?;
+    let (time, priority, number) = entry.key.parts();
+    Some((time, priority, number, entry.event))
 }
 
 // An event that is triggered is processed and has a holder more, and its callbacks are those that are left to call. The
