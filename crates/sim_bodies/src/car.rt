@@ -1,7 +1,7 @@
 //! Cars: a body that opens a scope and leaves it.
 use sim_machine::LawfulBody;
 use sim_procs::Body;
-use sim_types::{Args, EventId, Op, ProcId, Signal};
+use sim_types::{EventId, Op, ProcId, Signal};
 use std::alloc::{AllocError, Global};
 use std::marker::Model;
 
@@ -72,7 +72,7 @@ impl Body for Car {
         })
     }
 
-    fn fill(&mut self, _code: &Road, kind: u32, _args: Args) {
+    fn fill(&mut self, _code: &Road, kind: u32, _args: &[i64]) {
         self.own = ProcId(0);
         self.charges = kind == 0;
         self.last = None;

@@ -2,7 +2,7 @@
 use crate::traveller::again;
 use sim_machine::LawfulBody;
 use sim_procs::Body;
-use sim_types::{Args, EventId, Op, ProcId, Signal};
+use sim_types::{EventId, Op, ProcId, Signal};
 use std::alloc::{AllocError, Global};
 use std::marker::Model;
 
@@ -82,7 +82,7 @@ impl Body for Clock {
         })
     }
 
-    fn fill(&mut self, _code: &Pace, _kind: u32, _args: Args) {
+    fn fill(&mut self, _code: &Pace, _kind: u32, _args: &[i64]) {
         self.own = ProcId(0);
         self.last = None;
     }

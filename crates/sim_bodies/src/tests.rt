@@ -17,8 +17,7 @@ use rand_pcg::Pcg64;
 use sim_kernel::{Kernel, Rest, Unit};
 use sim_procs::Body;
 use sim_types::{
-    Args, End, EventId, EventKind, Line, List, Op, Outcome, ProcId, Setup, Signal, Start, Throw,
-    Until,
+    End, EventId, EventKind, Line, List, Op, Outcome, ProcId, Setup, Signal, Start, Throw, Until,
 };
 use std::alloc::{AllocError, Global};
 use std::process::Abort;
@@ -129,26 +128,16 @@ fn lines_of_run<B: Body>(
     ended(kernel, lines)
 }
 
-// Two numbers as arguments.
-fn two(first: i64, second: i64) -> Args
-    ensures { result ≡ first ∷ second ∷ [] }
-{
-    let mut args = Args::new();
-    args.push(first);
-    args.push(second);
-    args
-}
-
 // The start of a traveller that is given two numbers.
 #[tactic(auto, using(crate::proofs::TestSetups::traveller_start_fits))]
-fn traveller_start(kind: u32, first: i64, second: i64) -> Start
+fn traveller_start(alloc: Global, kind: u32, first: i64, second: i64) -> Result<Start, AllocError>
     requires { kind < 3 }
-    ensures { IsTrue (start_fits traveller_facts result) }
+    ensures { IfOk result (λ start. IsTrue (start_fits traveller_facts start)) }
 {
-    Start {
+    Ok(Start {
         kind,
-        args: two(first, second),
-    }
+        args: List::from_vec(Vec::from_slice(alloc, &[first, second])?),
+    })
 }
 
 // The starts of these travellers.
@@ -163,7 +152,7 @@ fn land_starts(
     let mut starts = List::new(alloc);
     for (kind, first, second) in travellers {
         assert!(rt; *kind < 3);
-        starts.push(traveller_start(*kind, *first, *second))?;
+        starts.push(traveller_start(alloc, *kind, *first, *second)?)?;
     }
     Ok(starts)
 }
@@ -196,7 +185,7 @@ fn arrivals_run(alloc: Global, journal: &[(u64, i64)]) -> Result<Vec<Line>, Allo
     let mut ports = List::new(alloc);
     ports.push(3)?;
     let mut starts = List::new(alloc);
-    starts.push(traveller_start(0, 5, 7))?;
+    starts.push(traveller_start(alloc, 0, 5, 7)?)?;
     let setup = Setup {
         until: Until::Never,
         events: 0,
@@ -232,7 +221,7 @@ fn clock_run(alloc: Global, delay: i64, limit: u32) -> Result<Vec<Line>, AllocEr
     let mut starts = List::new(alloc);
     starts.push(Start {
         kind: 0,
-        args: Args::new(),
+        args: List::new(alloc),
     })?;
     let setup = Setup {
         until: Until::Never,
@@ -267,7 +256,7 @@ fn started<B: Body>(alloc: Global, code: &B::Code, kind: u32, id: ProcId) -> Res
     ensures { IfOk result (λ b. b ≡ start_of B.body code.now kind [] id) }
 {
     let mut body = B::blank(alloc, code)?;
-    body.fill(code, kind, Args::new());
+    body.fill(code, kind, &[]);
     body.own(id);
     Ok(body)
 }

@@ -5,7 +5,7 @@ ghost use Rattle.sim_bodies.specs.Travellers.{heard};
 
 use sim_machine::LawfulBody;
 use sim_procs::Body;
-use sim_types::{Args, EventId, Op, ProcId, Signal, Throw};
+use sim_types::{EventId, Op, ProcId, Signal, Throw};
 use std::alloc::{AllocError, Global};
 use std::marker::Model;
 
@@ -88,10 +88,10 @@ impl Body for Traveller {
         })
     }
 
-    fn fill(&mut self, _code: &Land, kind: u32, args: Args) {
+    fn fill(&mut self, _code: &Land, kind: u32, args: &[i64]) {
         self.own = ProcId(0);
         self.kind = kind;
-        let [first, second] = numbers(&args);
+        let [first, second] = numbers(args);
         self.first = first;
         self.second = second;
         self.last = None;
@@ -160,10 +160,10 @@ fn heard(told: Signal) -> i64
 }
 
 // The first two numbers; 0 where there is none.
-fn numbers(args: &Args) -> [i64; 2]
+fn numbers(args: &[i64]) -> [i64; 2]
     ensures { result ≡ slice_index_or args.now 0 (pos 0) ∷ slice_index_or args.now 1 (pos 0) ∷ [] }
 {
-    match args.as_slice() {
+    match args {
         [] => [0, 0],
         [first] => [*first, 0],
         [first, second, ..] => [*first, *second],

@@ -23,11 +23,14 @@ use sim_lines::{Operand, ProcessLines, Saying, capacity};
 use sim_names::Names;
 use sim_scenario::Scenario;
 use sim_types::{
-    Args, Arrival, Class, Classes, EventId, Kind, List, MOST_ITEMS, MOST_LEVEL, Name, Post,
-    Resource, ResourceKind, Setup, Start, Stmt, Until,
+    Arrival, Class, Classes, EventId, Kind, List, MOST_ITEMS, MOST_LEVEL, Name, Post, Resource,
+    ResourceKind, Setup, Start, Stmt, Until,
 };
 use std::alloc::{AllocError, Global};
 use std::marker::Model;
+
+/// How many numbers a process begins with at most.
+const MOST_ARGUMENTS: usize = 8;
 
 /// How many variables a process has beside `val`.
 const MOST_VARIABLES: usize = 63;
@@ -139,7 +142,7 @@ impl Draft {
             | Form::FStore => self.add_resource(form, slots),
             Form::Event | Form::Port => self.add_declaration(alloc, heads, form, slots),
             Form::Process => self.add_process(place, slots),
-            Form::Start => self.add_start(heads, place, slots),
+            Form::Start => self.add_start(alloc, heads, place, slots),
             Form::After | Form::Poster | Form::Post => self.add_entry(alloc, place, form, slots),
             _ => self.add_statement(heads, place, form, slots),
         }
@@ -279,6 +282,7 @@ impl Draft {
     /// Adds a process that runs from the start.
     fn add_start(
         &mut self,
+        alloc: Global,
         heads: &ProcessLines<'_>,
         place: &LineInText<'_, '_>,
         slots: &[Operand<'_>],
@@ -288,7 +292,7 @@ impl Draft {
         if let [kind, args @ ..] = slots {
             self.starts.push(Start {
                 kind: kind_number(heads, kind.word()),
-                args: start_arguments(place, args),
+                args: start_arguments(alloc, place, args)?,
             })?;
         }
         Ok(())
@@ -460,12 +464,18 @@ fn start_argument(place: &LineInText<'_, '_>, slot: &Operand<'_>) -> i64
 }
 
 /// The first 8 arguments of a start.
-fn start_arguments(place: &LineInText<'_, '_>, slots: &[Operand<'_>]) -> Args
-    ensures { result ≡ take 8 (map (start_argument_of place.now.above.declared) slots.now) }
+fn start_arguments(
+    alloc: Global,
+    place: &LineInText<'_, '_>,
+    slots: &[Operand<'_>],
+) -> Result<List<i64>, AllocError>
+    ensures { IfOk result (λ args. args
+        ≡ take 8 (map (start_argument_of place.now.above.declared) slots.now)) }
 {
-    let mut args = Args::new();
-    for slot in slots {
-        let _ = args.push(start_argument(place, slot));
+    let first = &slots[..slots.len().min(MOST_ARGUMENTS)];
+    let mut args = List::new(alloc);
+    for slot in first {
+        args.push(start_argument(place, slot))?;
     }
-    args
+    Ok(args)
 }

@@ -7,7 +7,7 @@ ghost use Rattle.sim_procs.specs.Premises.{CanBegin, CanBeTold, ChangesOnly, Ent
 ghost use Rattle.sim_procs.specs.QuietPolls.{Polls};
 
 use sim_machine::LawfulBody;
-use sim_types::{Args, EventId, Op, ProcId, Signal};
+use sim_types::{EventId, Op, ProcId, Signal};
 use std::alloc::{AllocError, Global};
 
 /// What a process does: a state machine that is polled by hand. It asks for one operation each time, and is told with
@@ -33,11 +33,11 @@ pub trait Body: LawfulBody + Sized + Drop {
     fn blank(alloc: Global, code: &Self::Code) -> Result<Self, AllocError>
         ensures { IfOk result (λ b. is_for code.now b) };
 
-    /// Makes this the start of a process of a kind.
-    fn fill(&mut self, code: &Self::Code, kind: u32, args: Args)
-        requires can { CanBegin (Self.body.facts code.now) kind args }
+    /// Makes this the start of a process of a kind, with the numbers that it begins with.
+    fn fill(&mut self, code: &Self::Code, kind: u32, args: &[i64])
+        requires can { CanBegin (Self.body.facts code.now) kind args.now }
         requires is_for { is_for code.now self.old }
-        ensures { self.new ≡ Self.body.begun code.now kind args };
+        ensures { self.new ≡ Self.body.begun code.now kind args.now };
 
     /// Tells the body its own number, once after `fill` and before the first poll.
     fn own(&mut self, id: ProcId)

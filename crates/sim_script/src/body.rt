@@ -3,7 +3,7 @@ use crate::script::{Script, ask_nothing};
 use sim_machine::LawfulBody;
 use sim_procs::Body;
 use sim_scenario::Scenario;
-use sim_types::{Args, EventId, Op, ProcId, Signal};
+use sim_types::{EventId, Op, ProcId, Signal};
 use std::alloc::{AllocError, Global};
 
 impl LawfulBody for Script {
@@ -54,8 +54,8 @@ impl Body for Script {
         Script::new(alloc, code)
     }
 
-    fn fill(&mut self, code: &Scenario, kind: u32, args: Args) {
-        self.begin(kind, &code.kinds()[kind as usize], args.as_slice());
+    fn fill(&mut self, code: &Scenario, kind: u32, args: &[i64]) {
+        self.begin(kind, &code.kinds()[kind as usize], args);
     }
 
     fn own(&mut self, id: ProcId) {

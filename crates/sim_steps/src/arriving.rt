@@ -11,7 +11,7 @@ ghost use Rattle.sim_steps_model.specs.StandsFor.{StandsForSome};
 
 use crate::parts::Parts;
 use sim_procs::Body;
-use sim_types::{Args, Line};
+use sim_types::Line;
 
 impl<B: Body> Parts<B> {
     /// A value comes in by a port: a process of the port's kind is made, with the value as its argument. The answer is the
@@ -30,9 +30,7 @@ impl<B: Body> Parts<B> {
         ensures line { result ≡ line.Arrive self.old.processed value port }
     {
         let kind = self.ports[port as usize];
-        let mut args = Args::new();
-        args.push(value);
-        let _process = self.begin(code, kind, args);
+        let _process = self.begin(code, kind, &[value]);
         Line::Arrive {
             after: self.processed,
             port,

@@ -74,7 +74,7 @@ impl<B: Body> Parts<B> {
     {
         self.shared.happen_mut().reserve(2, 1)?;
         self.reserve_process(code)?;
-        self.begin(code, start.kind, start.args.copied());
+        self.begin(code, start.kind, start.args.as_slice());
         Ok(())
     }
 

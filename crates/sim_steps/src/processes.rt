@@ -44,9 +44,9 @@ impl<B: Body> Parts<B> {
 
     /// Makes a process, with its event and its init event, of what is ready for it. It is told its number, which is that of
     /// its event.
-    pub(crate) fn begin(&mut self, code: &B::Code, kind: u32, args: Args) -> ProcId
+    pub(crate) fn begin(&mut self, code: &B::Code, kind: u32, args: &[i64]) -> ProcId
         requires code { code.now ≡ self.old.code }
-        requires can { CanBegin (B.body.facts code.now) kind args }
+        requires can { CanBegin (B.body.facts code.now) kind args.now }
         requires events { 2 ≤ self.old.shared.happen.spare.events }
         requires callbacks { 1 ≤ self.old.shared.happen.spare.callbacks }
         requires record_room { 1 ≤ self.old.spare }
@@ -55,11 +55,11 @@ impl<B: Body> Parts<B> {
         requires time { self.old.shared.happen.time ≤ℤ pos (2 ^ 62) }
         requires not_alive { record_of (next_process self.old.shared.happen) self.old.live ≡ None }
         requires few { AreFew (2 ^ 41) (held self.old.shared.happen) }
-        requires kept { AreArgumentsKept (B.body.facts code.now) kind args
+        requires kept { AreArgumentsKept (B.body.facts code.now) kind args.now
             self.old.shared.happen.events }
         ensures process { result ≡ next_process self.old.shared.happen }
         ensures becomes { BecomesWith B.body most_begun
-            (processes.make_process (plan_of B.body self.old) kind args) self.old self.new }
+            (processes.make_process (plan_of B.body self.old) kind args.now) self.old self.new }
         ensures kept { KeepsButProcesses self.old self.new }
     {
         let (process, init) = make_process(self.shared.happen_mut());
@@ -101,7 +101,7 @@ impl<B: Body> Parts<B> {
             (effect.effect (plan_of B.body self.old) process (op.Spawn kind args))
             self.old self.new }
     {
-        let made = self.begin(code, kind, args);
+        let made = self.begin(code, kind, args.as_slice());
         self.tell(event, process, Signal::Made(EventId(made.0)));
     }
 

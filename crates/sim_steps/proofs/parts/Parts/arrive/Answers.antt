@@ -1,4 +1,4 @@
-use Rattle.std.proofs.Common.{◌≡◌, ◌∙◌, [], ◌∷◌, ap, slice_index_or, FitsSigned, w64, rules}
+use Rattle.std.proofs.Common.{◌≡◌, ◌∙◌, ap, slice_index_or, FitsSigned, w64, rules}
 use Rattle.std.proofs.lemmas.Int.{to_z-of_z}
 use Rattle.std.proofs.lemmas.List.{get_or_default}
 use Rattle.sim_steps_model.specs.PartsOf.{PartsOf}
@@ -18,8 +18,7 @@ begin-process-requires-clause-kept g c =
     let kind : c.index-kind.result.now ≡ slice_index_or old.setup.ports port 0 =
     c.index-kind.ensures ∙ (ap (λ xs. slice_index_or xs port c.index-kind.result.now) ports ∙ get_or_default old.setup.ports port _ 0 c.requires.port) in
     let fits : FitsSigned w64 c.args.value = search rules in
-    let args : c.push.new.self ≡ c.args.value ∷ [] = c.push.ensures.new ∙ rw c.new-args.ensures (ap (λ v. v ∷ []) (to_z-of_z w64 c.args.value fits)) in
-    rw (kind, args) (port_kept (body.facts c.args.code.now) old port c.args.value c.requires.fits c.requires.port (zero_kept body old c.requires.stands))
+    rw (kind, to_z-of_z w64 c.args.value fits) (port_kept (body.facts c.args.code.now) old port c.args.value c.requires.fits c.requires.port (zero_kept body old c.requires.stands))
 
 pub returns-clause-becomes : goal.returns-clause-becomes
 returns-clause-becomes g c =
@@ -30,5 +29,4 @@ returns-clause-becomes g c =
     let kind : c.index-kind.result.now ≡ slice_index_or old.setup.ports port 0 =
     c.index-kind.ensures ∙ (ap (λ xs. slice_index_or xs port c.index-kind.result.now) ports ∙ get_or_default old.setup.ports port _ 0 c.requires.port) in
     let fits : FitsSigned w64 c.args.value = search rules in
-    let args : c.push.new.self ≡ c.args.value ∷ [] = c.push.ensures.new ∙ rw c.new-args.ensures (ap (λ v. v ∷ []) (to_z-of_z w64 c.args.value fits)) in
-    arrived_becomes body old c.begin-process.new.self port c.args.value (rw (kind, args) at c.begin-process.ensures.becomes)
+    arrived_becomes body old c.begin-process.new.self port c.args.value (rw (kind, to_z-of_z w64 c.args.value fits) at c.begin-process.ensures.becomes)

@@ -6,6 +6,7 @@ use Rattle.sim_steps.proofs.parts.Parts.spawn.Goals as goal
 pub returns : goal.returns
 returns g c =
     let number = ap (λ (p : ProcId). p.0) c.begin-made.ensures.process in
+    let begins = rw c.as_slice.ensures.values at c.begin-made.ensures.becomes in
     record {
-      becomes = spawned_becomes g.B.LawfulBody.body c.args.self.now c.begin-made.new.self c.tell.new.self c.args.process c.args.kind c.args.args _ c.begin-made.ensures.becomes number c.tell.ensures;
+      becomes = spawned_becomes g.B.LawfulBody.body c.args.self.now c.begin-made.new.self c.tell.new.self c.args.process c.args.kind c.args.args _ begins number c.tell.ensures;
     }
