@@ -1,2 +1,3 @@
-mod Digits
+mod DigitCounts
 mod LineTexts
+mod PairsBehind

@@ -1,3 +1,4 @@
 pub mod SummaryTexts
 pub mod Texts
 pub mod Begins
+pub mod Leadings

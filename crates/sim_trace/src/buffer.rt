@@ -2,8 +2,10 @@
 ghost use Rattle.std.specs.Prelude.{◌≡◌, ◌+◌, ◌<◌, ◌≤◌, [], ◌∷◌, ◌++◌, length, decimal};
 ghost use Rattle.sim_trace.specs.Begins.{event_begin};
 
+use crate::digits::{Leading, digit_count, put_digits};
 use crate::words::{append_number, append_signed_digits};
 use itoa::write_digits;
+use sim_types::EventId;
 use std::marker::Model;
 
 /// No line is longer, in bytes.
@@ -25,6 +27,9 @@ pub struct LineBuf {
     count: usize,
     /// What it begins with, where it is that of an event: the next one mostly begins so too, and then it stays.
     begin: Option<Begin>,
+    /// The leading digits of the number and of the event in the line of an event: those of the next one are mostly the same.
+    number: Leading,
+    event: Leading,
 }
 
 impl Model for LineBuf {
@@ -39,38 +44,6 @@ impl Model for LineBuf {
     ghost invariant = { λ a. (a.count ≤ 160) × IfSome a.begin (BeginsWith (take a.count a.bytes)) };
 }
 
-// How many digits a number has.
-#[tactic(auto, using(itoa::proofs::Decimal::length_four, crate::proofs::Digits::most_digits))]
-fn digit_count(number: u64) -> usize
-    ensures count { result ≡ length (decimal number) }
-    ensures few { result ≤ 20 }
-{
-    let mut left = number;
-    let mut count = 0;
-    while left >= 10_000 {
-        left /= 10_000;
-        count += 4;
-    }
-    count + few_digits(left)
-}
-
-// How many digits a number has that is below ten thousand.
-#[tactic(auto, using(itoa::proofs::Decimal::length_one, itoa::proofs::Decimal::length_two, itoa::proofs::Decimal::length_pair))]
-fn few_digits(number: u64) -> usize
-    requires { number < 10000 }
-    ensures { result ≡ length (decimal number) }
-{
-    if number < 10 {
-        1
-    } else if number < 100 {
-        2
-    } else if number < 1_000 {
-        3
-    } else {
-        4
-    }
-}
-
 impl LineBuf {
     /// An empty line.
     pub fn new() -> LineBuf
@@ -80,6 +53,8 @@ impl LineBuf {
             bytes: [0; LONGEST_LINE],
             count: 0,
             begin: None,
+            number: Leading::new(),
+            event: Leading::new(),
         }
     }
 
@@ -162,5 +137,23 @@ impl LineBuf {
             write_digits(number, &mut self.bytes, end);
             self.count = end;
         }
+    }
+
+    /// Appends the number by which an event was scheduled.
+    pub(crate) fn append_number_of_event(&mut self, number: u64)
+        requires { length self.old + 22 ≤ 160 }
+        ensures items { self.new ≡ self.old ++ decimal number }
+        ensures length { length self.new ≤ length self.old + 20 }
+    {
+        self.count = put_digits(&mut self.number, number, &mut self.bytes, self.count);
+    }
+
+    /// Appends the event itself.
+    pub(crate) fn append_event(&mut self, event: EventId)
+        requires { length self.old + 22 ≤ 160 }
+        ensures items { self.new ≡ self.old ++ decimal event.0 }
+        ensures length { length self.new ≤ length self.old + 20 }
+    {
+        self.count = put_digits(&mut self.event, event.0, &mut self.bytes, self.count);
     }
 }

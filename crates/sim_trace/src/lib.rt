@@ -2,6 +2,7 @@
 #![tactic(auto)]
 
 mod buffer;
+mod digits;
 mod journal;
 mod summary;
 mod text;

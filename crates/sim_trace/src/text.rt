@@ -54,7 +54,7 @@ fn append_event(
 {
     begin_key(time, priority, number, out);
     append_kind(kind, out);
-    out.append_digits(event.0);
+    out.append_event(event);
     append_outcome(outcome, out);
     out.push(b'\n');
 }
@@ -66,7 +66,7 @@ fn begin_key(time: i64, priority: u8, number: u64, out: &mut LineBuf)
     ensures len { length out.new ≤ 64 }
 {
     out.begin_event(time, priority);
-    out.append_digits(number);
+    out.append_number_of_event(number);
 }
 
 /// Appends a space and the words of the outcome.

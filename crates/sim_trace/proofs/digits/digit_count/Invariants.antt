@@ -1,5 +1,5 @@
 use Rattle.std.proofs.Common.{◌+◌, ◌≡◌, length, decimal}
-use Rattle.sim_trace.proofs.buffer.digit_count.Given as goal
+use Rattle.sim_trace.proofs.digits.digit_count.Given as goal
 
 abbrev pub invariant-loop-left : goal.invariant-loop-left
 invariant-loop-left l = l.count + length (decimal l.left) ≡ length (decimal l.number)
