@@ -12,6 +12,9 @@ pub(crate) struct Entry {
 /// The place of an entry whose number was taken out.
 pub(crate) const GONE: usize = usize::MAX;
 
+/// So many marked entries, of 16 bytes each, are many.
+const MANY: usize = 65_536;
+
 impl Entry {
     /// The place of its number, if it has one.
     pub(crate) fn known_place(&self) -> Option<usize>
@@ -143,14 +146,17 @@ pub(crate) fn compact(entries: &mut Vec<Entry>)
     );
 }
 
-/// Makes room for one entry more, where fewer have a place than there is room for.
-pub(crate) fn compact_if_full(entries: &mut Vec<Entry>)
+/// Makes room for one entry more, where fewer have a place than there is room for. Where there are so many entries, those that
+/// are marked go before all the room is used, so that not all of it takes memory: the next time as soon as there are many,
+/// and as many as now have a place.
+pub(crate) fn compact_if_full(entries: &mut Vec<Entry>, most: &mut usize, live: usize)
     ensures same { SameEntries entries.old.items entries.new.items }
     ensures room { count_by is_live entries.old.items < vec_capacity entries.old
         → vec_len entries.new < vec_capacity entries.new }
     ensures capacity { vec_capacity entries.new ≡ vec_capacity entries.old }
 {
-    if entries.len() == entries.capacity() {
+    if entries.len() >= entries.capacity().min(*most) {
         compact(entries);
+        *most = live.saturating_add(live.max(MANY));
     }
 }

@@ -12,8 +12,9 @@ use std::marker::Model;
 ///
 /// The entries stand in rising order of their numbers, so a new number comes last, and takes no memory beyond what was
 /// reserved. A number that is taken out leaves its entry behind, marked. There is room for four entries for each number
-/// that has a place; when it is full, all that are marked go at once. So this comes once in as many new numbers as are
-/// three quarters of the room, and the memory does not grow with the numbers that were ever given.
+/// that has a place; when it is full, all that are marked go at once, and also when they are many and as many as those
+/// that have a place. So this comes once in at least half as many new numbers as entries are looked at, and the memory
+/// does not grow with the numbers that were ever given.
 #[derive(Drop)]
 pub struct Index {
     entries: Vec<Entry>,
@@ -27,6 +28,8 @@ pub struct Index {
     live: usize,
     // The least number that may still be given.
     given: u64,
+    // With so many entries those that are marked go, though there may be room for more.
+    most: usize,
 }
 
 // How many entries there is room for, for each number that has a place.
@@ -66,6 +69,7 @@ impl Index {
             hints: Vec::new(alloc),
             live: 0,
             given: 0,
+            most: 0,
         }
     }
 
@@ -159,7 +163,7 @@ impl Index {
         ensures places { self.new.places ≡ with_number number place self.old.places }
         ensures spare { self.new.spare + 1 ≡ self.old.spare }
     {
-        compact_if_full(&mut self.entries);
+        compact_if_full(&mut self.entries, &mut self.most, self.live);
         self.guesses.ahead = number.wrapping_sub(self.entries.len() as u64);
         self.entries.push_reserved(Entry { number, place });
         self.live += 1;
@@ -175,7 +179,7 @@ impl Index {
         ensures places { self.new.places ≡ slice_set self.old.places number (Some place) }
         ensures spare { self.new.spare + 1 ≡ self.old.spare }
     {
-        compact_if_full(&mut self.entries);
+        compact_if_full(&mut self.entries, &mut self.most, self.live);
         put(&mut self.entries, Entry { number, place });
         self.live += 1;
     }
