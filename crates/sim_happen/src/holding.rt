@@ -76,6 +76,7 @@ impl Happen {
 
     /// All callbacks of an event were called: the holder that it had while it was processed is given back. The answer is
     /// whether it failed and nobody defused it, so that it ends the run.
+    #[inline(always)]
     pub fn settle(&mut self, event: EventId) -> bool
         requires held { HasOwnHolder self.old.events event }
         ensures unhandled { result ≡ is_unhandled (kept_at self.old.events event).event }

@@ -135,6 +135,7 @@ impl<B: Body> Parts<B> {
     }
 
     // What a process is told by an event that resumes it: an init event begins it.
+    #[inline(always)]
     fn signal_by(&self, event: EventId) -> Signal
         requires kept { IsKept self.now.shared.happen.events event }
         ensures { let x = (kept_at self.now.shared.happen.events event).event in
@@ -170,6 +171,7 @@ impl<B: Body> Parts<B> {
     }
 
     // The event resumes a process.
+    #[inline(always)]
     fn resume(&mut self, event: EventId, process: ProcId)
         requires calling { IsCalling event self.old.control }
         requires kept { IsKept self.old.shared.happen.events event }
