@@ -29,7 +29,7 @@ heads_further version known more l ls added = rw added (by (head_of version (wor
     by None = refl
     by (Some head) = refl
 
-pub heads_line : (version : Version) (known more all : ProcessLines) (l : Word) (ls before : List Word) → before ≡ l ∷ ls
+heads_line : (version : Version) (known more all : ProcessLines) (l : Word) (ls before : List Word) → before ≡ l ∷ ls
     → more ≡ with_all known (option_to_list (head_of version (words (cut l)))) → with_all known (filter_map (head_of_line version) before) ≡ all
     → with_all more (filter_map (head_of_line version) ls) ≡ all
 heads_line version known more all l ls before lines_are added so_far =
@@ -42,13 +42,22 @@ one_longer known head = by (is_named head.name known)
     by true = omega arith
     by false = omega (arith, length-append known (head ∷ []))
 
-pub heads_longer : (version : Version) (known more : ProcessLines) (l : Word) → more ≡ with_all known (option_to_list (head_of version (words (cut l))))
+heads_longer : (version : Version) (known more : ProcessLines) (l : Word) → more ≡ with_all known (option_to_list (head_of version (words (cut l))))
     → length more ≤ length known + 1
 heads_longer version known more l added = rw added (by (head_of version (words (cut l))))
   where
     by : (o : Option (Named (List Class))) → length (with_all known (option_to_list o)) ≤ length known + 1
     by None = omega arith
     by (Some head) = one_longer known head
+
+-- the process lines so far and those of what is left are those of all, and there is one more at most: the words of a line
+-- may have declared one
+pub heads_through : (version : Version) (known more all : ProcessLines) (ws : List Word) (l : Word) (ls before : List Word) → before ≡ l ∷ ls
+    → ws ≡ words (cut l) → more ≡ with_all known (option_to_list (head_of version ws)) → with_all known (filter_map (head_of_line version) before) ≡ all
+    → (with_all more (filter_map (head_of_line version) ls) ≡ all) × (length more ≤ length known + 1)
+heads_through version known more all ws l ls before lines_are words_are added so_far =
+    let same : more ≡ with_all known (option_to_list (head_of version (words (cut l)))) = rw words_are at added in
+    (heads_line version known more all l ls before lines_are same so_far, heads_longer version known more l same)
 
 -- ---- the values of names, one by one
 

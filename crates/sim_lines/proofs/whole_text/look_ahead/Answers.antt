@@ -3,7 +3,7 @@ use Rattle.std.specs.Prelude.{option_to_list}
 use Rattle.sim_language.specs.Lines.{lines, words}
 use Rattle.sim_language.specs.Named.{with_all}
 use Rattle.sim_language.specs.AnywhereInText.{declaration, declarations, head_of, heads_of}
-use Rattle.sim_lines.proofs.HeadsOfLines.{heads_line, heads_longer}
+use Rattle.sim_lines.proofs.HeadsOfLines.{heads_through}
 use Rattle.sim_lines.proofs.NamesSoFar.{event_line, other_line}
 use Rattle.sim_lines.proofs.whole_text.look_ahead.Goals as goal
 
@@ -11,19 +11,18 @@ pub loop-line-preserved-then-is_event : goal.loop-line-preserved-then-is_event
 loop-line-preserved-then-is_event c =
     let version = c.args.version in
     let heads = c.loop-line.heads in
-    let more = c.add.new.self in
     let line = c.in-Some.line.now in
     let words_are = c.new-words.ensures ∙ ap words c.cut.ensures in
-    let added = c.in_ok-add.ensures ∙ ap (λ ws. with_all heads (option_to_list (head_of version ws))) words_are in
+    let through =
+    heads_through version heads c.add.new.self (heads_of version (lines c.args.text.now)) _ line (lines c.in-Some.behind.now)
+    (lines c.loop-line.rest.now) c.in-Some.ensures.lines words_are c.in_ok-add.ensures c.loop-line.invariant.heads in
     let found = c.in-Some-declaration in
     let declared = found.ensures ∙ ap declaration words_are in
     let event = sym c.is_event.ensures ∙ c.if-is_event.true in
     let shorter = c.in-Some.ensures.shorter in
     record {
-      heads =
-          heads_line version heads more (heads_of version (lines c.args.text.now)) line (lines c.in-Some.behind.now) (lines c.loop-line.rest.now)
-          c.in-Some.ensures.lines added c.loop-line.invariant.heads;
-      few_heads = omega (arith, heads_longer version heads more line added, shorter, c.loop-line.invariant.few_heads);
+      heads = through.0;
+      few_heads = omega (arith, through.1, shorter, c.loop-line.invariant.few_heads);
       names =
           event_line c.loop-line.names c.add-then-is_event.new.self c.loop-line.events (record { name = found.name.now; value = found.sort })
           line (lines c.in-Some.behind.now) (lines c.loop-line.rest.now) (declarations (lines c.args.text.now))
@@ -35,19 +34,18 @@ pub loop-line-preserved : goal.loop-line-preserved
 loop-line-preserved c =
     let version = c.args.version in
     let heads = c.loop-line.heads in
-    let more = c.add.new.self in
     let line = c.in-Some.line.now in
     let words_are = c.new-words.ensures ∙ ap words c.cut.ensures in
-    let added = c.in_ok-add.ensures ∙ ap (λ ws. with_all heads (option_to_list (head_of version ws))) words_are in
+    let through =
+    heads_through version heads c.add.new.self (heads_of version (lines c.args.text.now)) _ line (lines c.in-Some.behind.now)
+    (lines c.loop-line.rest.now) c.in-Some.ensures.lines words_are c.in_ok-add.ensures c.loop-line.invariant.heads in
     let found = c.in-Some-declaration in
     let declared = found.ensures ∙ ap declaration words_are in
     let other = sym c.is_event.ensures ∙ c.if-is_event.false in
     let shorter = c.in-Some.ensures.shorter in
     record {
-      heads =
-          heads_line version heads more (heads_of version (lines c.args.text.now)) line (lines c.in-Some.behind.now) (lines c.loop-line.rest.now)
-          c.in-Some.ensures.lines added c.loop-line.invariant.heads;
-      few_heads = omega (arith, heads_longer version heads more line added, shorter, c.loop-line.invariant.few_heads);
+      heads = through.0;
+      few_heads = omega (arith, through.1, shorter, c.loop-line.invariant.few_heads);
       names =
           other_line c.loop-line.names c.add-else-is_event.new.self c.loop-line.events (record { name = found.name.now; value = found.sort })
           line (lines c.in-Some.behind.now) (lines c.loop-line.rest.now) (declarations (lines c.args.text.now))
