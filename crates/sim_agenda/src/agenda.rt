@@ -82,7 +82,7 @@ impl Agenda {
         }
         let all = more.checked_add(self.window.len()).ok_or(AllocError)?;
         self.backlog.reserve(all)?;
-        let room = self.backlog.len() + self.backlog.spare();
+        let room = self.backlog.room();
         self.window.reserve((room / SHARE).min(MOST_AT_A_TIME))
     }
 
@@ -105,6 +105,13 @@ impl Agenda {
         ensures { result ≡ length self.now.entries }
     {
         (self.backlog.len() + self.window.len()) as u64
+    }
+
+    /// For how many entries there is room, with those that there are.
+    pub fn room(&self) -> usize
+        ensures { result ≡ length self.now.entries + self.now.spare }
+    {
+        self.backlog.room()
     }
 
     /// For how many more entries there is room.

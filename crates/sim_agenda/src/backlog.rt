@@ -87,12 +87,18 @@ impl Backlog {
         self.heap.len() + self.series.len()
     }
 
+    /// For how many entries there is room, with those that there are.
+    pub(crate) fn room(&self) -> usize
+        ensures { result ≡ length self.now.entries + self.now.spare }
+    {
+        self.heap.capacity().min(self.series.capacity())
+    }
+
     /// For how many more entries there is room.
     pub(crate) fn spare(&self) -> usize
         ensures { result ≡ self.now.spare }
     {
-        let room = self.heap.capacity().min(self.series.capacity());
-        room - self.heap.len() - self.series.len()
+        self.room() - self.len()
     }
 
     /// The first entry: no other comes before it.

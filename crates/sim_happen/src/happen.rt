@@ -150,7 +150,7 @@ impl Happen {
             × (callbacks ≤ self.now.spare.callbacks)
             × (events ≤ self.now.spare.conditions)) }
     {
-        self.unscheduled() + events as usize <= self.agenda.spare()
+        self.table.slots() as usize + events as usize <= self.agenda.room()
             && self.table.has_room(events, callbacks)
             && self.table.has_room_for_conditions(events)
     }

@@ -66,14 +66,14 @@ pub kept_few : (es : List (Option Kept)) → kept_count es ≤ length es
 kept_few [] = omega arith
 kept_few (k ∷ es) = omega (arith, kept_few es, one_at_most (is_some k), count_by-cons is_some k es)
 
--- room for n more events, where u of those that are kept are not scheduled
-module _ (a : AgendaOf) (t : TableOf) (u n : ℕ) where
-  pub spare_is : u + length a.entries ≡ kept_count t.events → u + n ≤ a.spare → n ≤ t.spare.events → n ≤ (spare_in a t).events
-  spare_is unscheduled places events = omega (arith, unscheduled, places, events, kept_sum t.events)
+-- room for n more events: each that is kept has a place in the agenda
+module _ (a : AgendaOf) (t : TableOf) (n : ℕ) where
+  pub spare_is : kept_count t.events + n ≤ length a.entries + a.spare → n ≤ t.spare.events → n ≤ (spare_in a t).events
+  spare_is places events = omega (arith, places, events, kept_sum t.events)
 
-  pub places_are : u + length a.entries ≡ kept_count t.events → sum_by kept_one t.events ≤ length a.entries + a.spare
-      → n ≤ (spare_in a t).events → u + n ≤ a.spare
-  places_are unscheduled fit events = omega (arith, unscheduled, fit, events, kept_sum t.events)
+  pub places_are : sum_by kept_one t.events ≤ length a.entries + a.spare → n ≤ (spare_in a t).events
+      → kept_count t.events + n ≤ length a.entries + a.spare
+  places_are fit events = omega (arith, fit, events, kept_sum t.events)
 
-pub events_are : (a : AgendaOf) (t : TableOf) (n : ℕ) → n ≤ (spare_in a t).events → n ≤ t.spare.events
-events_are a t n events = omega (arith, events)
+  pub events_are : n ≤ (spare_in a t).events → n ≤ t.spare.events
+  events_are events = omega (arith, events)

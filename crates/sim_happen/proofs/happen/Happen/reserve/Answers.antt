@@ -1,9 +1,11 @@
+use Rattle.std.proofs.Common.{arith}
 use Rattle.std.proofs.lemmas.Bool.{false≢true}
 use Rattle.sim_happen_law.proofs.Spares.{places_are}
 use Rattle.sim_happen.proofs.happen.Happen.reserve.Goals as goal
 
 pub returns-in_err-reserve-clause-ready : goal.returns-in_err-reserve-clause-ready
 returns-in_err-reserve-clause-ready c =
-    let count = c.unscheduled-unscheduled.ensures.count in
+    let count = rw (← c.self.view_is) at c.unscheduled-unscheduled.ensures.count in
     rw (← c.self.view_is) (λ events conditions callbacks.
-    absurd (false≢true (c.in_err-reserve.ensures.succeeds (places_are c.self.inside.agenda c.self.inside.table _ _ (rw (← c.self.view_is) at count) c.self.invariant.places events))))
+    let places = places_are c.self.inside.agenda c.self.inside.table _ c.self.invariant.places events in
+    absurd (false≢true (c.in_err-reserve.ensures.succeeds (omega (arith, count, places)))))
