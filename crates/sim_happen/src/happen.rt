@@ -155,6 +155,23 @@ impl Happen {
             && self.table.has_room_for_conditions(events)
     }
 
+    /// Makes room for so many more events, none of which is a condition, with their places in the agenda, and for so many
+    /// more callbacks.
+    pub fn reserve_plain(&mut self, events: u32, callbacks: u32) -> Result<(), AllocError>
+        ensures events { OnOk result (events ≤ self.new.spare.events) }
+        ensures callbacks { OnOk result (callbacks ≤ self.new.spare.callbacks) }
+        ensures ready { events ≤ self.old.spare.events
+            → callbacks ≤ self.old.spare.callbacks → IsOk result }
+        ensures never_less_events { self.old.spare.events ≤ self.new.spare.events }
+        ensures never_less_callbacks { self.old.spare.callbacks ≤ self.new.spare.callbacks }
+        ensures conditions { self.new.spare.conditions ≡ self.old.spare.conditions }
+        ensures rest { self.new ≡ record self.old { spare = self.new.spare } }
+    {
+        let unscheduled = self.unscheduled();
+        self.agenda.reserve(unscheduled + events as usize)?;
+        self.table.reserve(events, callbacks)
+    }
+
     /// Makes room for so many more events, all of which may be conditions, with their places in the agenda, and for so many
     /// more callbacks.
     pub fn reserve(&mut self, events: u32, callbacks: u32) -> Result<(), AllocError>
@@ -168,9 +185,7 @@ impl Happen {
         ensures never_less_conditions { self.old.spare.conditions ≤ self.new.spare.conditions }
         ensures rest { self.new ≡ record self.old { spare = self.new.spare } }
     {
-        let unscheduled = self.unscheduled();
-        self.agenda.reserve(unscheduled + events as usize)?;
-        self.table.reserve(events, callbacks)?;
+        self.reserve_plain(events, callbacks)?;
         self.table.reserve_conditions(events)
     }
 

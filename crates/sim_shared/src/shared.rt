@@ -1,5 +1,5 @@
 //! Time, what happens in it, and the resources.
-ghost use Rattle.std.specs.Prelude.{◌≡◌, ◌↔◌, ◌≤◌, ◌<◌, [], ◌∷◌, length, slice_get, Some, None, IfOk, IsOk, IsTrue, OnOk};
+ghost use Rattle.std.specs.Prelude.{◌≡◌, ◌↔◌, ◌≤◌, ◌<◌, ◌+◌, ◌*◌, ◌^◌, [], ◌∷◌, length, min, slice_get, Some, None, IfOk, IsOk, IsTrue, OnOk};
 ghost use Rattle.std.specs.List.{AllPass};
 ghost use Rattle.sim_types.specs.Setups.{resource_fits};
 ghost use Rattle.sim_machine.specs.State.{Facilities};
@@ -24,6 +24,9 @@ const EVENTS: u32 = 40;
 
 /// How many callbacks one unit may register at most.
 const CALLBACKS: u32 = 64;
+
+/// For the events of how many processes that run from the start room is made at once, at most.
+const STARTS: usize = 1_000_000;
 
 /// Time and what happens in it, with the resources that processes share, named by their places in the scenario.
 ///
@@ -140,6 +143,22 @@ impl Shared {
             return Ok(());
         }
         self.happen.reserve(EVENTS, CALLBACKS)
+    }
+
+    /// Makes room at once for the events of so many processes that run from the start, of whom each has two and one
+    /// callback, for what stops the run, and for the first unit. Of very many, the others find room as they are made.
+    pub fn reserve_starts(&mut self, starts: usize) -> Result<(), AllocError>
+        ensures events { OnOk result
+            (2 * min starts (10 ^ 6) + 42 ≤ self.new.happen.spare.events) }
+        ensures callbacks { OnOk result
+            (min starts (10 ^ 6) + 65 ≤ self.new.happen.spare.callbacks) }
+        ensures rest { self.new
+            ≡ record self.old
+            { happen = record self.old.happen { spare = self.new.happen.spare } } }
+    {
+        let made = starts.min(STARTS) as u32 + 1;
+        self.happen
+            .reserve_plain(2 * made + EVENTS, made + CALLBACKS)
     }
 
     /// How much is in use at a resource, or stands in it: users, level or number of items.

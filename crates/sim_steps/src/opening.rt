@@ -40,6 +40,7 @@ impl<B: Body> Parts<B> {
     {
         let mut shared = Shared::new(alloc, &setup.resources)?;
         make_named(shared.happen_mut(), setup.events)?;
+        shared.reserve_starts(setup.starts.len())?;
         let generator = Pcg64::seed_from_u64(seed);
         let ports = Vec::from_slice(alloc, setup.ports.as_slice())?;
         let processes = Procs::new(alloc, B::scopes_needed(code))?;
