@@ -39,13 +39,17 @@ pub(crate) fn append_signed(number: i64, out: &mut LineBuf)
     append_signed_digits(number, out);
 }
 
-/// Appends the number, which may be below zero.
-#[tactic(auto, using(itoa::proofs::Decimal::minus_first))]
+/// Appends the number, which may be below zero. Most are a digit, which is put there at once.
+#[tactic(auto, using(itoa::proofs::Decimal::minus_first, std::proofs::lemmas::Fmt::decimal_digit))]
 pub(crate) fn append_signed_digits(number: i64, out: &mut LineBuf)
     requires { length out.old + 21 ≤ 160 }
     ensures items { out.new ≡ out.old ++ signed_decimal number }
     ensures len { length out.new ≤ length out.old + 21 }
 {
+    if (0..10).contains(&number) {
+        out.push(b'0' + number as u8);
+        return;
+    }
     if number < 0 {
         out.push(b'-');
     }
