@@ -9,8 +9,8 @@ use std::marker::Model;
 /// compile.
 pub struct ProcRecord<B> {
     id: ProcId,
-    body: B,
     target: EventId,
+    body: B,
     scopes: Scopes,
 }
 
