@@ -69,7 +69,8 @@ stripped_left p (Over why f left) e = refl
 module _ {B : Type 0} (named : ℕ) (tell : Telling B) where
   -- the control changes, but neither the event that is processed nor the callbacks that pass outcomes on
   same_control : (s : State B) (k : Control) → ((e : EventId) → is_in_process k e ≡ is_in_process s.control e)
-      → ((e : EventId) → count_by (triggers e) (left_of k) ≡ count_by (triggers e) (left_of s.control)) → StatesTrade named tell [] [] s (record s { control = k })
+      → ((e : EventId) → count_by (triggers e) (left_of k) ≡ count_by (triggers e) (left_of s.control))
+      → StatesTrade named tell [] [] s (record s { control = k })
   same_control s k processed left =
       processed_trade named tell s k [] [] (λ e. omega (arith, ap one_if (processed e))) (λ e. omega (arith, left e))
 

@@ -98,7 +98,8 @@ module _ (f : EventId) (x : EventOf) (is_open : (x.processed || x.cancelled) ≡
   }
 
 pub open_stays : (alone : EventId → ℕ) (e f : EventId) (todo : List EventId) (es : List (Option Kept)) → Balanced alone (e ∷ todo) es → IsKept es f
-    → ((kept_at es f).event.processed || (kept_at es f).event.cancelled) ≡ false → IsKept (unheld e es) f × ((kept_at (unheld e es) f).event ≡ (kept_at es f).event)
+    → ((kept_at es f).event.processed || (kept_at es f).event.cancelled) ≡ false
+    → IsKept (unheld e es) f × ((kept_at (unheld e es) f).event ≡ (kept_at es f).event)
 open_stays alone e f todo es b kept is_open =
     let x : EventOf = (kept_at es f).event in
     let after = (unheld_with (StaysKept f x) (stays_open f x is_open) alone e todo es (record { balanced = b; besides = record { kept = kept; event = refl } })).besides in

@@ -31,7 +31,8 @@ use Rattle.sim_engine.proofs.RoundCases.{stands_idle, stands_empty, waits_on, go
 
 -- ---- how a machine that stands so has ended
 
-over_end : (g : Plan Script) (c : Control) (kept agenda : List Entry) (left : List Arrival) (why : End) → rest_of c kept ≡ rest.Over why → end_by g c agenda left ≡ Some why
+over_end : (g : Plan Script) (c : Control) (kept agenda : List Entry) (left : List Arrival) (why : End) → rest_of c kept ≡ rest.Over why
+    → end_by g c agenda left ≡ Some why
 over_end g Idle [] agenda left why h = absurd (cc)
 over_end g Idle (x ∷ kept) agenda left why h = absurd (cc)
 over_end g (Calling e calls) kept agenda left why h = absurd (cc)
@@ -95,7 +96,8 @@ module _ (s : ScenarioOf) (seed : ℕ) (journal left : List Arrival) (x : Sessio
       by [] some = absurd (omega (arith, some))
       by (a ∷ ls) some = waits_on r.plan m.state a ls (calendar m.state).agenda (idle_at refused.waits) refl
 
-  ends_at : (b : Bool) (q : Rest) → x.refused ≡ b → rest_in x.parts ≡ q → x.units ≤ x.limit → IsSettled x → next_of (turn_of x) x.parts.processed left ≡ next.End → EndsSo
+  ends_at : (b : Bool) (q : Rest) → x.refused ≡ b → rest_in x.parts ≡ q → x.units ≤ x.limit → IsSettled x
+      → next_of (turn_of x) x.parts.processed left ≡ next.End → EndsSo
   ends_at true q refused is within settled none =
       let why = h.refused refused in
       record { how = None; ends = refused_end why; told = rw refused refl; whole = inl why.spent }

@@ -63,7 +63,8 @@ text_is ports t u more h = ap (λ ls. trace_text ports (drop (length t.lines) ls
 pub text_none : (ports : List (List ℕ)) (t : State Script) → text_since ports t t ≡ []
 text_none ports t = text_is ports t t [] (sym (append-nil t.lines))
 
-pub text_both : (ports : List (List ℕ)) (t u v : State Script) → LinesBehind t u → LinesBehind u v → text_since ports t v ≡ text_since ports t u ++ text_since ports u v
+pub text_both : (ports : List (List ℕ)) (t u v : State Script) → LinesBehind t u → LinesBehind u v
+    → text_since ports t v ≡ text_since ports t u ++ text_since ports u v
 unfolding behind_both
 text_both ports t u v h k =
     let both = behind_both t u v h k in

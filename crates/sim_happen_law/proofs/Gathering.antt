@@ -252,7 +252,8 @@ pub fixed_failed : (a : HappenOf) (cond : EventId) → IsKept a.events cond
 fixed_failed a cond kept failed = turns_as (λ c. c) (fixed_if_ok cond) _ a a (λ c s. rw (failed_is a c cond true kept failed s) refl) (follows_none a)
 
 pub fixed_ok : (a b : HappenOf) (cond : EventId) (value : List EventId) → IsKept a.events cond → is_fail (kept_at a.events cond).event.outcome ≡ false
-    → ((c : Calendar) → Shows a c → value ≡ value_of cond c) → Follows (change_condition cond (λ x. record x { value = value })) a b → Follows (fixed_if_ok cond) a b
+    → ((c : Calendar) → Shows a c → value ≡ value_of cond c) → Follows (change_condition cond (λ x. record x { value = value })) a b
+    → Follows (fixed_if_ok cond) a b
 fixed_ok a b cond value kept ok is t =
     turns_as (change_condition cond (λ x. record x { value = value })) (fixed_if_ok cond) _ a b
     (λ c s. ap (λ v. change_condition cond (λ x. record x { value = v }) c) (is c s) ∙ rw (failed_is a c cond false kept ok s) refl) t

@@ -72,7 +72,8 @@ held_none ms old owed = record {
 }
 
 pub held_next : (ms : List EventId) (i : ℕ) (d : EventId) (old now new : HappenOf) → i < length ms → All (IsKept old.events) ms → HeldUpTo ms i old now
-    → Turns (λ c. c) (one_more (slice_index_or ms i d)) now new → new.events ≡ change_kept (slice_index_or ms i d) with_holder now.events → new.spare ≡ now.spare
+    → Turns (λ c. c) (one_more (slice_index_or ms i d)) now new → new.events ≡ change_kept (slice_index_or ms i d) with_holder now.events
+    → new.spare ≡ now.spare
     → HeldUpTo ms (i + 1) old new
 held_next ms i d old now new within all h t is spare =
     let m : EventId = slice_index_or ms i d in

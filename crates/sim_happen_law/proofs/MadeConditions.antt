@@ -51,7 +51,8 @@ joining_new sort ms x is = subst (IsJoining 0 ms) (sym is) (record { condition =
 
 -- held, made and joined
 pub turns_made_condition : (sort : AllOrAny) (ms : List EventId) (a m b n : HappenOf) (cond : EventId) → Turns (λ c. c) (one_more_each ms) a m
-    → Turns (made_with sort ms) unheld_event m b → Follows (join_members cond ms) b n → cond.0 ≡ length a.events → Turns (make_condition sort ms) (holding ms) a n
+    → Turns (made_with sort ms) unheld_event m b → Follows (join_members cond ms) b n → cond.0 ≡ length a.events
+    → Turns (make_condition sort ms) (holding ms) a n
 turns_made_condition sort ms a m b n cond t u v same =
     let both : Turns (made_with sort ms) (holding ms) a b = turns_then (λ c. c) (made_with sort ms) (one_more_each ms) unheld_event a m b t u in
     turns_as (λ c. join_members cond ms (made_with sort ms c)) (make_condition sort ms) (holding ms) a n

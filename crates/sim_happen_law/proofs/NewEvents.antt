@@ -107,7 +107,8 @@ abbrev interruption : ProcId → Throw → EventId → Calendar → Calendar
 interruption p t e c = schedule e (outcome.Fail t) urgent (pos 0) (defuse e (register e (callback.Strike p) (make kind.Interrupt c)))
 
 pub turns_interruption : (p : ProcId) (what : Throw) (a m r d b : HappenOf) (e : EventId) → Turns (make kind.Interrupt) unheld_event a m
-    → e.0 ≡ length a.events → Follows (register e (callback.Strike p)) m r → Follows (defuse e) r d → Follows (schedule e (outcome.Fail what) urgent (pos 0)) d b
+    → e.0 ≡ length a.events → Follows (register e (callback.Strike p)) m r → Follows (defuse e) r d
+    → Follows (schedule e (outcome.Fail what) urgent (pos 0)) d b
     → Turns (make_interruption p what) unheld_event a b
 turns_interruption p what a m r d b e t same f g h =
     let strike : Calendar → Calendar = register e (callback.Strike p) in

@@ -319,7 +319,8 @@ awaits_not : (k : Kept) → k.event.processed ≡ true → awaits k ≡ false
 awaits_not k h = of_outcome_not k.event.outcome k.event.processed h
 
 pub sound_popped : (h n : HappenOf) (room more : ℕ) (x : Entry) → TakesFirst h.agenda x n.agenda → n.time ≡ x.key.time → n.scheduled ≡ h.scheduled
-    → n.events ≡ slice_set h.events x.event.0 (Some (with_processed (with_holder (kept_at h.events x.event)))) → more ≡ room + 1 → IsSound h room → IsSound n more
+    → n.events ≡ slice_set h.events x.event.0 (Some (with_processed (with_holder (kept_at h.events x.event)))) → more ≡ room + 1 → IsSound h room
+    → IsSound n more
 sound_popped h n room more x takes clock scheduled is one s =
     let e : EventId = x.event in
     let k : Kept = kept_at h.events e in

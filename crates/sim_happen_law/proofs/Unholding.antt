@@ -28,7 +28,8 @@ none_needed : (j : Kept) → is_needed j ≡ false → some_if_needed j ≡ None
 none_needed j h = rw h refl
 
 pub unheld_start : (depth : ℕ) (e : EventId) (ms : List EventId) (old now : HappenOf) → HasOwnHolder old.events e → AreOwed [] old.events
-    → now.events ≡ slice_set old.events e.0 (some_if_needed (without_holder (kept_at old.events e))) → now ≡ record old { events = now.events; spare = now.spare }
+    → now.events ≡ slice_set old.events e.0 (some_if_needed (without_holder (kept_at old.events e)))
+    → now ≡ record old { events = now.events; spare = now.spare }
     → is_needed (without_holder (kept_at old.events e)) ≡ false → ms ≡ members_in (kept_at old.events e) → KeepsRoom old now → UnheldUpTo depth e ms 0 old now
 unheld_start depth e ms old now own owed is rest off members room =
     let kept : IsKept old.events e = own_kept old.events e own in
