@@ -45,6 +45,13 @@ module _ (events : List (Option Kept)) (e : EventId) (change : Kept → Kept) (k
       ∙ ap (λ k. set (change_kept e change events) e.0 (some_if_needed k)) kept_changed
       ∙ set-set events e.0 (Some (change (kept_at events e))) (some_if_needed (change (kept_at events e)))
 
+-- one change, and then another
+pub changed_twice : (events : List (Option Kept)) (e : EventId) (first then : Kept → Kept) → IsKept events e
+    → change_kept e (λ k. then (first k)) events ≡ change_kept e then (change_kept e first events)
+changed_twice events e first then kept =
+    ap (λ k. set events e.0 (Some (then k))) (sym (kept_changed events e first kept))
+    ∙ sym (set-set events e.0 (Some (first (kept_at events e))) (Some (then (kept_at (change_kept e first events) e))))
+
 -- an event that is to be kept stays as it is
 pub forgotten_needed : (events : List (Option Kept)) (e : EventId) → IsKept events e → is_needed (kept_at events e) ≡ true
     → events ≡ change_or_forget e (λ k. k) events

@@ -87,15 +87,21 @@ module _ (places : List (Option ℕ)) (s : Store) (left : Chain) (t : IsSoundTab
   pub own_chain : IsChain s.nodes x.callbacks
   own_chain = record { owners = t.stored.owners; whose = suc key; linked = t.stored.chains key x found }
 
+  -- its chain, with what else is kept in it
+  pub rewrites_chained : (nodes : Slab Node) (y : Slot) (change : Kept → Kept)
+      → (r : Relinked s.nodes nodes t.stored.owners (suc key) y.callbacks) → y.is_condition ≡ x.is_condition → y.part ≡ x.part
+      → kept_in nodes s.parts y ≡ change (kept_in s.nodes s.parts x)
+      → Rewrites places s (record s { slots = with_value s.slots key y; nodes = nodes }) left e change
+  rewrites_chained nodes y change r condition part is =
+      let new : Store = record s { slots = with_value s.slots key y; nodes = nodes } in
+      let linked = nodes_relinked s.nodes nodes t.stored.owners key (Some y) left y.callbacks r (λ z is. ap (λ (a : Slot). a.callbacks) (sym (same_Some y z is))) t.stored.left in
+      rewrites places s new left left t e key x y change at found (Updates-with_value s.slots key y (there_from s.slots key x found)) (still_fit y) linked (own_parts y condition part) is
+
   pub rewrites_chain : (nodes : Slab Node) (chain : Chain) (change : Kept → Kept)
       → (r : Relinked s.nodes nodes t.stored.owners (suc key) chain)
       → kept_in nodes s.parts (record x { callbacks = chain }) ≡ change (kept_in s.nodes s.parts x)
       → Rewrites places s (record s { slots = with_value s.slots key (record x { callbacks = chain }); nodes = nodes }) left e change
-  rewrites_chain nodes chain change r is =
-      let y : Slot = record x { callbacks = chain } in
-      let new : Store = record s { slots = with_value s.slots key y; nodes = nodes } in
-      let linked = nodes_relinked s.nodes nodes t.stored.owners key (Some y) left chain r (λ z is. ap (λ (a : Slot). a.callbacks) (sym (same_Some y z is))) t.stored.left in
-      rewrites places s new left left t e key x y change at found (Updates-with_value s.slots key y (there_from s.slots key x found)) (still_fit y) linked (own_parts y refl refl) is
+  rewrites_chain nodes chain change r is = rewrites_chained nodes (record x { callbacks = chain }) change r refl refl is
 
   -- its part
   pub part_there : x.is_condition ≡ true → IsSome (get s.parts x.part)

@@ -312,6 +312,24 @@ impl Table {
             .append(&mut self.store.slots[key].callbacks, callback);
     }
 
+    /// Appends a callback, as by `register`, of one that is not processed, and a holder with it. It is looked up once.
+    #[inline(always)]
+    pub fn register_held(&mut self, event: EventId, callback: Callback)
+        requires kept { IsKept self.old.events event }
+        requires unprocessed { IsFalse (kept_at self.old.events event).event.processed }
+        requires few { (kept_at self.old.events event).holders < 2 ^ 61 }
+        requires spare { 0 < self.old.spare.callbacks }
+        ensures events { self.new.events ≡ change_kept event
+            (λ k. with_callback callback (with_holder k)) self.old.events }
+        ensures left { self.new.left ≡ self.old.left }
+        ensures spare { more_callbacks 1 self.new.spare ≡ self.old.spare }
+    {
+        let key = key_of(&self.index, event);
+        let awaited = &mut self.store.slots[key];
+        awaited.holders += 1;
+        self.store.nodes.append(&mut awaited.callbacks, callback);
+    }
+
     /// Takes out the first callback of an event that is the same as this one. False where there is none.
     pub fn unregister(&mut self, event: EventId, callback: Callback) -> bool
         requires kept { IsKept self.old.events event }

@@ -13,7 +13,7 @@ ghost use Rattle.sim_chains.specs.Callbacks.{is_same_callback};
 ghost use Rattle.sim_events.specs.TableOf.{IsKept, kept_at, kept_count};
 ghost use Rattle.sim_events.specs.Changes.{more_events, more_callbacks, change_kept, change_or_forget, with_processed, with_holder, without_holder};
 ghost use Rattle.sim_events.specs.States.{is_unhandled};
-ghost use Rattle.sim_happen_model.specs.HappenOf.{IsOpen, AreHeldByFew, held, unheld_event, one_more, gone_if_unheld, KeepsRoom};
+ghost use Rattle.sim_happen_model.specs.HappenOf.{IsOpen, AreHeldByFew, held, unheld_event, one_more, with_one_more, gone_if_unheld, KeepsRoom};
 ghost use Rattle.sim_happen_model.specs.Holders.{HasOwnHolder, SameMemberships};
 ghost use Rattle.sim_happen.specs.EntryParts.{entry_of};
 ghost use Rattle.sim_happen_model.specs.Shows.{Shows, Turns, Follows, PopsEntry};
@@ -234,6 +234,20 @@ impl Happen {
         ensures spare { more_callbacks 1 self.new.spare ≡ self.old.spare }
     {
         self.table.register(event, callback);
+    }
+
+    /// The event is held once more, and then a callback is appended, as by `register`. The event is looked up once.
+    #[inline(always)]
+    pub fn register_held(&mut self, event: EventId, callback: Callback)
+        requires kept { IsKept self.old.events event }
+        requires unprocessed { IsFalse (kept_at self.old.events event).event.processed }
+        requires few { (kept_at self.old.events event).holders < 2 ^ 60 }
+        requires spare { 0 < self.old.spare.callbacks }
+        ensures follows { Follows (events.register event callback)
+            (with_one_more event self.old) self.new }
+        ensures spare { more_callbacks 1 self.new.spare ≡ self.old.spare }
+    {
+        self.table.register_held(event, callback);
     }
 
     /// Takes out the first callback of an event that is the same as this one. False where there is none.

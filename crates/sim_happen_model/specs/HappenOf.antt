@@ -5,6 +5,7 @@ use Rattle.sim_types.specs.declared.event.EventId.{EventId}
 use Rattle.sim_types.specs.declared.event.Callback.{Callback}
 use Rattle.sim_types.specs.declared.event.Entry.{Entry}
 use Rattle.sim_events.specs.TableOf.{Kept, Spare, IsKept, kept_at, kept_count}
+use Rattle.sim_events.specs.Changes.{change_kept, with_holder}
 
 -- the time and how many entries the agenda was ever given; the entries, in no order that counts; every event ever made,
 -- None where it is no longer kept; the callbacks that are left to call; and for how much more there is room
@@ -41,6 +42,10 @@ unheld_event hs = hs ++ Some 0 ∷ []
 -- one holder more of e
 abbrev pub one_more : EventId → List (Option ℕ) → List (Option ℕ)
 one_more e hs = slice_set hs e.0 (option_map (λ n. n + 1) (slice_index_or hs e.0 None))
+
+-- what happens, once e has a holder more
+abbrev pub with_one_more : EventId → HappenOf → HappenOf
+with_one_more e h = record h { events = change_kept e with_holder h.events }
 
 -- one holder more of each of these, as often as it stands there
 abbrev pub one_more_each : List EventId → List (Option ℕ) → List (Option ℕ)

@@ -1,13 +1,16 @@
 //! Timeouts, and processes that wait (SimPy's "Events" and "Process interaction").
 ghost use Rattle.std.specs.Prelude.{◌≡◌, ◌<◌, ◌^◌, [], ◌∷◌, length, IsFalse, IsTrue, IsSome, IfNone, IfSome};
+ghost use Rattle.sim_types.specs.declared.event.Callback.TheVariants as callback;
 ghost use Rattle.sim_machine.specs.Effect as effect;
+ghost use Rattle.sim_machine.specs.Events as events;
 ghost use Rattle.sim_machine.specs.Processes as processes;
+ghost use Rattle.sim_machine.specs.Scopes.{on_events};
 ghost use Rattle.sim_procs.specs.RecordOf.{record_of};
 ghost use Rattle.sim_events.specs.TableOf.{IsKept, kept_at};
 ghost use Rattle.sim_accounts.specs.Naming.{but_zero};
 ghost use Rattle.sim_happen_model.specs.HappenOf.{AreHeldByFew, held};
 ghost use Rattle.sim_steps_model.specs.Becoming.{AreFew, Becomes, BecomesOwing, BecomesWith, IsOwing};
-ghost use Rattle.sim_steps_model.specs.PartsOf.{IsRunningIn};
+ghost use Rattle.sim_steps_model.specs.PartsOf.{IsRunningIn, KeepsButHappen};
 ghost use Rattle.sim_steps_model.specs.Waiting.{MakesTimeout, RefusesTimeout};
 
 use crate::parts::Parts;
@@ -16,26 +19,44 @@ use sim_procs::Body;
 use sim_types::{Callback, EventId, NEGATIVE_DELAY, ProcId, Signal, TIME_TOO_LATE};
 
 impl<B: Body> Parts<B> {
-    // The running process waits for an event that is not processed, and is resumed by it. The event was held for this, and what
-    // the process waited for before, which is the answer, is to be given back.
+    // An event that is not processed is held, and is to resume a process. Event 0 stands for none, and nobody holds it by naming
+    // it.
+    fn hold_to_resume(&mut self, on: EventId, process: ProcId)
+        requires kept { IsKept self.old.shared.happen.events on }
+        requires unprocessed { IsFalse (kept_at self.old.shared.happen.events on).event.processed }
+        requires few { AreHeldByFew self.old.shared.happen.events }
+        requires room { 0 < self.old.shared.happen.spare.callbacks }
+        ensures owes { BecomesOwing B.body [] (but_zero (on ∷ [])) 1
+            (on_events (events.register on (callback.Resume process))) self.old self.new }
+        ensures rest { KeepsButHappen self.old self.new }
+    {
+        let happen = self.shared.happen_mut();
+        if on.0 != 0 {
+            happen.register_held(on, Callback::Resume(process));
+        } else {
+            happen.register(on, Callback::Resume(process));
+        }
+    }
+
+    // The running process waits for an event that is not processed. What it waited for before, which is the answer, is to be
+    // given back.
     fn begin_to_wait(&mut self, event: EventId, process: ProcId, on: EventId) -> EventId
         requires running { IsRunningIn event process self.old.control }
         requires alive { IsSome (record_of process self.old.live) }
         requires kept { IsKept self.old.shared.happen.events on }
         requires unprocessed { IsFalse (kept_at self.old.shared.happen.events on).event.processed }
+        requires few { AreHeldByFew self.old.shared.happen.events }
         requires room { 0 < self.old.shared.happen.spare.callbacks }
-        ensures owes { BecomesOwing B.body (but_zero (on ∷ [])) (but_zero (result ∷ [])) 0
+        ensures owes { BecomesOwing B.body [] (but_zero (result ∷ [])) 1
             (processes.wait on process) self.old self.new }
     {
-        self.shared
-            .happen_mut()
-            .register(on, Callback::Resume(process));
+        self.hold_to_resume(on, process);
         let left = self.processes.replace_target(process, on);
         self.rest(event);
         left
     }
 
-    // The same, where the event is held first, and what the process waited for goes where nobody holds it any more.
+    // The same, and what the process waited for goes where nobody holds it any more.
     fn wait_for(&mut self, event: EventId, process: ProcId, on: EventId)
         requires running { IsRunningIn event process self.old.control }
         requires alive { IsSome (record_of process self.old.live) }
@@ -46,7 +67,6 @@ impl<B: Body> Parts<B> {
         requires room { 0 < self.old.shared.happen.spare.callbacks }
         ensures becomes { BecomesWith B.body 1 (processes.wait on process) self.old self.new }
     {
-        self.hold(on);
         let left = self.begin_to_wait(event, process, on);
         self.unhold(left);
     }

@@ -1,5 +1,5 @@
 -- A process waits for an event, or for a timeout that is made, as the machine has it.
-use Rattle.std.proofs.Common.{◌≡◌, ◌+◌, ℤ, pos, ◌+ℤ◌, ◌^◌, List, [], ◌∷◌, Some, true, false, refl, sym, ap, subst, ◌∙◌, arith}
+use Rattle.std.proofs.Common.{◌≡◌, ◌≢◌, ◌+◌, ℤ, pos, ◌+ℤ◌, ◌^◌, List, [], ◌∷◌, Some, true, false, refl, sym, ap, subst, ◌∙◌, arith}
 use Rattle.std.specs.Option.{option_map}
 use Rattle.std.specs.Prelude.{int_lt, length}
 use Rattle.sim_types.specs.declared.event.EventId.{EventId}
@@ -21,62 +21,83 @@ use Rattle.sim_accounts.specs.Changes.{IsOnlyProcess}
 use Rattle.sim_accounts.proofs.CalendarChanges.{plainly_defused_failed, plainly_registered, plainly_timeout}
 use Rattle.sim_accounts.proofs.StateChanges.{waits_trade}
 use Rattle.sim_events.specs.TableOf.{IsKept, kept_at}
-use Rattle.sim_happen_model.specs.HappenOf.{HappenOf, unheld_event}
+use Rattle.sim_happen_model.specs.HappenOf.{HappenOf, unheld_event, with_one_more}
 use Rattle.sim_happen_model.specs.Shows.{Turns, Follows}
 use Rattle.sim_happen_model.specs.Seen.{seen}
-use Rattle.sim_happen_law.proofs.Following.{read_is, event_then}
+use Rattle.sim_happen_law.proofs.Following.{read_is, event_then, turns_held}
 use Rattle.sim_happen_law.proofs.NewEvents.{kept_last, next_is}
 use Rattle.sim_happen_law.proofs.SeenShown.{shows_seen}
 use Rattle.sim_steps_model.specs.PartsOf.{PartsOf, KeepsButHappen, with_happen}
 use Rattle.sim_steps_model.specs.Becoming.{Stands, Becomes, BecomesOwing, BecomesWith}
 use Rattle.sim_steps_model.specs.StandsFor.{process_of}
 use Rattle.sim_steps_model.specs.Waiting.{MakesTimeout, RefusesTimeout}
-use Rattle.sim_steps_law.proofs.Accounting.{owing_besides}
+use Rattle.sim_steps_law.proofs.Accounting.{owing_besides, zero_is}
 use Rattle.sim_steps_law.proofs.Becoming.{becomes_then, becomes_as, becomes_followed, becomes_made, becomes_rested, becomes_told, becomes_within, owing_changed}
+use Rattle.sim_steps_law.proofs.Holding.{holding_owes}
 use Rattle.sim_steps_law.proofs.Running.{process_found}
 use Rattle.sim_machine.specs.Bodies.{BodyOf}
 
 -- ---- to wait
 
--- a process waits for an event that is not processed: it holds that, which was held for this, and gives back what it waited for
-pub waited_owes : {B Code : Type 0} {body : BodyOf B Code} (a n : PartsOf B Code) (x : HappenOf) (e : EventId) (p : ProcId) (r : RecordOf B)
-    (left : EventId) → record_of p a.live ≡ Some r → r.target ≡ left →
+-- the event is to resume the process
+abbrev resumes : EventId → ProcId → Calendar → Calendar
+resumes e p = register e (callback.Resume p)
+
+-- it is held, too
+module _ {B Code : Type 0} {body : BodyOf B Code} (a n : PartsOf B Code) (x : HappenOf) (e : EventId) (p : ProcId) (is : n ≡ with_happen x a) where
+  pub registered_held_owes : e.0 ≢ 0 → IsKept a.shared.happen.events e → Follows (resumes e p) (with_one_more e a.shared.happen) x →
+      BecomesOwing body [] (but_zero (e ∷ [])) 1 (on_events (resumes e p)) a n
+  registered_held_owes other kept follows =
+      let held : HappenOf = with_one_more e a.shared.happen in
+      let b : PartsOf B Code = with_happen held a in
+      subst (λ (m : PartsOf B Code). BecomesOwing body [] (but_zero (e ∷ [])) 1 (on_events (resumes e p)) a m) (sym is)
+      (becomes_then (λ s. s) (on_events (resumes e p)) a b (with_happen x a)
+      (holding_owes e a held other kept (turns_held a.shared.happen held e kept (record { time = refl; scheduled = refl; agenda = refl; left = refl }) refl))
+      (owing_besides (but_zero (e ∷ [])) (on_events (resumes e p)) b (with_happen x a)
+      (becomes_followed (resumes e p) b x (λ k. plainly_registered e (callback.Resume p) k refl) follows)))
+
+  -- event 0 is not held
+  pub registered_zero_owes : e.0 ≡ 0 → Follows (resumes e p) a.shared.happen x →
+      BecomesOwing body [] (but_zero (e ∷ [])) 1 (on_events (resumes e p)) a n
+  registered_zero_owes zero follows =
+      subst (λ (m : PartsOf B Code). BecomesOwing body [] (but_zero (e ∷ [])) 1 (on_events (resumes e p)) a m) (sym is)
+      (subst (λ xs. BecomesOwing body [] xs 1 (on_events (resumes e p)) a (with_happen x a)) (sym (zero_is e zero))
+      (becomes_within 0 1 (on_events (resumes e p)) a (with_happen x a) (omega arith)
+      (becomes_followed (resumes e p) a x (λ k. plainly_registered e (callback.Resume p) k refl) follows)))
+
+-- a process waits for an event that is not processed: that is held and resumes it, and what it waited for is to be given back
+pub waited_owes : {B Code : Type 0} {body : BodyOf B Code} (a b n : PartsOf B Code) (e : EventId) (p : ProcId) (r : RecordOf B)
+    (left : EventId) → record_of p b.live ≡ Some r → r.target ≡ left →
     IsKept a.shared.happen.events e → (kept_at a.shared.happen.events e).event.processed ≡ false →
-    Follows (register e (callback.Resume p)) a.shared.happen x →
-    n ≡ record (with_happen x a) { live = change_record p (λ y. record y { target = e }) a.live; control = not_active a.control } →
-    BecomesOwing body (but_zero (e ∷ [])) (but_zero (left ∷ [])) 0 (wait e p) a n
-waited_owes {B} {Code} {body} a n x e p r left alive target kept unprocessed follows is =
+    BecomesOwing body [] (but_zero (e ∷ [])) 1 (on_events (register e (callback.Resume p))) a b →
+    n ≡ record b { live = change_record p (λ y. record y { target = e }) b.live; control = not_active b.control } →
+    BecomesOwing body [] (but_zero (left ∷ [])) 1 (wait e p) a n
+waited_owes {B} {Code} {body} a b n e p r left alive target kept unprocessed registers is =
     let gained : List EventId = but_zero (e ∷ []) in
     let lost : List EventId = but_zero (r.target ∷ []) in
     let registered : State B → State B = on_events (register e (callback.Resume p)) in
     let targeted : State B → State B = change_process p (λ y. record y { target = e }) in
-    let b : PartsOf B Code = with_happen x a in
     let c : PartsOf B Code = record b { live = change_record p (λ y. record y { target = e }) b.live } in
     let d : PartsOf B Code = record c { control = not_active c.control } in
-    let first : BecomesOwing body gained gained 0 registered a b =
-    owing_besides gained registered a b
-    (becomes_followed (register e (callback.Resume p)) a x (λ k. plainly_registered e (callback.Resume p) k refl) follows) in
     let found : (s : State B) → Stands b s → IsOnlyProcess p (process_of r) s = λ s h.
     record { found = process_found b s p h.distinct h.stands ∙ ap (λ o. option_map process_of o) alive; distinct = h.distinct } in
     let then_waits : BecomesOwing body gained lost 0 targeted b c =
     owing_changed gained lost p (λ y. record y { target = e }) (λ y. record y { target = e }) b (λ y. refl) (λ y. refl) (λ y. refl) (λ y. refl)
     (λ s h. waits_trade b.setup.events (body.tell b.code) s p (process_of r) e (found s h)) in
-    let all : BecomesOwing body gained lost 0 (λ s. rest (targeted (registered s))) a d =
-    becomes_then (λ s. targeted (registered s)) rest a c d (becomes_then registered targeted a b c first then_waits)
+    let all : BecomesOwing body [] lost 1 (λ s. rest (targeted (registered s))) a d =
+    becomes_then (λ s. targeted (registered s)) rest a c d (becomes_then registered targeted a b c registers then_waits)
     (owing_besides lost rest c d (becomes_rested c)) in
     let processed : (s : State B) → Stands a s → is_processed (calendar s) e ≡ false = λ s h.
     ap (λ (y : EventOf). y.processed) (sym (read_is a.shared.happen (calendar s) e kept h.stands.facilities.calendar)) ∙ unprocessed in
-    subst (λ (t : EventId). BecomesOwing body gained (but_zero (t ∷ [])) 0 (wait e p) a n) target
-    (subst (BecomesOwing body gained lost 0 (wait e p) a) (sym is)
+    subst (λ (t : EventId). BecomesOwing body [] (but_zero (t ∷ [])) 1 (wait e p) a n) target
+    (subst (BecomesOwing body [] lost 1 (wait e p) a) (sym is)
     (becomes_as (λ s. rest (targeted (registered s))) (wait e p) a d (λ s h. rw (processed s h) refl) all))
 
 -- what it waited for is given back
-pub waited_becomes : {B Code : Type 0} {body : BodyOf B Code} (e left : EventId) (p : ProcId) (a b c d : PartsOf B Code) →
-    BecomesOwing body [] (but_zero (e ∷ [])) 1 (λ s. s) a b →
-    BecomesOwing body (but_zero (e ∷ [])) (but_zero (left ∷ [])) 0 (wait e p) b c → BecomesOwing body (but_zero (left ∷ [])) [] 0 (λ s. s) c d →
-    BecomesWith body 1 (wait e p) a d
-waited_becomes e left p a b c d holds waits returns =
-    becomes_then (wait e p) (λ s. s) a c d (becomes_then (λ s. s) (wait e p) a b c holds waits) returns
+pub waited_becomes : {B Code : Type 0} {body : BodyOf B Code} (e left : EventId) (p : ProcId) (a b c : PartsOf B Code) →
+    BecomesOwing body [] (but_zero (left ∷ [])) 1 (wait e p) a b → BecomesOwing body (but_zero (left ∷ [])) [] 0 (λ s. s) b c →
+    BecomesWith body 1 (wait e p) a c
+waited_becomes e left p a b c waits returns = becomes_then (wait e p) (λ s. s) a b c waits returns
 
 -- a process is told at once of an event that is processed
 pub told_at_once : {B Code : Type 0} {body : BodyOf B Code} (a n : PartsOf B Code) (x : HappenOf) (e : EventId) (p : ProcId) →
