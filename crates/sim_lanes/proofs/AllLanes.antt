@@ -94,7 +94,8 @@ module _ (cs : List ℕ) (all : Knowledge) where
   taker_knows p g = record { made = all.made; posters = all.posters; lanes = changed all.lanes p g; joined = all.joined }
 
   -- the other seats, after a step of poster p
-  poster_others : (p : ℕ) (v : PosterView) (id j : ℕ) → id ≡ suc p → all.joined p ≡ false → j ≢ id → (u : View) → Fits cs all j u → Fits cs (poster_knows p v) j u
+  poster_others : (p : ℕ) (v : PosterView) (id j : ℕ) → id ≡ suc p → all.joined p ≡ false → j ≢ id → (u : View) → Fits cs all j u
+      → Fits cs (poster_knows p v) j u
   poster_others p v id j is live apart (Poster w) f =
       let f0 = f.0 in let ne : w.number ≢ p = λ x. apart (f0 ∙ ap suc x ∙ sym is) in (f.0, f.1, f.2, changed_else all.posters p w.number v ne ∙ f.3)
   poster_others p v id j is live apart (Taker m lanes) f = (

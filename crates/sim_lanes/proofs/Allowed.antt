@@ -83,7 +83,8 @@ module _ {S : Type 0} (cs : List ℕ) (slots id : ℕ) (me : Me S View) where
         (refl, (omega (arith, found, head, len), omega (arith, found, head, len, r, c))),
       )
 
-  pub stores_port : (i n : ℕ) → IsPoster me.0 → i ≡ cell (lane_at 1 cs number) (get_or cs number 0) (length (of_poster me.0).posted) → n < 2 ^ 32 → HasRoom (of_poster me.0)
+  pub stores_port : (i n : ℕ) → IsPoster me.0 → i ≡ cell (lane_at 1 cs number) (get_or cs number 0) (length (of_poster me.0).posted) → n < 2 ^ 32
+      → HasRoom (of_poster me.0)
       → Allows (Lanes cs) slots id me i (λ _. n) (λ _. WritesPort (step slots i n 0 none) me n)
   stores_port i n is at small_port room s h homes here small =
       let mine = poster_lane s h is here in
@@ -93,7 +94,8 @@ module _ {S : Type 0} (cs : List ℕ) (slots id : ℕ) (me : Me S View) where
       let new = port_stored (reads s.words) (reads (set s.words i n)) _ _ (of_poster me.0) _ n (but cs s.words number i _ n at) now small_port room rule in
       (Poster (wrote_port (of_poster me.0) n), keeps, tt, poster_moves cs s h id (of_poster me.0) (wrote_port (of_poster me.0) n) i n (here ∙ ap some is) refl in_lane new, refl)
 
-  pub stores_value : (i n : ℕ) → IsPoster me.0 → i ≡ cell (lane_at 1 cs number) (get_or cs number 0) (length (of_poster me.0).posted) + 1 → HasRoom (of_poster me.0)
+  pub stores_value : (i n : ℕ) → IsPoster me.0 → i ≡ cell (lane_at 1 cs number) (get_or cs number 0) (length (of_poster me.0).posted) + 1
+      → HasRoom (of_poster me.0)
       → Allows (Lanes cs) slots id me i (λ _. n) (λ _. WritesValue (step slots i n 0 none) me n)
   stores_value i n is at room s h homes here small =
       let mine = poster_lane s h is here in
@@ -137,7 +139,8 @@ module _ {S : Type 0} (cs : List ℕ) (slots id : ℕ) (me : Me S View) where
       }
 
   -- the cell at the head of lane p
-  cell_is : (s : State S View) (h : Lanes cs s) (p : ℕ) → TakerLane s h p → next_cell (lane (lanes_of me.0) p) ≡ cell (lane_at 1 cs p) (get_or cs p 0) (length (lane (lanes_of me.0) p).taken)
+  cell_is : (s : State S View) (h : Lanes cs s) (p : ℕ) → TakerLane s h p
+      → next_cell (lane (lanes_of me.0) p) ≡ cell (lane_at 1 cs p) (get_or cs p 0) (length (lane (lanes_of me.0) p).taken)
   cell_is s h p t = λ k. cell (t.fits.place k) (t.fits.capacity k) (length (lane (lanes_of me.0) p).taken)
 
   pub loads_tail : (p i : ℕ) → IsTaker me.0 → p < length (lanes_of me.0) → i ≡ (lane (lanes_of me.0) p).place + 1
@@ -217,7 +220,8 @@ module _ {S : Type 0} (cs : List ℕ) (slots id : ℕ) (me : Me S View) where
       )
 
   pub stores_head : (p i n : ℕ) → IsTaker me.0 → p < length (lanes_of me.0) → i ≡ (lane (lanes_of me.0) p).place → n ≡ length (lane (lanes_of me.0) p).taken + 1
-      → AreKnown (lane (lanes_of me.0) p).port (lane (lanes_of me.0) p).value → Allows (Lanes cs) slots id me i (λ _. n) (λ _. Takes (step slots i n 0 none) me n)
+      → AreKnown (lane (lanes_of me.0) p).port (lane (lanes_of me.0) p).value
+      → Allows (Lanes cs) slots id me i (λ _. n) (λ _. Takes (step slots i n 0 none) me n)
   stores_head p i n is many at next read s h homes here small =
       let t = taker_lane s h is here p many in
       let g : LaneView = lane (lanes_of me.0) p in

@@ -71,7 +71,8 @@ drained_none before p items = record {
   items_are = sym (append-nil items);
 }
 
-pub drained_more : (before now then : TakerOf) (p : ℕ) (items0 items items' : List Taken) (t : Taken) → Drained before now p items0 items → TookFrom now then p t
+pub drained_more : (before now then : TakerOf) (p : ℕ) (items0 items items' : List Taken) (t : Taken) → Drained before now p items0 items
+    → TookFrom now then p t
     → items' ≡ items ++ t ∷ [] → Drained before then p items0 items'
 drained_more before now then p items0 items items' t d f is =
     let n : ℕ = length (taken_of before p) in

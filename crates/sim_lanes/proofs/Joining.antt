@@ -92,7 +92,8 @@ joined_more before now then rest rest' posters x j popped number less is = subst
           (λ ne. ap (λ (y : LaneView). y.whole) (lane_else now.lanes p q g ne) ∙ j.whole q (let n : q ≢ p = ne in omega (arith, k, number)) small);
     })
 
-pub joined_all : (before now : TakerOf) (rest posters : List PosterOf) → length rest ≡ 0 → JoinedFrom before now rest posters → AllJoined before now (map posted_of posters)
+pub joined_all : (before now : TakerOf) (rest posters : List PosterOf) → length rest ≡ 0 → JoinedFrom before now rest posters
+    → AllJoined before now (map posted_of posters)
 joined_all before now rest posters nothing j = record { inbox = j.inbox; many = j.many; taken = j.taken; whole = λ p less. j.whole p (omega (arith, nothing)) less }
 
 -- ---- after all joins
@@ -113,7 +114,8 @@ module _ (before after : TakerOf) (lists : List (List Post)) (long : length list
   pub each_joined : EachJoined after
   each_joined p l = let m = j.many in let w = j.whole p (omega (arith, long, m, l)) in w ∙ ap (λ (o : Option (List Post)). Some (posts_in o)) (sym w)
 
-found_at : (posters : List PosterOf) (p : ℕ) (x : PosterOf) → slice_get posters p ≡ Some x → (p < length posters) × (get_or (map posted_of posters) p [] ≡ posted_of x)
+found_at : (posters : List PosterOf) (p : ℕ) (x : PosterOf) → slice_get posters p ≡ Some x
+    → (p < length posters) × (get_or (map posted_of posters) p [] ≡ posted_of x)
 found_at [] p x e = absurd (none_is_no_poster x e)
 found_at (y ∷ ys) zero x e = (omega arith, ap posted_of (one_poster y x e))
 found_at (y ∷ ys) (suc p) x e = let f = found_at ys p x e in let l = f.0 in (omega arith, f.1)

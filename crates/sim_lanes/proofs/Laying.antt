@@ -109,7 +109,8 @@ pub posters_own : (z seat : TableId) (cs : List ℕ) (n : ℕ) → seat ≡ z �
 posters_own z seat cs n same p x e =
     let is = fresh_at z cs n p x e in (ap (λ (y : PosterOf). y.knows.number) is, ap (λ (y : PosterOf). y.inbox) is ∙ ap inbox_of (sym same))
 
-pub posters_fresh : (z : TableId) (cs : List ℕ) (n : ℕ) (p : ℕ) (x : PosterOf) → slice_get (fresh_posters z cs n) p ≡ Some x → (posted_of x ≡ []) × (x.knows.capacity ≡ get_or cs p 0)
+pub posters_fresh : (z : TableId) (cs : List ℕ) (n : ℕ) (p : ℕ) (x : PosterOf) → slice_get (fresh_posters z cs n) p ≡ Some x
+    → (posted_of x ≡ []) × (x.knows.capacity ≡ get_or cs p 0)
 posters_fresh z cs n p x e = let is = fresh_at z cs n p x e in (ap posted_of is, ap (λ (y : PosterOf). y.knows.capacity) is)
 
 -- ---- the taker

@@ -60,7 +60,8 @@ length_zeros zero = refl
 length_zeros (suc n) = ap suc (length_zeros n)
 
 -- a new lane, whose words are 0
-lane_opens : (m : ℕ → ℕ) (place capacity p : ℕ) → ((j : ℕ) → m j ≡ 0) → 0 < capacity → OneLane m place capacity (new_poster p capacity) (new_lane place capacity)
+lane_opens : (m : ℕ → ℕ) (place capacity p : ℕ) → ((j : ℕ) → m j ≡ 0) → 0 < capacity
+    → OneLane m place capacity (new_poster p capacity) (new_lane place capacity)
 lane_opens m place capacity p zeroed some_room = record {
   waiting = [];
   posted = refl;
@@ -131,7 +132,8 @@ module _ (cs : List ℕ) (all : Knowledge) where
   joined_others p g j apart two (Taker m lanes) f = absurd (apart f.0)
   joined_others p g j apart two Spent f = tt
 
-whole_known : (m : ℕ → ℕ) (place capacity : ℕ) (poster : PosterView) (taker : LaneView) (l : List Post) → OneLane m place capacity poster taker → OneLane m place capacity poster (with_whole taker l)
+whole_known : (m : ℕ → ℕ) (place capacity : ℕ) (poster : PosterView) (taker : LaneView) (l : List Post) → OneLane m place capacity poster taker
+    → OneLane m place capacity poster (with_whole taker l)
 whole_known m place capacity poster taker l h = record {
   waiting = h.waiting;
   posted = h.posted;
@@ -152,7 +154,8 @@ whole_known m place capacity poster taker l h = record {
 }
 
 -- 7: the first seat splits off the next poster's
-pub splits : {S : Type 0} (cs : List ℕ) (id : ℕ) (v : View) → IsTaker v → posters_of v < length cs → Splits (Lanes {S = S} cs) id v (split_off v) (next_poster v)
+pub splits : {S : Type 0} (cs : List ℕ) (id : ℕ) (v : View) → IsTaker v → posters_of v < length cs
+    → Splits (Lanes {S = S} cs) id v (split_off v) (next_poster v)
 splits cs id v is room s h here =
     let own = h.fits id (Taker (posters_of v) (lanes_of v)) (here ∙ ap some is) in
     let made : posters_of v ≡ h.all.made = own.1 in

@@ -93,7 +93,8 @@ one_more g known = length-append g.taken (post_of g.port g.value) ∙ ap (λ (n 
 
 -- ---- what holds of the taker, after it knows more of lane p
 module _ {S : Type 0} {cs : List ℕ} {table seat : TableId} {me : Me S View} {ends : List LaneEnd} (h : IsTaking cs table seat me ends) where
-  pub still_taking : (seat' : TableId) (me' : Me S View) (p : ℕ) (g : LaneView) (ends' : List LaneEnd) → p < length cs → seat' ≡ seat → me' ≡ (knowing me.0 p g, me.1)
+  pub still_taking : (seat' : TableId) (me' : Me S View) (p : ℕ) (g : LaneView) (ends' : List LaneEnd) → p < length cs → seat' ≡ seat
+      → me' ≡ (knowing me.0 p g, me.1)
       → length ends' ≡ length ends → KnowsLane cs p g (get_or ends' p no_end) → ((q : ℕ) → q ≢ p → get_or ends' q no_end ≡ get_or ends q no_end)
       → IsTaking cs table seat' me' ends'
   still_taking seat' me' p g ends' many same is long here else = subst (λ (w : Me S View). IsTaking cs table seat' w ends') (sym is) (record {
@@ -110,7 +111,8 @@ module _ {S : Type 0} {cs : List ℕ} {table seat : TableId} {me : Me S View} {e
   })
 
   -- after one post more was taken
-  pub taken_one : {old : TakerOf} → taker_of seat me.0 ≡ old → (seat' : TableId) (me' : Me S View) (p slots i n : ℕ) (end : LaneEnd) → p < length old.lanes → seat' ≡ seat
+  pub taken_one : {old : TakerOf} → taker_of seat me.0 ≡ old → (seat' : TableId) (me' : Me S View) (p slots i n : ℕ) (end : LaneEnd)
+      → p < length old.lanes → seat' ≡ seat
       → Takes (step slots i n 0 none) me n me' → i ≡ (lane old.lanes p).place → AreKnown (lane old.lanes p).port (lane old.lanes p).value
       → n ≡ length (taken_of old p) + 1 → end ≡ get_or ends p end → IsTaking cs table seat' me' (set ends p (record end { count = n }))
   taken_one {old = old} is seat' me' p slots i n end less same told at read next found =
@@ -148,7 +150,8 @@ elsewhere t p g many whole = record {
 }
 
 -- where the tail was the number taken
-pub found_none : (t t' : TakerOf) (p n : ℕ) → p < length t.lanes → t' ≡ with_lane t p (saw_tail (lane t.lanes p) n) → TailFound (lane t.lanes p) n → n ≡ length (taken_of t p)
+pub found_none : (t t' : TakerOf) (p n : ℕ) → p < length t.lanes → t' ≡ with_lane t p (saw_tail (lane t.lanes p) n) → TailFound (lane t.lanes p) n
+    → n ≡ length (taken_of t p)
     → FoundNone t t' p
 found_none t t' p n many is found nothing = subst (λ (u : TakerOf). FoundNone t u p) (sym is) (
     let g : LaneView = lane t.lanes p in
@@ -184,7 +187,8 @@ knows_next t t' u p g f whole k is =
 -- where the tail told of more, and four steps were made
 pub took_from : (t t1 t2 t3 t4 : TakerOf) (p n a : ℕ) (b : ℤ) (x : Taken) → p < length t.lanes
     → t1 ≡ with_lane t p (saw_tail (lane t.lanes p) n) → TailFound (lane t.lanes p) n → n ≢ length (taken_of t p)
-    → t2 ≡ with_lane t1 p (read_port (lane t1.lanes p) a) → t3 ≡ with_lane t2 p (read_value (lane t2.lanes p) b) → t4 ≡ with_lane t3 p (took_next (lane t3.lanes p))
+    → t2 ≡ with_lane t1 p (read_port (lane t1.lanes p) a) → t3 ≡ with_lane t2 p (read_value (lane t2.lanes p) b)
+    → t4 ≡ with_lane t3 p (took_next (lane t3.lanes p))
     → x.poster ≡ p → x.serial ≡ length (taken_of t p) → x.item ≡ record { port = a; value = b } → TookFrom t t4 p x
 took_from t t1 t2 t3 t4 p n a b x many e1 found more e2 e3 e4 poster serial item =
     let g : LaneView = lane t.lanes p in
