@@ -1,5 +1,6 @@
 -- A process waits for an event, or for a timeout that is made, as the machine has it.
-use Rattle.std.proofs.Common.{◌≡◌, ◌≢◌, ◌+◌, ℤ, pos, ◌+ℤ◌, ◌^◌, List, [], ◌∷◌, Some, true, false, refl, sym, ap, subst, ◌∙◌, arith}
+use Rattle.std.proofs.Common.{◌≡◌, ◌≢◌, ◌+◌, ℤ, pos, ◌+ℤ◌, ◌^◌, List, [], ◌∷◌, Some, true, false}
+use Rattle.std.proofs.Common.{refl, sym, ap, subst, ◌∙◌, arith}
 use Rattle.std.specs.Option.{option_map}
 use Rattle.std.specs.Prelude.{int_lt, length}
 use Rattle.sim_types.specs.declared.event.EventId.{EventId}
@@ -28,7 +29,7 @@ use Rattle.sim_happen_law.proofs.Following.{read_is, event_then, turns_held}
 use Rattle.sim_happen_law.proofs.NewEvents.{kept_last, next_is}
 use Rattle.sim_happen_law.proofs.SeenShown.{shows_seen}
 use Rattle.sim_steps_model.specs.PartsOf.{PartsOf, KeepsButHappen, with_happen}
-use Rattle.sim_steps_model.specs.Becoming.{Stands, Becomes, BecomesOwing, BecomesWith}
+use Rattle.sim_steps_model.specs.Becoming.{Stands, Becomes, BecomesOwing}
 use Rattle.sim_steps_model.specs.StandsFor.{process_of}
 use Rattle.sim_steps_model.specs.Waiting.{MakesTimeout, RefusesTimeout}
 use Rattle.sim_steps_law.proofs.Accounting.{owing_besides, zero_is}
@@ -69,13 +70,13 @@ module _ {B Code : Type 0} {body : BodyOf B Code} (a n : PartsOf B Code) (x : Ha
 pub waited_owes : {B Code : Type 0} {body : BodyOf B Code} (a b n : PartsOf B Code) (e : EventId) (p : ProcId) (r : RecordOf B)
     (left : EventId) → record_of p b.live ≡ Some r → r.target ≡ left →
     IsKept a.shared.happen.events e → (kept_at a.shared.happen.events e).event.processed ≡ false →
-    BecomesOwing body [] (but_zero (e ∷ [])) 1 (on_events (register e (callback.Resume p))) a b →
+    BecomesOwing body [] (but_zero (e ∷ [])) 1 (on_events (resumes e p)) a b →
     n ≡ record b { live = change_record p (λ y. record y { target = e }) b.live; control = not_active b.control } →
     BecomesOwing body [] (but_zero (left ∷ [])) 1 (wait e p) a n
 waited_owes {B} {Code} {body} a b n e p r left alive target kept unprocessed registers is =
     let gained : List EventId = but_zero (e ∷ []) in
     let lost : List EventId = but_zero (r.target ∷ []) in
-    let registered : State B → State B = on_events (register e (callback.Resume p)) in
+    let registered : State B → State B = on_events (resumes e p) in
     let targeted : State B → State B = change_process p (λ y. record y { target = e }) in
     let c : PartsOf B Code = record b { live = change_record p (λ y. record y { target = e }) b.live } in
     let d : PartsOf B Code = record c { control = not_active c.control } in
@@ -92,12 +93,6 @@ waited_owes {B} {Code} {body} a b n e p r left alive target kept unprocessed reg
     subst (λ (t : EventId). BecomesOwing body [] (but_zero (t ∷ [])) 1 (wait e p) a n) target
     (subst (BecomesOwing body [] lost 1 (wait e p) a) (sym is)
     (becomes_as (λ s. rest (targeted (registered s))) (wait e p) a d (λ s h. rw (processed s h) refl) all))
-
--- what it waited for is given back
-pub waited_becomes : {B Code : Type 0} {body : BodyOf B Code} (e left : EventId) (p : ProcId) (a b c : PartsOf B Code) →
-    BecomesOwing body [] (but_zero (left ∷ [])) 1 (wait e p) a b → BecomesOwing body (but_zero (left ∷ [])) [] 0 (λ s. s) b c →
-    BecomesWith body 1 (wait e p) a c
-waited_becomes e left p a b c waits returns = becomes_then (wait e p) (λ s. s) a b c waits returns
 
 -- a process is told at once of an event that is processed
 pub told_at_once : {B Code : Type 0} {body : BodyOf B Code} (a n : PartsOf B Code) (x : HappenOf) (e : EventId) (p : ProcId) →

@@ -9,8 +9,10 @@ returns-clause-owes g c =
     elim c.if-on-ne0.branch [
       | then-on-ne0 w ↦
           let follows = rw c.happen_mut-happen.ensures.value at w.register_held.ensures.follows in
-          rw (← c.self.view_is, w.self-inside-is) (registered_held_owes _ _ w.register_held.new.self c.args.on c.args.process (rw follows.left refl) w.if-on-ne0.true kept follows)
+          rw (← c.self.view_is, w.self-inside-is)
+          (registered_held_owes _ _ w.register_held.new.self c.args.on c.args.process (rw follows.left refl) w.if-on-ne0.true kept follows)
       | else-on-ne0 w ↦
           let follows = rw c.happen_mut-happen.ensures.value at w.register.ensures.follows in
-          rw (← c.self.view_is, w.self-inside-is) (registered_zero_owes _ _ w.register.new.self c.args.on c.args.process (rw follows.left refl) w.if-on-ne0.false follows)
+          rw (← c.self.view_is, w.self-inside-is)
+          (registered_zero_owes _ _ w.register.new.self c.args.on c.args.process (rw follows.left refl) w.if-on-ne0.false follows)
     ]

@@ -1,6 +1,6 @@
 use Rattle.sim_machine.specs.Processes.{wait}
 use Rattle.sim_steps_law.proofs.Accounting.{owing_after}
-use Rattle.sim_steps_law.proofs.Waiting.{waited_becomes}
+use Rattle.sim_steps_law.proofs.Becoming.{becomes_then}
 use Rattle.sim_steps.proofs.parts.Parts.wait_for.Goals as goal
 
 pub unhold-requires : goal.unhold-requires
@@ -12,6 +12,6 @@ unhold-requires g c =
 pub returns : goal.returns
 returns g c =
     record {
-      becomes = waited_becomes c.args.on c.begin_to_wait-left.result c.args.process c.args.self.now c.begin_to_wait-left.new.self c.unhold.new.self
+      becomes = becomes_then (wait c.args.on c.args.process) (λ s. s) c.args.self.now c.begin_to_wait-left.new.self c.unhold.new.self
           c.begin_to_wait-left.ensures.owes c.unhold.ensures.owes;
     }
