@@ -10,19 +10,19 @@ use Rattle.sim_types.specs.declared.event.EventId.{EventId}
 use Rattle.sim_machine.specs.State.{EventOf, Calendar}
 use Rattle.sim_machine.specs.Events.{is_same}
 use Rattle.sim_machine.specs.Conditions.{condition_of, members_of}
-use Rattle.sim_machine_law.proofs.EventLaws.{same_event}
-use Rattle.sim_machine_law.proofs.KeptProcessesParts.{unmade_at}
-use Rattle.sim_events.specs.TableOf.{Kept, IsKept, kept_at, kept_or_new}
+use Rattle.sim_machine_law.proofs.Events.EventLaws.{same_event}
+use Rattle.sim_machine_law.proofs.KeptParts.KeptProcessesParts.{unmade_at}
+use Rattle.sim_happen_model.specs.TableOf.{Kept, IsKept, kept_at, kept_or_new}
 use Rattle.sim_happen_model.specs.HappenOf.{HappenOf, held, one_more}
 use Rattle.sim_happen_model.specs.Shows.{Shows}
 use Rattle.sim_happen_model.specs.Holders.{members_in, member_count, memberships}
-use Rattle.sim_happen_law.proofs.KeptPlaces.{kept_made}
-use Rattle.sim_happen_law.proofs.Soundness.{past_is}
-use Rattle.sim_happen_law.proofs.Held.{holders_at, held_at}
-use Rattle.sim_accounts.specs.Accounts.{Balanced, AreGoneClosed}
-use Rattle.sim_accounts.specs.Changes.{Trades, ComesAfter, MakesNoCondition, KeepsHolders}
+use Rattle.sim_happen_law.proofs.Shown.KeptPlaces.{kept_made}
+use Rattle.sim_happen_law.proofs.Changes.Soundness.{past_is}
+use Rattle.sim_happen_law.proofs.Changes.Held.{holders_at, held_at}
+use Rattle.sim_happen_model.specs.Accounts.{Balanced, AreGoneClosed}
+use Rattle.sim_happen_model.specs.HolderChanges.{Trades, ComesAfter, MakesNoCondition, KeepsHolders}
 use Rattle.sim_accounts.proofs.GivenBack.{same_counts, other_counts}
-use Rattle.sim_machine_law.proofs.CallbackLaws.{count_by-append}
+use Rattle.sim_machine_law.proofs.Events.CallbackLaws.{count_by-append}
 
 -- ---- from one count of holders to another
 

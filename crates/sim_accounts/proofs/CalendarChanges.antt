@@ -23,16 +23,16 @@ use Rattle.sim_machine.specs.Processes.{defuse_failed, make_events_of_process}
 use Rattle.sim_machine.specs.Effect.{pass_on}
 use Rattle.sim_machine.specs.Runs.{set_stop}
 use Rattle.sim_machine.specs.KeptEvents.{triggers}
-use Rattle.sim_machine_law.proofs.EventLaws.{change_event-keeps, change_event-length, make-keeps, make-length}
-use Rattle.sim_machine_law.proofs.CallbackLaws.{count_by-append, count_by-one}
-use Rattle.sim_machine_law.proofs.KeptProcessesParts.{change_event-holds}
-use Rattle.sim_machine_law.proofs.KeptTimesCases.{if_cases}
-use Rattle.sim_machine_law.proofs.TakenOut.{count-apart}
-use Rattle.sim_machine_law.proofs.CalledBuild.{checks_taken}
-use Rattle.sim_machine_law.proofs.CheckedConditions.{check_cases}
-use Rattle.sim_machine_law.proofs.NewConditions.{fresh, fresh_length, others_stay, with_fresh}
-use Rattle.sim_accounts.specs.Naming.{triggered_by}
-use Rattle.sim_accounts.specs.Changes.{ComesAfter, ComesQuietly, MakesNoCondition, ComesPlainly}
+use Rattle.sim_machine_law.proofs.Events.EventLaws.{change_event-keeps, change_event-length, make-keeps, make-length}
+use Rattle.sim_machine_law.proofs.Events.CallbackLaws.{count_by-append, count_by-one}
+use Rattle.sim_machine_law.proofs.KeptParts.KeptProcessesParts.{change_event-holds}
+use Rattle.sim_machine_law.proofs.KeptParts.KeptTimesCases.{if_cases}
+use Rattle.sim_lawful.proofs.Calendars.TakenOut.{count-apart}
+use Rattle.sim_lawful.proofs.ConditionLaws.CalledBuild.{checks_taken}
+use Rattle.sim_lawful.proofs.ConditionLaws.CheckedConditions.{check_cases}
+use Rattle.sim_lawful.proofs.ConditionLaws.NewConditions.{fresh, fresh_length, others_stay, with_fresh}
+use Rattle.sim_happen_model.specs.Naming.{triggered_by}
+use Rattle.sim_happen_model.specs.HolderChanges.{ComesAfter, ComesQuietly, MakesNoCondition, ComesPlainly}
 use Rattle.sim_accounts.proofs.StateChanges.{triggers_counted}
 
 -- the members of an event, and whether it is closed

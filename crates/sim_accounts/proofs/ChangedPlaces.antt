@@ -6,8 +6,8 @@ use Rattle.std.proofs.lemmas.List.{ext_get_or, get_or_past, take_all, take_more}
 use Rattle.std.proofs.lemmas.List.Elements.{filter-append}
 use Rattle.sim_types.specs.declared.event.EventId.{EventId}
 use Rattle.sim_machine.specs.Events.{is_same}
-use Rattle.sim_machine_law.proofs.CallbackLaws.{count_by-append}
-use Rattle.sim_accounts.specs.Naming.{but_zero}
+use Rattle.sim_machine_law.proofs.Events.CallbackLaws.{count_by-append}
+use Rattle.sim_happen_model.specs.Naming.{but_zero}
 
 -- how often the event is among these
 abbrev pub times_in : EventId → List EventId → ℕ

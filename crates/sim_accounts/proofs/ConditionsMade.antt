@@ -11,18 +11,18 @@ use Rattle.sim_types.specs.declared.event.EventId.{EventId}
 use Rattle.sim_machine.specs.State.{AllOrAny, EventOf, Calendar}
 use Rattle.sim_machine.specs.Events.{is_same, next_event}
 use Rattle.sim_machine.specs.Conditions.{condition_of, members_of, make_condition}
-use Rattle.sim_machine_law.proofs.EventLaws.{same_event, is_same-self}
-use Rattle.sim_machine_law.proofs.CallbackLaws.{count_by-cons, counts_one, counts_none}
-use Rattle.sim_machine_law.proofs.NewConditions.{with_fresh, fresh_event}
-use Rattle.sim_events.specs.TableOf.{Kept, IsKept, kept_at, kept_or_new}
+use Rattle.sim_machine_law.proofs.Events.EventLaws.{same_event, is_same-self}
+use Rattle.sim_machine_law.proofs.Events.CallbackLaws.{count_by-cons, counts_one, counts_none}
+use Rattle.sim_lawful.proofs.ConditionLaws.NewConditions.{with_fresh, fresh_event}
+use Rattle.sim_happen_model.specs.TableOf.{Kept, IsKept, kept_at, kept_or_new}
 use Rattle.sim_happen_model.specs.HappenOf.{HappenOf, held, one_more, one_more_each, holding}
 use Rattle.sim_happen_model.specs.Shows.{Shows}
 use Rattle.sim_happen_model.specs.Holders.{members_in, member_count, memberships}
-use Rattle.sim_happen_law.proofs.KeptPlaces.{kept_made, at_end, at_before}
-use Rattle.sim_happen_law.proofs.Soundness.{past_is}
-use Rattle.sim_happen_law.proofs.Held.{holders_at, held_at}
-use Rattle.sim_accounts.specs.Accounts.{Balanced, AreGoneClosed}
-use Rattle.sim_accounts.specs.Changes.{ComesAfter}
+use Rattle.sim_happen_law.proofs.Shown.KeptPlaces.{kept_made, at_end, at_before}
+use Rattle.sim_happen_law.proofs.Changes.Soundness.{past_is}
+use Rattle.sim_happen_law.proofs.Changes.Held.{holders_at, held_at}
+use Rattle.sim_happen_model.specs.Accounts.{Balanced, AreGoneClosed}
+use Rattle.sim_happen_model.specs.HolderChanges.{ComesAfter}
 use Rattle.sim_accounts.proofs.CalendarChanges.{members_joined}
 use Rattle.sim_accounts.proofs.Balancing.{counts_alike, holders_told, kept_told, length_held, members_told, none_by, number_of, some_or_none}
 

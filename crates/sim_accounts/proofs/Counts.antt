@@ -8,8 +8,8 @@ use Rattle.std.proofs.lemmas.List.Sums.{sum_by-cons}
 use Rattle.sim_types.specs.declared.event.EventId.{EventId}
 use Rattle.sim_machine.specs.Events.{is_same}
 use Rattle.sim_machine.specs.Standing.{one_if}
-use Rattle.sim_machine_law.proofs.CallbackLaws.{count_by-cons, counts_one}
-use Rattle.sim_machine_law.proofs.KeptReasons.{or_first, or_second}
+use Rattle.sim_machine_law.proofs.Events.CallbackLaws.{count_by-cons, counts_one}
+use Rattle.sim_lawful.proofs.Reached.KeptReasons.{or_first, or_second}
 
 pub is_same-swap : (e f : EventId) → is_same e f ≡ is_same f e
 is_same-swap e f = grind (arith, nat_tests)

@@ -15,10 +15,10 @@ use Rattle.sim_machine.specs.Triggering.{normal, make, succeed}
 use Rattle.sim_machine.specs.Users.{resource_at, put_queue, get_queue}
 use Rattle.sim_machine.specs.Trying.{Reach, attempt, goes_on, try_along, put_reach, get_reach, try_put, try_get}
 use Rattle.sim_machine.specs.Requests.{join, join_request, request_key, make_request, make_put, make_get, is_user, make_release, waits, cancel, leave}
-use Rattle.sim_machine_law.proofs.AttemptCases.{attempt_keeps}
-use Rattle.sim_machine_law.proofs.KeptTimesCases.{if_cases}
-use Rattle.sim_accounts.specs.Naming.{triggered_by}
-use Rattle.sim_accounts.specs.Changes.{ComesPlainly}
+use Rattle.sim_lawful.proofs.Ledger.AttemptCases.{attempt_keeps}
+use Rattle.sim_machine_law.proofs.KeptParts.KeptTimesCases.{if_cases}
+use Rattle.sim_happen_model.specs.Naming.{triggered_by}
+use Rattle.sim_happen_model.specs.HolderChanges.{ComesPlainly}
 use Rattle.sim_accounts.proofs.CalendarChanges.{plainly_then, plainly_same, plainly_made, plainly_registered, plainly_scheduled, plainly_cancelled, plainly_interruption}
 
 module _ (c : Calendar) where

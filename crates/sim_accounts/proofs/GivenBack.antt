@@ -5,15 +5,15 @@ use Rattle.std.proofs.lemmas.Bool.{ne_eqb}
 use Rattle.std.proofs.lemmas.List.Elements.{All-nil, All-head, All-tail, All-weaker}
 use Rattle.sim_types.specs.declared.event.EventId.{EventId}
 use Rattle.sim_machine.specs.Events.{is_same}
-use Rattle.sim_machine_law.proofs.EventLaws.{is_same-self}
-use Rattle.sim_machine_law.proofs.CallbackLaws.{count_by-cons, count_by-append, counts_one, counts_none}
-use Rattle.sim_events.specs.TableOf.{Kept, IsKept, kept_at, kept_or_new, is_needed}
-use Rattle.sim_events.specs.Changes.{without_holder}
+use Rattle.sim_machine_law.proofs.Events.EventLaws.{is_same-self}
+use Rattle.sim_machine_law.proofs.Events.CallbackLaws.{count_by-cons, count_by-append, counts_one, counts_none}
+use Rattle.sim_happen_model.specs.TableOf.{Kept, IsKept, kept_at, kept_or_new, is_needed}
+use Rattle.sim_happen_model.specs.Changes.{without_holder}
 use Rattle.sim_happen_model.specs.Holders.{HasOwnHolder, members_in, member_count, memberships, unheld_within, unheld}
-use Rattle.sim_happen_law.proofs.KeptPlaces.{kept_made, at_set, sum_set}
-use Rattle.sim_happen_law.proofs.Soundness.{memberships_set}
-use Rattle.sim_happen_law.proofs.Shutting.{kept_if_held, unneeded_is, by_need}
-use Rattle.sim_accounts.specs.Accounts.{Balanced}
+use Rattle.sim_happen_law.proofs.Shown.KeptPlaces.{kept_made, at_set, sum_set}
+use Rattle.sim_happen_law.proofs.Changes.Soundness.{memberships_set}
+use Rattle.sim_happen_law.proofs.Changes.Shutting.{kept_if_held, unneeded_is, by_need}
+use Rattle.sim_happen_model.specs.Accounts.{Balanced}
 
 -- an event of which a holder is to be given back is kept
 pub owed_kept : (alone : EventId → ℕ) (e : EventId) (todo : List EventId) (es : List (Option Kept)) → Balanced alone (e ∷ todo) es → IsKept es e

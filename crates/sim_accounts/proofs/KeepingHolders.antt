@@ -8,13 +8,13 @@ use Rattle.sim_types.specs.declared.event.EventId.{EventId}
 use Rattle.sim_machine.specs.State.{Calendar}
 use Rattle.sim_machine.specs.Conditions.{members_of}
 use Rattle.sim_machine.specs.KeptEvents.{is_closed}
-use Rattle.sim_machine_law.proofs.EventLaws.{same_event}
+use Rattle.sim_machine_law.proofs.Events.EventLaws.{same_event}
 use Rattle.sim_happen_model.specs.HappenOf.{HappenOf, held, unheld_event, none_if_unheld, gone_if_unheld}
-use Rattle.sim_happen_law.proofs.KeptPlaces.{at_end, at_before}
+use Rattle.sim_happen_law.proofs.Shown.KeptPlaces.{at_end, at_before}
 use Rattle.sim_machine.specs.Events.{is_same}
 use Rattle.std.specs.Prelude.{count_by, slice_set}
-use Rattle.sim_accounts.specs.Accounts.{Balanced}
-use Rattle.sim_accounts.specs.Changes.{GoesUnheld, KeepsHolders}
+use Rattle.sim_happen_model.specs.Accounts.{Balanced}
+use Rattle.sim_happen_model.specs.HolderChanges.{GoesUnheld, KeepsHolders}
 use Rattle.sim_accounts.proofs.Balancing.{holders_told, number_of}
 
 abbrev read_at : List (Option ℕ) → EventId → Option ℕ

@@ -13,18 +13,18 @@ use Rattle.sim_machine.specs.Conditions.{condition_of, members_of}
 use Rattle.sim_machine.specs.Standing.{one_if}
 use Rattle.sim_machine.specs.KeptEvents.{is_closed, is_kept_alone, is_member_of_any, kept_below, kept_events, is_kept}
 use Rattle.sim_machine.specs.Tellings.{Telling}
-use Rattle.sim_machine_law.proofs.EventLaws.{same_event, is_same-yes, is_same-self}
-use Rattle.sim_machine_law.proofs.CallbackLaws.{count_by-cons}
-use Rattle.sim_machine_law.proofs.KeptReasons.{or_first, or_second}
-use Rattle.sim_events.specs.TableOf.{Kept, IsKept, kept_at, kept_or_new, kept_count}
+use Rattle.sim_machine_law.proofs.Events.EventLaws.{same_event, is_same-yes, is_same-self}
+use Rattle.sim_machine_law.proofs.Events.CallbackLaws.{count_by-cons}
+use Rattle.sim_lawful.proofs.Reached.KeptReasons.{or_first, or_second}
+use Rattle.sim_happen_model.specs.TableOf.{Kept, IsKept, kept_at, kept_or_new, kept_count}
 use Rattle.sim_happen_model.specs.HappenOf.{HappenOf}
 use Rattle.sim_happen_model.specs.Shows.{Shows}
 use Rattle.sim_happen_model.specs.Holders.{members_in, member_count, memberships}
-use Rattle.sim_happen_law.proofs.KeptPlaces.{kept_made}
-use Rattle.sim_happen_law.proofs.Soundness.{past_is}
-use Rattle.sim_happen_law.proofs.Shutting.{kept_if_held}
-use Rattle.sim_accounts.specs.Naming.{held_alone}
-use Rattle.sim_accounts.specs.Accounts.{Accounts}
+use Rattle.sim_happen_law.proofs.Shown.KeptPlaces.{kept_made}
+use Rattle.sim_happen_law.proofs.Changes.Soundness.{past_is}
+use Rattle.sim_happen_law.proofs.Changes.Shutting.{kept_if_held}
+use Rattle.sim_happen_model.specs.Naming.{held_alone}
+use Rattle.sim_happen_model.specs.Accounts.{Accounts}
 use Rattle.sim_accounts.proofs.Counts.{one_pos, count_any, any_count}
 use Rattle.sim_accounts.proofs.NamedEvents.{alone_if_held, alone_if_open, held_if_alone}
 

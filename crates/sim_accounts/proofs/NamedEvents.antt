@@ -11,8 +11,8 @@ use Rattle.sim_machine.specs.Events.{is_same}
 use Rattle.sim_machine.specs.Standing.{callbacks_in_all, one_if, left_of}
 use Rattle.sim_machine.specs.KeptEvents.{is_closed, is_in_process, is_in_body, triggers, is_to_be_triggered, is_kept_alone}
 use Rattle.sim_machine.specs.Tellings.{Place, Telling, is_class}
-use Rattle.sim_machine_law.proofs.CallbackLaws.{count_by-cons, count_by-map, counts_one}
-use Rattle.sim_accounts.specs.Naming.{named_in_places, held_by_process, times_named, held_alone}
+use Rattle.sim_machine_law.proofs.Events.CallbackLaws.{count_by-cons, count_by-map, counts_one}
+use Rattle.sim_happen_model.specs.Naming.{named_in_places, held_by_process, times_named, held_alone}
 use Rattle.sim_accounts.proofs.Counts.{is_same-swap, one_if_pos, one_pos, count_any, any_count, sum_any, any_sum, count_same, count_filter}
 
 -- who passes an outcome on to e

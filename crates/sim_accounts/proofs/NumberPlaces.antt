@@ -11,7 +11,7 @@ use Rattle.sim_machine.specs.State.{Calendar}
 use Rattle.sim_machine.specs.Standing.{was_made, kind_at}
 use Rattle.sim_machine.specs.Tellings.{Place, Telling, is_class, kind_fits}
 use Rattle.sim_machine.specs.LawfulBodies.{place_fits}
-use Rattle.sim_accounts.specs.Naming.{but_zero, named_in_places}
+use Rattle.sim_happen_model.specs.Naming.{but_zero, named_in_places}
 
 abbrev is_event_place : Place → Bool
 is_event_place y = not (is_class y.class class.Number)

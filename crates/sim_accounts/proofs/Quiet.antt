@@ -25,11 +25,11 @@ use Rattle.sim_machine.specs.Runs.{blank_state}
 use Rattle.sim_machine.specs.Standing.{one_if, left_of}
 use Rattle.sim_machine.specs.KeptEvents.{is_in_process, triggers}
 use Rattle.sim_machine.specs.Tellings.{Telling}
-use Rattle.sim_machine_law.proofs.CallbackLaws.{count_by-cons, count_by-one, left_of-told, left_of-rest}
-use Rattle.sim_machine_law.proofs.KeptTimesCases.{if_cases}
-use Rattle.sim_machine_law.proofs.TakenOut.{count-apart}
-use Rattle.sim_accounts.specs.Naming.{but_zero, held_alone, named_by_process, named_in_places, triggered_by}
-use Rattle.sim_accounts.specs.Changes.{StatesTrade, IsOnlyProcess, HasOnlyScope}
+use Rattle.sim_machine_law.proofs.Events.CallbackLaws.{count_by-cons, count_by-one, left_of-told, left_of-rest}
+use Rattle.sim_machine_law.proofs.KeptParts.KeptTimesCases.{if_cases}
+use Rattle.sim_lawful.proofs.Calendars.TakenOut.{count-apart}
+use Rattle.sim_happen_model.specs.Naming.{but_zero, held_alone, named_by_process, named_in_places, triggered_by}
+use Rattle.sim_happen_model.specs.HolderChanges.{StatesTrade, IsOnlyProcess, HasOnlyScope}
 use Rattle.sim_accounts.proofs.Counts.{is_same-swap}
 use Rattle.sim_accounts.proofs.Trading.{trades_quietly, trades_then}
 use Rattle.sim_accounts.proofs.StateChanges.{triggers_counted, waits_trade, joined_trade, ended_trade, closed_trade, quiet_trade, registered_trade, controlled_trade, processed_trade}

@@ -8,14 +8,14 @@ use Rattle.std.proofs.Math.ListN.{length-set}
 use Rattle.sim_types.specs.declared.event.EventId.{EventId}
 use Rattle.sim_machine.specs.State.{EventOf, Calendar}
 use Rattle.sim_machine.specs.KeptEvents.{is_closed}
-use Rattle.sim_events.specs.TableOf.{Kept, IsKept, kept_at, kept_or_new}
-use Rattle.sim_events.specs.Changes.{without_holder}
+use Rattle.sim_happen_model.specs.TableOf.{Kept, IsKept, kept_at, kept_or_new}
+use Rattle.sim_happen_model.specs.Changes.{without_holder}
 use Rattle.sim_happen_model.specs.HappenOf.{HappenOf}
 use Rattle.sim_happen_model.specs.Shows.{IsShown, Shows}
 use Rattle.sim_happen_model.specs.Holders.{unheld}
-use Rattle.sim_happen_law.proofs.KeptPlaces.{kept_made, at_set}
-use Rattle.sim_happen_law.proofs.Shutting.{unneeded_is}
-use Rattle.sim_accounts.specs.Accounts.{Balanced, AreGoneClosed}
+use Rattle.sim_happen_law.proofs.Shown.KeptPlaces.{kept_made, at_set}
+use Rattle.sim_happen_law.proofs.Changes.Shutting.{unneeded_is}
+use Rattle.sim_happen_model.specs.Accounts.{Balanced, AreGoneClosed}
 use Rattle.sim_accounts.proofs.GivenBack.{StaysTrue, BalancedWith, unheld_with}
 
 -- so many events were made; what is kept of them is shown by c, and what is kept no more is closed in it

@@ -18,11 +18,11 @@ use Rattle.sim_machine.specs.LawfulWaiting.{AreOfTwo}
 use Rattle.sim_machine.specs.Standing.{one_if, left_of, callbacks_in_all}
 use Rattle.sim_machine.specs.KeptEvents.{is_in_process, triggers}
 use Rattle.sim_machine.specs.Tellings.{Telling}
-use Rattle.sim_machine_law.proofs.EventLaws.{is_same-yes, same_event}
-use Rattle.sim_machine_law.proofs.CallbackLaws.{count_by-cons, count_by-append, count_by-one, callbacks_in_all-popped}
-use Rattle.sim_machine_law.proofs.KeptProcessesParts.{same_process}
-use Rattle.sim_accounts.specs.Naming.{but_zero, held_by_process, named_by_process, named_in_places, times_named, triggered_by}
-use Rattle.sim_accounts.specs.Changes.{StatesTrade, IsOnlyProcess, HasOnlyScope}
+use Rattle.sim_machine_law.proofs.Events.EventLaws.{is_same-yes, same_event}
+use Rattle.sim_machine_law.proofs.Events.CallbackLaws.{count_by-cons, count_by-append, count_by-one, callbacks_in_all-popped}
+use Rattle.sim_machine_law.proofs.KeptParts.KeptProcessesParts.{same_process}
+use Rattle.sim_happen_model.specs.Naming.{but_zero, held_by_process, named_by_process, named_in_places, times_named, triggered_by}
+use Rattle.sim_happen_model.specs.HolderChanges.{StatesTrade, IsOnlyProcess, HasOnlyScope}
 use Rattle.sim_accounts.proofs.Counts.{is_same-swap}
 use Rattle.sim_accounts.proofs.Trading.{calls_trade, names_trade, states_trade, sum_without, sum_changed}
 

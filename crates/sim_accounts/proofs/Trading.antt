@@ -11,9 +11,9 @@ use Rattle.sim_types.specs.declared.event.EventId.{EventId}
 use Rattle.sim_machine.specs.State.{State}
 use Rattle.sim_machine.specs.Events.{is_same}
 use Rattle.sim_machine.specs.Tellings.{Telling}
-use Rattle.sim_machine_law.proofs.CallbackLaws.{count_by-cons, count_by-append, counts_none}
-use Rattle.sim_accounts.specs.Naming.{times_named, but_zero}
-use Rattle.sim_accounts.specs.Changes.{Trades, StatesTrade}
+use Rattle.sim_machine_law.proofs.Events.CallbackLaws.{count_by-cons, count_by-append, counts_none}
+use Rattle.sim_happen_model.specs.Naming.{times_named, but_zero}
+use Rattle.sim_happen_model.specs.HolderChanges.{Trades, StatesTrade}
 use Rattle.sim_accounts.proofs.Counts.{count_same, count_filter}
 use Rattle.sim_accounts.proofs.NamedEvents.{awaiting, zero_alone, other_alone}
 

@@ -4,10 +4,10 @@ ghost use Rattle.sim_types.specs.declared.event.EventId.{EventId};
 ghost use Rattle.sim_machine.specs.State.{State};
 ghost use Rattle.sim_machine.specs.KeptEvents.{is_kept, kept_events};
 ghost use Rattle.sim_machine.specs.Tellings.{Telling};
-ghost use Rattle.sim_events.specs.TableOf.{kept_count};
+ghost use Rattle.sim_happen_model.specs.TableOf.{kept_count};
 ghost use Rattle.sim_happen_model.specs.HappenOf.{HappenOf};
 ghost use Rattle.sim_happen_model.specs.Shows.{Shows};
-ghost use Rattle.sim_accounts.specs.Accounts.{Accounts};
+ghost use Rattle.sim_happen_model.specs.Accounts.{Accounts};
 
 /// Where the accounts of a state that is shown are right, an event is kept exactly where the machine calls it kept: so as many
 /// slots are used as the machine has kept events. (This project's own; in Python an event is collected.)

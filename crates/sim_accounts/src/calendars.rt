@@ -21,8 +21,8 @@ ghost use Rattle.sim_machine.specs.Requests.{cancel, leave, make_get, make_put, 
 ghost use Rattle.sim_machine.specs.Runs.{set_stop};
 ghost use Rattle.sim_machine.specs.Triggering.{make, make_interruption, make_timeout, schedule};
 ghost use Rattle.sim_machine.specs.Trying.{try_get, try_put};
-ghost use Rattle.sim_accounts.specs.Naming.{triggered_by};
-ghost use Rattle.sim_accounts.specs.Changes.{ComesAfter, ComesPlainly, ComesQuietly, MakesNoCondition};
+ghost use Rattle.sim_happen_model.specs.Naming.{triggered_by};
+ghost use Rattle.sim_happen_model.specs.HolderChanges.{ComesAfter, ComesPlainly, ComesQuietly, MakesNoCondition};
 
 /// A calendar comes after itself, and after all that the one before it comes after.
 pub fn later_calendars()

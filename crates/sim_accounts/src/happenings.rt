@@ -5,10 +5,10 @@ ghost use Rattle.sim_machine.specs.State.{Calendar};
 ghost use Rattle.sim_machine.specs.Conditions.{members_of};
 ghost use Rattle.sim_machine.specs.Events.{next_event};
 ghost use Rattle.sim_machine.specs.KeptEvents.{is_closed};
-ghost use Rattle.sim_events.specs.TableOf.{IsKept};
+ghost use Rattle.sim_happen_model.specs.TableOf.{IsKept};
 ghost use Rattle.sim_happen_model.specs.HappenOf.{HappenOf, gone_if_unheld, held, holding, one_more, unheld_event};
-ghost use Rattle.sim_accounts.specs.Accounts.{AreGoneClosed, Balanced};
-ghost use Rattle.sim_accounts.specs.Changes.{KeepsHolders, MakesNoCondition, ShowsLater};
+ghost use Rattle.sim_happen_model.specs.Accounts.{AreGoneClosed, Balanced};
+ghost use Rattle.sim_happen_model.specs.HolderChanges.{KeepsHolders, MakesNoCondition, ShowsLater};
 
 /// Where no event has a holder more or fewer, the accounts balance as before.
 pub fn balanced_as_before()

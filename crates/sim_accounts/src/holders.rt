@@ -6,13 +6,13 @@ ghost use Rattle.sim_machine.specs.State.{Calendar, State};
 ghost use Rattle.sim_machine.specs.Events.{is_same};
 ghost use Rattle.sim_machine.specs.KeptEvents.{is_in_body, is_in_process, is_to_be_triggered};
 ghost use Rattle.sim_machine.specs.Tellings.{Telling};
-ghost use Rattle.sim_events.specs.TableOf.{IsKept, Kept, kept_at};
+ghost use Rattle.sim_happen_model.specs.TableOf.{IsKept, Kept, kept_at};
 ghost use Rattle.sim_happen_model.specs.HappenOf.{HappenOf, gone_if_unheld, held};
 ghost use Rattle.sim_happen_model.specs.Holders.{HasOwnHolder, unheld};
 ghost use Rattle.sim_happen_model.specs.Shows.{Shows};
-ghost use Rattle.sim_accounts.specs.Naming.{held_alone};
-ghost use Rattle.sim_accounts.specs.Accounts.{AreGoneClosed, Balanced};
-ghost use Rattle.sim_accounts.specs.Changes.{Trades};
+ghost use Rattle.sim_happen_model.specs.Naming.{held_alone};
+ghost use Rattle.sim_happen_model.specs.Accounts.{AreGoneClosed, Balanced};
+ghost use Rattle.sim_happen_model.specs.HolderChanges.{Trades};
 
 /// A holder that is still to be given back is given back, with all that goes with it through conditions that are kept no
 /// more: the accounts balance with what is to be given back then.

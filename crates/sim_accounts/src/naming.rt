@@ -22,8 +22,8 @@ ghost use Rattle.sim_machine.specs.Scopes.{close_scope, on_events, on_facilities
 ghost use Rattle.sim_machine.specs.Standing.{one_if};
 ghost use Rattle.sim_machine.specs.Steps.{control_to, pop_entry, settle};
 ghost use Rattle.sim_machine.specs.Tellings.{Telling};
-ghost use Rattle.sim_accounts.specs.Naming.{but_zero, held_alone, named_by_process, named_in_places, triggered_by};
-ghost use Rattle.sim_accounts.specs.Changes.{ComesQuietly, HasOnlyScope, IsOnlyProcess, StatesTrade};
+ghost use Rattle.sim_happen_model.specs.Naming.{but_zero, held_alone, named_by_process, named_in_places, triggered_by};
+ghost use Rattle.sim_happen_model.specs.HolderChanges.{ComesQuietly, HasOnlyScope, IsOnlyProcess, StatesTrade};
 
 /// A process that waits for an event holds it in place of the one that it waited for; one that goes on at once holds what it
 /// held. A process that is no longer resumed by its target still holds it.

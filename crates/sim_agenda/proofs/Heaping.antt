@@ -10,7 +10,7 @@ use Rattle.std.proofs.lemmas.List.Sorted.{All-permutation, IsPermutation-swap}
 use Rattle.sim_types.specs.Keys.{IsLess}
 use Rattle.sim_types.specs.declared.event.Entry.{Entry}
 use Rattle.sim_types.proofs.KeyLemmas.{IsLess-irrefl}
-use Rattle.sim_agenda.specs.Agendas.{TakesFirst}
+use Rattle.sim_happen_model.specs.Agendas.{TakesFirst}
 use Rattle.sim_agenda.specs.Heaps.{parent, IsHeap, IsHeapBut, StandsAbove}
 use Rattle.sim_agenda.proofs.Keys.{not_before, same_not_before}
 

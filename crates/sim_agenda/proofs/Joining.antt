@@ -7,7 +7,7 @@ use Rattle.std.proofs.lemmas.List.Sorted.{IsPermutation-to_front, IsPermutation-
 use Rattle.sim_types.specs.Keys.{IsLess}
 use Rattle.sim_types.specs.declared.event.Entry.{Entry}
 use Rattle.sim_types.proofs.KeyLemmas.{IsLess-irrefl}
-use Rattle.sim_agenda.specs.Agendas.{TakesFirst, PopsFirst}
+use Rattle.sim_happen_model.specs.Agendas.{TakesFirst, PopsFirst}
 use Rattle.sim_agenda.specs.Heaps.{IsHeap}
 use Rattle.std.specs.Slice.{IsItemAt}
 use Rattle.sim_agenda.specs.Series.{Rises, IsDue, IsFirst, FrontIsDue, FirstIsDue}

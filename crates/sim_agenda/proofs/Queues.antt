@@ -14,7 +14,7 @@ use Rattle.std.proofs.lemmas.List.Sorted.{IsPermutation-trans, IsPermutation-ref
 use Rattle.sim_types.specs.Keys.{IsLess}
 use Rattle.sim_types.specs.declared.event.Entry.{Entry}
 use Rattle.sim_types.proofs.KeyLemmas.{IsLess-irrefl}
-use Rattle.sim_agenda.specs.Agendas.{TakesFirst}
+use Rattle.sim_happen_model.specs.Agendas.{TakesFirst}
 use Rattle.sim_agenda.specs.Series.{Rises, IsDue, IsFirst}
 use Rattle.sim_agenda.specs.Windows.{joined, IsWindow}
 use Rattle.sim_agenda.proofs.Joining.{through}

@@ -4,7 +4,7 @@ use Rattle.std.specs.Prelude.{MatchOption, IfSome}
 use Rattle.std.specs.List.Sorted.{IsPermutation}
 use Rattle.std.proofs.lemmas.List.Sorted.{length_permutation}
 use Rattle.sim_types.specs.declared.event.Entry.{Entry}
-use Rattle.sim_agenda.specs.Agendas.{AgendaOf, TakesFirst}
+use Rattle.sim_happen_model.specs.Agendas.{AgendaOf, TakesFirst}
 use Rattle.sim_agenda.specs.Windows.{IsSpread}
 
 pub backlog_put : (old new : AgendaOf) (near left : List Entry) (x : Entry) → 1 ≤ old.spare - length near → IsPermutation (x ∷ old.entries) new.entries

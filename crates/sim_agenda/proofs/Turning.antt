@@ -12,7 +12,7 @@ use Rattle.std.proofs.lemmas.List.Elements.{All-nil, All-tail, All-head}
 use Rattle.sim_types.specs.Keys.{IsLess}
 use Rattle.sim_types.specs.declared.event.Entry.{Entry}
 use Rattle.sim_types.proofs.Permutations.{AllPairs-tail}
-use Rattle.sim_agenda.specs.Agendas.{TakesFirst}
+use Rattle.sim_happen_model.specs.Agendas.{TakesFirst}
 use Rattle.sim_agenda.specs.Series.{Rises}
 use Rattle.sim_agenda.specs.Windows.{joined, turned, IsWindow, IsRing}
 use Rattle.sim_agenda.proofs.Queues.{read_at, as_many, joined_none, taken_joined, put_joined, window_takes, window_put, window_moved, window_some, window_opens}

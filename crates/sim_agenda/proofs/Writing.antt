@@ -5,7 +5,7 @@ use Rattle.std.proofs.Math.Seq.{take-append_seam}
 use Rattle.std.proofs.lemmas.List.{set-get_or, get_or_push, get_or_append_left}
 use Rattle.std.proofs.lemmas.List.Sorted.{IsPermutation-to_front, IsPermutation-sym, IsPermutation-trans}
 use Rattle.sim_types.specs.declared.event.Entry.{Entry}
-use Rattle.sim_agenda.specs.Agendas.{TakesFirst}
+use Rattle.sim_happen_model.specs.Agendas.{TakesFirst}
 use Rattle.sim_agenda.specs.Heaps.{IsHeap}
 use Rattle.sim_agenda.proofs.Heaping.{first_taken}
 

@@ -1,4 +1,3 @@
-pub mod Agendas
 pub mod Comparisons
 pub mod Heaps
 pub mod Series

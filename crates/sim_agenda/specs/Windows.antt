@@ -1,7 +1,7 @@
 -- The queues of the next times. Only the code of this crate knows them.
 use Rattle.std.specs.Prelude.{◌≡◌, ◌<◌, ◌≤◌, ◌+◌, ◌^◌, ℕ, ℤ, pos, ◌+ℤ◌, List, [], ◌++◌, All, length, take, drop, flat_map, slice_index_or}
 use Rattle.sim_types.specs.declared.event.Entry.{Entry}
-use Rattle.sim_agenda.specs.Agendas.{AgendaOf}
+use Rattle.sim_happen_model.specs.Agendas.{AgendaOf}
 use Rattle.sim_agenda.specs.Series.{Rises}
 
 -- the entries of all queues

@@ -1,6 +1,6 @@
 ghost use Rattle.std.specs.Prelude.{◌≡◌, ◌↔◌, ◌+◌, ◌<◌, ◌≤◌, ◌^◌, [], ◌∷◌, length, IsTrue, IsFalse, IsOk, OnOk, IfSome};
 ghost use Rattle.std.specs.List.Sorted.{IsPermutation};
-ghost use Rattle.sim_agenda.specs.Agendas.{PopsFirst};
+ghost use Rattle.sim_happen_model.specs.Agendas.{PopsFirst};
 ghost use Rattle.sim_agenda.specs.Comparisons.{most_comparisons};
 ghost use Rattle.sim_agenda.specs.Series.{FirstIsDue};
 
@@ -26,7 +26,7 @@ pub struct Agenda {
 
 impl Model for Agenda {
     ghost use Rattle.std.specs.Prelude.{◌-◌, ◌++◌, length};
-    ghost use Rattle.sim_agenda.specs.Agendas.{AgendaOf};
+    ghost use Rattle.sim_happen_model.specs.Agendas.{AgendaOf};
     ghost use Rattle.sim_agenda.specs.Windows.{IsSpread};
 
     ghost Value = { AgendaOf };

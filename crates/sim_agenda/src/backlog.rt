@@ -1,6 +1,6 @@
 ghost use Rattle.std.specs.Prelude.{◌≡◌, ◌+◌, ◌*◌, ◌<◌, ◌≤◌, ◌^◌, [], ◌∷◌, length, IsOk, OnOk, IfSome, MatchOption};
 ghost use Rattle.std.specs.List.Sorted.{IsPermutation};
-ghost use Rattle.sim_agenda.specs.Agendas.{PopsFirst};
+ghost use Rattle.sim_happen_model.specs.Agendas.{PopsFirst};
 ghost use Rattle.sim_agenda.specs.Comparisons.{most_comparisons};
 ghost use Rattle.sim_agenda.specs.Series.{IsFirst};
 
@@ -22,7 +22,7 @@ pub(crate) struct Backlog {
 impl Model for Backlog {
     ghost use Rattle.std.specs.Prelude.{◌+◌, ◌-◌, ◌++◌, min, vec_len, vec_capacity};
     ghost use Rattle.std.specs.VecDeque.{deque_len, deque_capacity};
-    ghost use Rattle.sim_agenda.specs.Agendas.{AgendaOf};
+    ghost use Rattle.sim_happen_model.specs.Agendas.{AgendaOf};
     ghost use Rattle.sim_agenda.specs.Series.{IsArranged};
 
     ghost Value = { AgendaOf };

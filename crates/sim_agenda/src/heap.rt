@@ -3,7 +3,7 @@
 //! no longer wanted, and the new one is written once, where it belongs.
 ghost use Rattle.std.specs.Prelude.{◌≡◌, ◌+◌, ◌-◌, ◌*◌, ◌<◌, ◌≤◌, ◌^◌, [], ◌∷◌, length, set, slice_index_or, MatchOption, vec_len, vec_capacity};
 ghost use Rattle.std.specs.List.Sorted.{IsPermutation};
-ghost use Rattle.sim_agenda.specs.Agendas.{TakesFirst};
+ghost use Rattle.sim_happen_model.specs.Agendas.{TakesFirst};
 ghost use Rattle.sim_agenda.specs.Comparisons.{most_comparisons, ComparesAtLevels};
 ghost use Rattle.sim_agenda.specs.Heaps as heaps;
 ghost use Rattle.sim_agenda.specs.Heaps.{IsHeap, IsHeapBut, IsFirstBelow, IsMovedUp};

@@ -4,7 +4,7 @@
 ghost use Rattle.std.specs.Prelude.{◌≡◌, ℕ, ◌+◌, ◌%◌, ◌<◌, ◌≤◌, ◌^◌, ◌+ℤ◌, pos, [], ◌∷◌, ◌++◌, map, length};
 ghost use Rattle.std.specs.Prelude.{slice_index_or, IsTrue, IsFalse, IfSome, IfOk, MatchOption, All, vec_len};
 ghost use Rattle.std.specs.List.Sorted.{IsPermutation};
-ghost use Rattle.sim_agenda.specs.Agendas.{TakesFirst};
+ghost use Rattle.sim_happen_model.specs.Agendas.{TakesFirst};
 ghost use Rattle.sim_agenda.specs.Series.{IsFirst};
 ghost use Rattle.sim_agenda.specs.Windows.{joined, turned};
 

@@ -7,7 +7,7 @@ use Rattle.sim_types.specs.declared.setup.Until.{Until}
 use Rattle.sim_types.specs.declared.setup.Until.TheVariants as until
 use Rattle.sim_types.specs.declared.op.Op.{Op}
 use Rattle.sim_types.specs.declared.op.Op.TheVariants as op
-use Rattle.sim_machine_law.proofs.PlainBodies.{is_plain}
+use Rattle.sim_lawful.proofs.Polls.PlainBodies.{is_plain}
 use Rattle.sim_machine.specs.Setups.{FitsCode, start_fits, until_fits, resource_fits, port_fits}
 use Rattle.sim_bodies.specs.Travellers.{traveller_facts, traveller_body, next_is_plain}
 use Rattle.sim_bodies.specs.Clocks.{clock_facts, clock_body, tick_plain}

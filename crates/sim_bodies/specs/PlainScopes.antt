@@ -4,7 +4,7 @@ use Rattle.std.proofs.lemmas.Bool.{false≢true}
 use Rattle.sim_types.specs.declared.event.Signal.{Signal}
 use Rattle.sim_types.specs.declared.op.Op.{Op}
 use Rattle.sim_machine.specs.Bodies.{BodyOf}
-use Rattle.sim_machine_law.proofs.PlainBodies.{is_plain}
+use Rattle.sim_lawful.proofs.Polls.PlainBodies.{is_plain}
 use Rattle.sim_procs.specs.Premises.{EntersWithin}
 
 pub plain_enters_within : {B Code : Type 0} (body : BodyOf B Code) (code : Code)

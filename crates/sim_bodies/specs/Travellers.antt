@@ -10,7 +10,7 @@ use Rattle.sim_types.specs.declared.setup.Class.TheVariants as class
 use Rattle.sim_machine.specs.Tellings.{CodeFacts, Telling}
 use Rattle.sim_machine.specs.Bodies.{BodyOf, start_of}
 use Rattle.sim_machine.specs.BodyLaw.{IsLawfulBody}
-use Rattle.sim_machine_law.proofs.PlainBodies.{plain_tells, is_plain, IsPlainBody, PollsPlain, plain_lawful}
+use Rattle.sim_lawful.proofs.Polls.PlainBodies.{plain_tells, is_plain, IsPlainBody, PollsPlain, plain_lawful}
 use Rattle.sim_procs.specs.Premises.{EntersWithin}
 use Rattle.sim_bodies.specs.PlainScopes.{plain_enters_within}
 

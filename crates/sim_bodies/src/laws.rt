@@ -1,9 +1,10 @@
 //! The laws of the machine at one of the bodies.
 use crate::Clock;
-use sim_machine_law::{
-    lawful_arrival, lawful_opening, lawful_run, lawful_step, preemption_ends_use,
-    reached_events_are_kept, trace_grows, within_capacity,
+use sim_lawful::{
+    lawful_arrival, lawful_opening, lawful_run, lawful_step, reached_events_are_kept,
+    within_capacity,
 };
+use sim_machine_law::{preemption_ends_use, trace_grows};
 
 #[test]
 fn laws_hold_of_clocks() {

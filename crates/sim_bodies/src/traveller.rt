@@ -1,6 +1,6 @@
 //! Travellers: a body of four kinds, which ends.
 ghost use Rattle.std.specs.Prelude.{◌≡◌, [], ◌∷◌, IsTrue, pos, slice_index_or};
-ghost use Rattle.sim_machine_law.proofs.PlainBodies.{is_plain};
+ghost use Rattle.sim_lawful.proofs.Polls.PlainBodies.{is_plain};
 ghost use Rattle.sim_bodies.specs.Travellers.{heard};
 
 use sim_machine::LawfulBody;

@@ -25,7 +25,7 @@ use Rattle.sim_machine.specs.Steps.{TurnFunction}
 use Rattle.sim_machine.specs.Units.{Course, arrive, due_arrival, unit_of}
 use Rattle.sim_machine.specs.Runs.{end_of, end_by, opening_course}
 use Rattle.sim_machine_law.specs.Courses.{Run, course_after}
-use Rattle.sim_machine_law.proofs.JournalLaws.{added, IsNotDue, units_added, unit_processed}
+use Rattle.sim_machine_law.proofs.RunLaws.JournalLaws.{added, IsNotDue, units_added, unit_processed}
 use Rattle.sim_steps_model.specs.PartsOf.{plan_of}
 use Rattle.sim_script_model.specs.Scripts.{Script}
 use Rattle.sim_script_model.specs.Scenarios.{summary}

@@ -16,17 +16,17 @@ use Rattle.sim_machine.specs.Processes.{is_alive}
 use Rattle.sim_machine.specs.LawfulProcesses.{is_active}
 use Rattle.sim_machine.specs.LawfulWaiting.{request_has_scope, is_scope_well}
 use Rattle.sim_machine.specs.Lawful.{Lawful}
-use Rattle.sim_machine_law.specs.LawfulRuns.{IsRunOf}
+use Rattle.sim_lawful.specs.LawfulRuns.{IsRunOf}
 use Rattle.sim_machine_law.specs.Courses.{Run, course_after}
-use Rattle.sim_machine_law.proofs.KeptProcessesParts.{is_process-yes}
-use Rattle.sim_machine_law.proofs.ServedFronts.{level_of_amounts}
-use Rattle.sim_machine_law.proofs.WholeRuns.{run_stays_lawful}
+use Rattle.sim_machine_law.proofs.KeptParts.KeptProcessesParts.{is_process-yes}
+use Rattle.sim_machine_law.proofs.Stocks.ServedFronts.{level_of_amounts}
+use Rattle.sim_lawful.proofs.Units.WholeRuns.{run_stays_lawful}
 use Rattle.sim_language.specs.WellFormed.{is_well_formed}
 use Rattle.sim_script_model.specs.Scripts.{Script, script_telling}
 use Rattle.sim_script_law.specs.ScriptMembers.{script_body}
 use Rattle.sim_script_law.specs.SoundScripts.{IsSoundScript}
-use Rattle.sim_script_law.proofs.ScriptLaw.{script_lawful}
-use Rattle.sim_script_law.proofs.SetupFits.{fits_code}
+use Rattle.sim_script_law.proofs.Laws.ScriptLaw.{script_lawful}
+use Rattle.sim_script_law.proofs.Laws.SetupFits.{fits_code}
 use Rattle.sim_machine.specs.RandomWords.{word_of}
 use Rattle.sim_script_model.specs.Scenarios.{plan_with}
 use Rattle.sim_engine.specs.RunOfScenario.{run_of}

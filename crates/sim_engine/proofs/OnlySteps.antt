@@ -5,7 +5,7 @@ use Rattle.sim_types.specs.declared.event.ProcId.{ProcId}
 use Rattle.sim_types.specs.declared.event.Signal.{Signal}
 use Rattle.sim_machine.specs.State.{Control, Idle, Calling, Active, Over, State, Plan}
 use Rattle.sim_machine.specs.Steps.{IsPoll, IsStepAt, IsStep, step_of}
-use Rattle.sim_machine_law.proofs.UnitLaws.{only_step}
+use Rattle.sim_machine_law.proofs.RunLaws.UnitLaws.{only_step}
 use Rattle.sim_machine_law.specs.Courses.{OfFunction}
 use Rattle.sim_script_model.specs.Scripts.{Script}
 use Rattle.sim_script_model.specs.Polls.{script_turn}

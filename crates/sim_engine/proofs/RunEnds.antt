@@ -15,8 +15,8 @@ use Rattle.sim_machine.specs.Effect.{calendar}
 use Rattle.sim_machine.specs.Units.{Course}
 use Rattle.sim_machine.specs.Runs.{empty_end, end_by, end_of, opening_course}
 use Rattle.sim_machine_law.specs.Courses.{Run, course_after}
-use Rattle.sim_machine_law.proofs.MadeUnits.{made_at_most, made_same, made_on, made_whole}
-use Rattle.sim_machine_law.proofs.UnitLaws.{ended_stays_on}
+use Rattle.sim_machine_law.proofs.RunLaws.MadeUnits.{made_at_most, made_same, made_on, made_whole}
+use Rattle.sim_machine_law.proofs.RunLaws.UnitLaws.{ended_stays_on}
 use Rattle.sim_steps_model.specs.Resting.{rest_of, rest_in, can_arrive}
 use Rattle.sim_steps_model.specs.declared.mode.Rest.{Rest}
 use Rattle.sim_steps_model.specs.declared.mode.Rest.TheVariants as rest

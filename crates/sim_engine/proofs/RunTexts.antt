@@ -16,7 +16,7 @@ use Rattle.sim_machine.specs.Units.{arrive}
 use Rattle.sim_steps_model.specs.PartsOf.{plan_of}
 use Rattle.sim_script_law.specs.ScriptMembers.{script_body}
 use Rattle.sim_machine_law.specs.Courses.{Run, course_after, lines_after}
-use Rattle.sim_machine_law.proofs.LineLaws.{unit_adds}
+use Rattle.sim_machine_law.proofs.RunLaws.LineLaws.{unit_adds}
 use Rattle.sim_script_model.specs.Scripts.{Script}
 use Rattle.sim_script_model.specs.Scenarios.{summary}
 use Rattle.sim_engine.specs.RunOfScenario.{run_of, printed_run}

@@ -11,7 +11,7 @@ use Rattle.sim_types.specs.declared.line.Line.TheVariants as line
 use Rattle.sim_machine.specs.State.{Control, Idle, Calling, Active, Over, State}
 use Rattle.sim_machine.specs.Runs.{opening, logged, total, blank_state}
 use Rattle.sim_machine.specs.Units.{arrive}
-use Rattle.sim_machine_law.proofs.OpeningLaws.{starts_open}
+use Rattle.sim_lawful.proofs.Opening.OpeningLaws.{starts_open}
 use Rattle.sim_steps_model.specs.PartsOf.{PartsOf, plan_of}
 use Rattle.sim_steps_model.specs.Resting.{rest_of, rest_in, can_arrive}
 use Rattle.sim_steps_model.specs.StandsFor.{StandsFor, LawfulOf, StandsForOpening, IsLawfulOpening}

@@ -9,7 +9,7 @@ use Rattle.sim_trace.specs.Texts.{line_text, trace_text}
 use Rattle.sim_machine.specs.State.{State, Plan}
 use Rattle.sim_machine.specs.Steps.{TurnFunction, step_of}
 use Rattle.sim_machine.specs.Units.{Course}
-use Rattle.sim_machine_law.proofs.LineLaws.{unit_adds}
+use Rattle.sim_machine_law.proofs.RunLaws.LineLaws.{unit_adds}
 use Rattle.sim_steps_model.specs.PartsOf.{PartsOf, IsOpenedAs, plan_of}
 use Rattle.sim_script_model.specs.Scripts.{Script}
 use Rattle.sim_script_model.specs.Polls.{script_turn}

@@ -5,10 +5,10 @@ use Rattle.std.proofs.lemmas.List.{set-get_or}
 use Rattle.sim_types.specs.declared.event.EventId.{EventId}
 use Rattle.sim_types.specs.declared.event.Callback.{Callback}
 use Rattle.sim_machine.specs.Standing.{one_if}
-use Rattle.sim_chains.specs.Callbacks.{is_same_callback}
-use Rattle.sim_chains.proofs.Links.{without_none}
-use Rattle.sim_events.specs.TableOf.{Kept, TableOf, IsKept, kept_at}
-use Rattle.sim_events.specs.Changes.{change_kept, without_callback}
+use Rattle.sim_machine.specs.Callbacks.{is_same_callback}
+use Rattle.sim_callbacks.proofs.Links.{without_none}
+use Rattle.sim_happen_model.specs.TableOf.{Kept, TableOf, IsKept, kept_at}
+use Rattle.sim_happen_model.specs.Changes.{change_kept, without_callback}
 use Rattle.sim_events.proofs.KeptLists.{kept_is}
 
 abbrev parted : List (Option Kept) → List Callback → ℕ → ℕ → ℕ → TableOf

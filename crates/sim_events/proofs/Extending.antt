@@ -1,5 +1,5 @@
 -- A table that is empty, that has more room, an event more, or other callbacks left to call, is sound.
-use Rattle.sim_events.specs.TableOf.{IsInOrder}
+use Rattle.sim_happen_model.specs.TableOf.{IsInOrder}
 use Rattle.std.proofs.Common.{◌≡◌, ℕ, suc, List, [], ◌∷◌, ◌++◌, Option, Some, None, is_some, refl, sym, ap, ◌∙◌, arith}
 use Rattle.std.specs.Option.{option_map}
 use Rattle.std.proofs.lemmas.Option.{same_Some}
@@ -7,12 +7,12 @@ use Rattle.std.proofs.lemmas.Bool.{false≢true}
 use Rattle.slab.specs.Slab.{Slab, get, HasRoomFor}
 use Rattle.sim_index.specs.IndexOf.{IndexOf, place_of_number}
 use Rattle.sim_machine.specs.State.{ConditionOf}
-use Rattle.sim_chains.specs.declared.chain.Node.{Node}
-use Rattle.sim_chains.specs.declared.chain.Chain.{Chain}
+use Rattle.sim_callbacks.specs.declared.chain.Node.{Node}
+use Rattle.sim_callbacks.specs.declared.chain.Chain.{Chain}
 use Rattle.sim_events.specs.declared.slot.Slot.{Slot}
 use Rattle.sim_events.specs.declared.store.Store.{Store}
-use Rattle.sim_chains.specs.Chains.{Owners, IsEmpty}
-use Rattle.sim_chains.specs.Keeping.{Relinked, KeepsAll}
+use Rattle.sim_callbacks.specs.Chains.{Owners, IsEmpty}
+use Rattle.sim_callbacks.specs.Keeping.{Relinked, KeepsAll}
 use Rattle.sim_events.specs.Slots.{kept_in, condition_in}
 use Rattle.sim_events.specs.Stores.{events_in, IsSoundTable, AddsSlot}
 use Rattle.sim_events.proofs.Nodes.{KeepsNodes, nodes_same}

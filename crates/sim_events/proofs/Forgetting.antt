@@ -6,15 +6,15 @@ use Rattle.slab.specs.Slab.{Slab, get, slab_len, Updates, with_value, HasRoomFor
 use Rattle.sim_index.specs.IndexOf.{IndexOf, place_of_number}
 use Rattle.sim_types.specs.declared.event.EventId.{EventId}
 use Rattle.sim_machine.specs.State.{ConditionOf}
-use Rattle.sim_chains.specs.declared.chain.Chain.{Chain}
+use Rattle.sim_callbacks.specs.declared.chain.Chain.{Chain}
 use Rattle.sim_events.specs.declared.slot.Slot.{Slot}
 use Rattle.sim_events.specs.declared.store.Store.{Store}
-use Rattle.sim_chains.specs.Chains.{callbacks_in, spare_in, IsChain}
-use Rattle.sim_chains.specs.Keeping.{KeepsOthers}
+use Rattle.sim_callbacks.specs.Chains.{callbacks_in, spare_in, IsChain}
+use Rattle.sim_callbacks.specs.Keeping.{KeepsOthers}
 use Rattle.sim_events.specs.Slots.{kept_in, condition_in, is_slot_needed}
 use Rattle.sim_events.specs.Stores.{spare_of, kept_by_key, events_in, table_of, IsStored, ArePlaced, IsSoundTable, GivesBack, ForgetsSlot, FreesPart}
-use Rattle.sim_events.specs.TableOf.{Kept, IsKept, is_needed, is_settled, kept_at, kept_count, kept_and_spare}
-use Rattle.sim_events.specs.Changes.{without_holder, change_or_forget, callbacks_freed, conditions_freed}
+use Rattle.sim_happen_model.specs.TableOf.{Kept, IsKept, is_needed, is_settled, kept_at, kept_count, kept_and_spare}
+use Rattle.sim_happen_model.specs.Changes.{without_holder, change_or_forget, callbacks_freed, conditions_freed}
 use Rattle.sim_events.proofs.Slabs.{with_value_len, there_from}
 use Rattle.sim_events.proofs.Nodes.{nodes_relinked}
 use Rattle.sim_events.proofs.Parts.{KeepsParts, parts_same, parts_updated, free_own}

@@ -4,8 +4,8 @@ use Rattle.std.proofs.lemmas.Bool.{cases_eq, cases_lt, false≢true, lt-ltb}
 use Rattle.std.proofs.lemmas.List.{get_or-set_same, get_or-set_other, get_or_append_left, get_or_push, get_or_past, length_push, set-set, set-get_or}
 use Rattle.std.proofs.lemmas.List.Sums.{sum_by-set}
 use Rattle.sim_types.specs.declared.event.EventId.{EventId}
-use Rattle.sim_events.specs.TableOf.{Kept, kept_at, kept_or_new, IsKept, IsInOrder, AreInOrder, is_needed, is_settled, kept_count}
-use Rattle.sim_events.specs.Changes.{change_kept, change_or_forget, some_if_needed}
+use Rattle.sim_happen_model.specs.TableOf.{Kept, kept_at, kept_or_new, IsKept, IsInOrder, AreInOrder, is_needed, is_settled, kept_count}
+use Rattle.sim_happen_model.specs.Changes.{change_kept, change_or_forget, some_if_needed}
 
 pub kept_within : (events : List (Option Kept)) (e : EventId) → IsKept events e → e.0 < length events
 kept_within events e kept =

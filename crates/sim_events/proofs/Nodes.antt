@@ -2,10 +2,10 @@
 use Rattle.std.proofs.Common.{◌≡◌, ◌≢◌, ℕ, suc, Option, Some, refl, sym, arith}
 use Rattle.std.proofs.lemmas.Option.{same_Some}
 use Rattle.slab.specs.Slab.{Slab}
-use Rattle.sim_chains.specs.declared.chain.Node.{Node}
-use Rattle.sim_chains.specs.declared.chain.Chain.{Chain}
-use Rattle.sim_chains.specs.Chains.{callbacks_in, Owners, IsLinked, IsEmpty}
-use Rattle.sim_chains.specs.Keeping.{Relinked, PassedOn}
+use Rattle.sim_callbacks.specs.declared.chain.Node.{Node}
+use Rattle.sim_callbacks.specs.declared.chain.Chain.{Chain}
+use Rattle.sim_callbacks.specs.Chains.{callbacks_in, Owners, IsLinked, IsEmpty}
+use Rattle.sim_callbacks.specs.Keeping.{Relinked, PassedOn}
 use Rattle.sim_events.specs.declared.slot.Slot.{Slot}
 
 -- the slot of this key is now this, and has its chain; the slots of other keys keep theirs; and these callbacks are left

@@ -7,16 +7,16 @@ use Rattle.sim_types.specs.declared.event.EventId.{EventId}
 use Rattle.sim_types.specs.declared.event.EventKind.{EventKind}
 use Rattle.sim_types.specs.declared.event.Outcome.{Outcome}
 use Rattle.sim_types.specs.declared.event.Outcome.TheVariants as outcome
-use Rattle.sim_chains.specs.declared.chain.Chain.{Chain}
+use Rattle.sim_callbacks.specs.declared.chain.Chain.{Chain}
 use Rattle.sim_machine.specs.State.{ConditionOf, EventOf}
 use Rattle.sim_machine.specs.Events.{pending_event}
 use Rattle.sim_events.specs.declared.slot.Slot.{Slot}
 use Rattle.sim_events.specs.declared.store.Store.{Store}
 use Rattle.sim_events.specs.Slots.{condition_in, new_slot, slot_with_outcome}
-use Rattle.sim_events.specs.TableOf.{new_kept}
+use Rattle.sim_happen_model.specs.TableOf.{new_kept}
 use Rattle.sim_events.proofs.Storing.{kept_with}
 use Rattle.sim_events.specs.Stores.{IsSoundTable}
-use Rattle.sim_events.specs.Changes.{with_outcome}
+use Rattle.sim_happen_model.specs.Changes.{with_outcome}
 use Rattle.sim_events.specs.States.{state_of, state_by}
 use Rattle.sim_events.specs.declared.table.EventState.TheVariants as state
 use Rattle.sim_events.proofs.Rewriting.{Rewrites, rewrites_slot}

@@ -14,7 +14,7 @@ use Rattle.sim_events.specs.declared.slot.Slot.{Slot}
 use Rattle.sim_events.specs.declared.store.Store.{Store}
 use Rattle.sim_events.specs.Slots.{kept_in}
 use Rattle.sim_events.specs.Stores.{kept_by_key, events_in, ArePlaced}
-use Rattle.sim_events.specs.TableOf.{kept_at, kept_or_new, kept_count}
+use Rattle.sim_happen_model.specs.TableOf.{kept_at, kept_or_new, kept_count}
 use Rattle.sim_events.proofs.Slabs.{vacant_apart}
 
 -- ---- an event is read

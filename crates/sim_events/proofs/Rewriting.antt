@@ -8,16 +8,16 @@ use Rattle.slab.proofs.SlabLemmas.{Updates-with_value}
 use Rattle.sim_index.specs.IndexOf.{place_of_number}
 use Rattle.sim_types.specs.declared.event.EventId.{EventId}
 use Rattle.sim_machine.specs.State.{ConditionOf}
-use Rattle.sim_chains.specs.declared.chain.Node.{Node}
-use Rattle.sim_chains.specs.declared.chain.Chain.{Chain}
+use Rattle.sim_callbacks.specs.declared.chain.Node.{Node}
+use Rattle.sim_callbacks.specs.declared.chain.Chain.{Chain}
 use Rattle.sim_events.specs.declared.slot.Slot.{Slot}
 use Rattle.sim_events.specs.declared.store.Store.{Store}
-use Rattle.sim_chains.specs.Chains.{callbacks_in, IsChain, IsEmpty}
-use Rattle.sim_chains.specs.Keeping.{Relinked, MayBePassedOn}
+use Rattle.sim_callbacks.specs.Chains.{callbacks_in, IsChain, IsEmpty}
+use Rattle.sim_callbacks.specs.Keeping.{Relinked, MayBePassedOn}
 use Rattle.sim_events.specs.Slots.{kept_in}
 use Rattle.sim_events.specs.Stores.{events_in, HasPart, IsStored, ArePlaced, IsSoundTable}
-use Rattle.sim_events.specs.TableOf.{Kept, IsKept, IsInOrder, kept_at}
-use Rattle.sim_events.specs.Changes.{change_kept, on_condition, without_holder}
+use Rattle.sim_happen_model.specs.TableOf.{Kept, IsKept, IsInOrder, kept_at}
+use Rattle.sim_happen_model.specs.Changes.{change_kept, on_condition, without_holder}
 use Rattle.sim_events.proofs.Slabs.{with_value_len, there_from}
 use Rattle.sim_events.proofs.Nodes.{KeepsNodes, nodes_same, nodes_relinked, nodes_begun}
 use Rattle.sim_events.proofs.Parts.{condition_written, KeepsParts, parts_same, parts_updated, free_own}

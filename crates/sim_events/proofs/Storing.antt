@@ -5,14 +5,14 @@ use Rattle.std.proofs.lemmas.Bool.{cases_eq}
 use Rattle.slab.specs.Slab.{Slab, get, Updates, HasRoomFor}
 use Rattle.sim_types.specs.declared.event.Callback.{Callback}
 use Rattle.sim_machine.specs.State.{ConditionOf}
-use Rattle.sim_chains.specs.declared.chain.Chain.{Chain}
-use Rattle.sim_chains.specs.declared.chain.Node.{Node}
+use Rattle.sim_callbacks.specs.declared.chain.Chain.{Chain}
+use Rattle.sim_callbacks.specs.declared.chain.Node.{Node}
 use Rattle.sim_events.specs.declared.slot.Slot.{Slot}
 use Rattle.sim_events.specs.declared.store.Store.{Store}
-use Rattle.sim_chains.specs.Keeping.{Relinked, KeepsAll}
+use Rattle.sim_callbacks.specs.Keeping.{Relinked, KeepsAll}
 use Rattle.sim_events.specs.Slots.{kept_in, outcome_in}
 use Rattle.sim_events.specs.Stores.{kept_by_key, IsStored}
-use Rattle.sim_events.specs.TableOf.{Kept}
+use Rattle.sim_happen_model.specs.TableOf.{Kept}
 use Rattle.sim_events.proofs.Nodes.{KeepsNodes}
 use Rattle.sim_events.proofs.Parts.{KeepsParts}
 

@@ -5,13 +5,13 @@ use Rattle.sim_types.specs.declared.event.EventKind.{EventKind}
 use Rattle.sim_types.specs.declared.event.Outcome.{Outcome}
 use Rattle.sim_types.specs.declared.event.Outcome.TheVariants as outcome
 use Rattle.sim_machine.specs.State.{ConditionOf}
-use Rattle.sim_chains.specs.declared.chain.Node.{Node}
-use Rattle.sim_chains.specs.declared.chain.Chain.{Chain}
+use Rattle.sim_callbacks.specs.declared.chain.Node.{Node}
+use Rattle.sim_callbacks.specs.declared.chain.Chain.{Chain}
 use Rattle.sim_events.specs.declared.slot.Stage.{Stage}
 use Rattle.sim_events.specs.declared.slot.Stage.TheVariants as stage
 use Rattle.sim_events.specs.declared.slot.Slot.{Slot}
-use Rattle.sim_chains.specs.Chains.{callbacks_in}
-use Rattle.sim_events.specs.TableOf.{Kept}
+use Rattle.sim_callbacks.specs.Chains.{callbacks_in}
+use Rattle.sim_happen_model.specs.TableOf.{Kept}
 
 abbrev pub outcome_by : Stage → ℤ → ℕ → Option Outcome
 outcome_by stage.Pending value throw = None

@@ -7,13 +7,13 @@ use Rattle.sim_index.specs.IndexOf.{IndexOf, place_of_number, with_number}
 use Rattle.sim_machine.specs.State.{ConditionOf}
 use Rattle.sim_machine.specs.Standing.{one_if}
 use Rattle.sim_types.specs.declared.event.EventId.{EventId}
-use Rattle.sim_chains.specs.declared.chain.Chain.{Chain}
+use Rattle.sim_callbacks.specs.declared.chain.Chain.{Chain}
 use Rattle.sim_events.specs.declared.slot.Slot.{Slot}
 use Rattle.sim_events.specs.declared.store.Store.{Store}
-use Rattle.sim_chains.specs.Chains.{callbacks_in, spare_in, Owners, IsLinked}
+use Rattle.sim_callbacks.specs.Chains.{callbacks_in, spare_in, Owners, IsLinked}
 use Rattle.sim_events.specs.Slots.{kept_in}
-use Rattle.sim_events.specs.TableOf.{Kept, TableOf, AreInOrder, kept_at, kept_and_spare}
-use Rattle.sim_events.specs.Changes.{change_or_forget, callbacks_freed, conditions_freed}
+use Rattle.sim_happen_model.specs.TableOf.{Kept, TableOf, AreInOrder, kept_at, kept_and_spare}
+use Rattle.sim_happen_model.specs.Changes.{change_or_forget, callbacks_freed, conditions_freed}
 
 -- how many more values fit without memory
 abbrev pub spare_of : {X : Type 0} → Slab X → ℕ

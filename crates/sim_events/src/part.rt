@@ -3,7 +3,7 @@ ghost use Rattle.std.specs.List.{list_any};
 ghost use Rattle.sim_machine.specs.State.{Every, Either};
 ghost use Rattle.sim_machine.specs.Events.{is_same};
 ghost use Rattle.sim_machine.specs.Conditions.{is_met};
-ghost use Rattle.sim_events.specs.TableOf.{uncounted};
+ghost use Rattle.sim_happen_model.specs.TableOf.{uncounted};
 
 use sim_types::{EventId, Few, Members};
 use std::marker::Model;

@@ -1,9 +1,9 @@
 ghost use Rattle.std.specs.Prelude.{◌≡◌, ◌-◌, ◌&&◌, not, is_none};
 ghost use Rattle.sim_machine.specs.Events.{is_fail};
-ghost use Rattle.sim_chains.specs.Chains.{IsEmpty};
+ghost use Rattle.sim_callbacks.specs.Chains.{IsEmpty};
 ghost use Rattle.sim_events.specs.Slots.{new_slot, outcome_in, slot_with_outcome, is_slot_needed};
 
-use sim_chains::Chain;
+use sim_callbacks::Chain;
 use sim_types::{EventKind, Outcome, Throw};
 
 /// Whether an event has an outcome, and which.

@@ -1,11 +1,11 @@
 ghost use Rattle.std.specs.Prelude.{◌≡◌, true};
 ghost use Rattle.slab.specs.Slab.{ContainsKey};
-ghost use Rattle.sim_chains.specs.declared.chain.Chain.{Chain};
+ghost use Rattle.sim_callbacks.specs.declared.chain.Chain.{Chain};
 ghost use Rattle.sim_events.specs.Stores.{IsStore, IsStored, GivesBack, FreesPart};
 
 use crate::part::Part;
 use crate::slot::Slot;
-use sim_chains::Nodes;
+use sim_callbacks::Nodes;
 use slab::Slab;
 
 /// The slots of the events that are kept, the nodes of their callbacks and of those that are left to call, and what

@@ -3,13 +3,13 @@ ghost use Rattle.std.specs.List.{list_any};
 ghost use Rattle.sim_machine.specs.Events.{pending_event, without_first};
 ghost use Rattle.sim_machine.specs.Standing.{one_if};
 ghost use Rattle.sim_machine.specs.Users.{first_of_list};
-ghost use Rattle.sim_chains.specs.Callbacks.{is_same_callback};
-ghost use Rattle.sim_events.specs.TableOf.{new_kept, first_kept, kept_at, IsKept, AreNeeded, kept_count, kept_and_spare};
-ghost use Rattle.sim_events.specs.Changes.{with_outcome, with_defused, with_processed, with_cancelled, with_callback, without_callback, with_holder, change_kept, change_or_forget, callbacks_freed, conditions_freed, more_events, more_callbacks};
+ghost use Rattle.sim_machine.specs.Callbacks.{is_same_callback};
+ghost use Rattle.sim_happen_model.specs.TableOf.{new_kept, first_kept, kept_at, IsKept, AreNeeded, kept_count, kept_and_spare};
+ghost use Rattle.sim_happen_model.specs.Changes.{with_outcome, with_defused, with_processed, with_cancelled, with_callback, without_callback, with_holder, change_kept, change_or_forget, callbacks_freed, conditions_freed, more_events, more_callbacks};
 ghost use Rattle.sim_events.specs.States.{state_of};
 ghost use Rattle.sim_events.specs.declared.table.EventState.TheVariants as state;
 ghost use Rattle.sim_events.specs.Stores.{IsStore, IsStored, ArePlaced, ForgetsSlot, AddsSlot};
-ghost use Rattle.sim_chains.specs.declared.chain.Chain.{Chain};
+ghost use Rattle.sim_callbacks.specs.declared.chain.Chain.{Chain};
 ghost use Rattle.sim_index.specs.IndexOf.{place_of_number};
 ghost use Rattle.slab.specs.Slab.{HasRoomFor};
 
@@ -18,7 +18,7 @@ mod holding;
 
 use crate::slot::Slot;
 use crate::store::Store;
-use sim_chains::{Chain, Nodes};
+use sim_callbacks::{Chain, Nodes};
 use sim_index::Index;
 use sim_types::{Callback, EventId, EventKind, Outcome};
 use slab::Slab;
@@ -53,7 +53,7 @@ pub struct Table {
 }
 
 impl Model for Table {
-    ghost use Rattle.sim_events.specs.TableOf.{TableOf};
+    ghost use Rattle.sim_happen_model.specs.TableOf.{TableOf};
 
     ghost Value = { TableOf };
 

@@ -4,7 +4,7 @@ ghost use Rattle.std.specs.List.{list_any};
 ghost use Rattle.sim_machine.specs.Conditions as conditions;
 ghost use Rattle.sim_machine.specs.Events as events;
 ghost use Rattle.sim_machine.specs.State.{Calendar};
-ghost use Rattle.sim_events.specs.TableOf.{IsKept, kept_at};
+ghost use Rattle.sim_happen_model.specs.TableOf.{IsKept, kept_at};
 ghost use Rattle.sim_happen_model.specs.HappenOf.{KeepsRoom};
 ghost use Rattle.sim_happen_model.specs.Shows.{Shows, Follows};
 ghost use Rattle.sim_happen_model.specs.Sound.{weight_in};

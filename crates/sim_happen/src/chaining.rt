@@ -3,8 +3,8 @@ ghost use Rattle.std.specs.Prelude.{◌≡◌, ◌↔◌, ℕ, ◌+◌, ◌<◌,
 ghost use Rattle.sim_types.specs.declared.event.Callback.TheVariants as callback;
 ghost use Rattle.sim_machine.specs.Effect as effect;
 ghost use Rattle.sim_machine.specs.Events as events;
-ghost use Rattle.sim_events.specs.TableOf.{IsKept, kept_at};
-ghost use Rattle.sim_events.specs.Changes.{more_callbacks};
+ghost use Rattle.sim_happen_model.specs.TableOf.{IsKept, kept_at};
+ghost use Rattle.sim_happen_model.specs.Changes.{more_callbacks};
 ghost use Rattle.sim_happen_model.specs.HappenOf.{one_more, KeepsRoom};
 ghost use Rattle.sim_happen_model.specs.Holders.{HasOwnHolder, SameMemberships, PassesOn};
 ghost use Rattle.sim_happen_model.specs.Shows.{Turns, Follows};

@@ -5,7 +5,7 @@ ghost use Rattle.sim_machine.specs.Conditions as conditions;
 ghost use Rattle.sim_machine.specs.Events as events;
 ghost use Rattle.sim_machine.specs.State.{Calendar, Every, Either};
 ghost use Rattle.sim_machine.specs.Triggering as triggering;
-ghost use Rattle.sim_events.specs.TableOf.{IsKept, kept_at, kept_condition};
+ghost use Rattle.sim_happen_model.specs.TableOf.{IsKept, kept_at, kept_condition};
 ghost use Rattle.sim_happen_model.specs.HappenOf.{AreHeldByFew, KeepsRoom, one_more_each, holding};
 ghost use Rattle.sim_happen_model.specs.Holders.{AreOwed};
 ghost use Rattle.sim_happen_model.specs.Sound.{weight_in};

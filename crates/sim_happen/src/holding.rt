@@ -1,8 +1,8 @@
 //! How a holder is given back, with what the event held as a condition.
 ghost use Rattle.std.specs.Prelude.{◌≡◌, ◌⊎◌, [], IsTrue, IsFalse};
 ghost use Rattle.sim_events.specs.States.{is_unhandled};
-ghost use Rattle.sim_events.specs.TableOf.{IsKept, is_needed, kept_at};
-ghost use Rattle.sim_events.specs.Changes.{without_holder};
+ghost use Rattle.sim_happen_model.specs.TableOf.{IsKept, is_needed, kept_at};
+ghost use Rattle.sim_happen_model.specs.Changes.{without_holder};
 ghost use Rattle.sim_happen_model.specs.HappenOf.{KeepsRoom};
 ghost use Rattle.sim_happen_model.specs.Holders.{HasOwnHolder, members_in, unheld_within, unheld};
 

@@ -2,8 +2,8 @@
 ghost use Rattle.std.specs.Prelude.{◌≡◌, ◌↔◌, ℕ, ◌+◌, ◌<◌, ◌≤◌, ◌^◌, pos, ◌≤ℤ◌, ◌<ℤ◌, ◌+ℤ◌, length, None, IsSome, IsFalse, IsErr, IsErrOf, IfOk, OnOk, OnErr};
 ghost use Rattle.sim_machine.specs.Events as events;
 ghost use Rattle.sim_machine.specs.Triggering as triggering;
-ghost use Rattle.sim_events.specs.TableOf.{IsKept, kept_at};
-ghost use Rattle.sim_events.specs.Changes.{more_events, more_callbacks};
+ghost use Rattle.sim_happen_model.specs.TableOf.{IsKept, kept_at};
+ghost use Rattle.sim_happen_model.specs.Changes.{more_events, more_callbacks};
 ghost use Rattle.sim_happen_model.specs.HappenOf.{IsOpen, unheld_event};
 ghost use Rattle.sim_happen_model.specs.Shows.{Turns, Follows};
 

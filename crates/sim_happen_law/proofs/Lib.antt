@@ -1,25 +1,8 @@
-pub mod Signed
-pub mod KeptPlaces
-pub mod SeenShown
-pub mod TakenCallbacks
+-- what is shown of a calendar
 pub mod Shown
-pub mod Held
-pub mod Following
-pub mod Due
-pub mod Soundness
-pub mod Spares
-pub mod PoppedEntries
-pub mod NewEvents
-pub mod MadeScheduled
-pub mod Judging
-pub mod Shutting
-pub mod Unholding
-pub mod Memberships
-pub mod TakingChecks
-pub mod TakenResumptions
-pub mod Weights
-pub mod HoldingEach
-pub mod NewConditions
-pub mod Joining
-pub mod MadeConditions
-pub mod Gathering
+-- what each change of events and holders keeps
+pub mod Changes
+-- the entry that is due
+pub mod Entries
+-- conditions: members, weights, checks and values
+pub mod Conditions

@@ -2,7 +2,7 @@
 ghost use Rattle.std.specs.Prelude.{◌≡◌};
 ghost use Rattle.sim_types.specs.declared.event.EventId.{EventId};
 ghost use Rattle.sim_machine.specs.State.{Calendar};
-ghost use Rattle.sim_events.specs.TableOf.{IsKept};
+ghost use Rattle.sim_happen_model.specs.TableOf.{IsKept};
 ghost use Rattle.sim_happen_model.specs.Shows.{Shows};
 ghost use Rattle.sim_happen_model.specs.Seen.{seen, SayAlike};
 ghost use Rattle.sim_happen_model.specs.HappenOf.{HappenOf};

@@ -2,7 +2,7 @@
 use Rattle.std.specs.Prelude.{◌≡◌, ℕ, zero, suc, List, [], ◌∷◌, ◌++◌, filter, flat_map, Option, is_some, if◌then◌else◌}
 use Rattle.sim_types.specs.declared.event.EventId.{EventId}
 use Rattle.sim_machine.specs.Conditions.{first_places}
-use Rattle.sim_events.specs.TableOf.{Kept, kept_at, kept_condition}
+use Rattle.sim_happen_model.specs.TableOf.{Kept, kept_at, kept_condition}
 
 -- the events that are no conditions, of which e is made, down to this depth
 abbrev pub leaves_in : ℕ → List (Option Kept) → EventId → List EventId

@@ -4,8 +4,8 @@ use Rattle.std.specs.Option.{option_map}
 use Rattle.sim_types.specs.declared.event.EventId.{EventId}
 use Rattle.sim_types.specs.declared.event.Callback.{Callback}
 use Rattle.sim_types.specs.declared.event.Entry.{Entry}
-use Rattle.sim_events.specs.TableOf.{Kept, Spare, IsKept, kept_at, kept_count}
-use Rattle.sim_events.specs.Changes.{change_kept, with_holder}
+use Rattle.sim_happen_model.specs.TableOf.{Kept, Spare, IsKept, kept_at, kept_count}
+use Rattle.sim_happen_model.specs.Changes.{change_kept, with_holder}
 
 -- the time and how many entries the agenda was ever given; the entries, in no order that counts; every event ever made,
 -- None where it is no longer kept; the callbacks that are left to call; and for how much more there is room

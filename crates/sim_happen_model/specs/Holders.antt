@@ -8,8 +8,8 @@ use Rattle.sim_machine.specs.Effect.{pass_on}
 use Rattle.sim_happen_model.specs.HappenOf.{HappenOf}
 use Rattle.sim_happen_model.specs.Shows.{Follows}
 use Rattle.sim_machine.specs.Conditions.{condition_of}
-use Rattle.sim_events.specs.TableOf.{Kept, kept_at, kept_or_new, is_needed}
-use Rattle.sim_events.specs.Changes.{without_holder}
+use Rattle.sim_happen_model.specs.TableOf.{Kept, kept_at, kept_or_new, is_needed}
+use Rattle.sim_happen_model.specs.Changes.{without_holder}
 
 -- the members of an event that is kept
 abbrev pub members_in : Kept → List EventId

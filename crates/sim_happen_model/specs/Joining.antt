@@ -6,7 +6,7 @@ use Rattle.sim_machine.specs.State.{AllOrAny, EventOf, Calendar}
 use Rattle.sim_machine.specs.Events.{change_event}
 use Rattle.sim_machine.specs.Triggering.{make}
 use Rattle.sim_machine.specs.Conditions.{condition_of}
-use Rattle.sim_events.specs.TableOf.{Spare, uncounted}
+use Rattle.sim_happen_model.specs.TableOf.{Spare, uncounted}
 use Rattle.sim_happen_model.specs.HappenOf.{HappenOf}
 
 -- the event e is made, a condition whose members are yet to join it

@@ -3,7 +3,7 @@ use Rattle.std.specs.Prelude.{◌≡◌, ℕ, ◌+◌, List, [], ◌∷◌, ◌+
 use Rattle.sim_types.specs.declared.event.EventId.{EventId}
 use Rattle.sim_machine.specs.State.{EventOf, Registration, Calendar}
 use Rattle.sim_machine.specs.Events.{event_at, callbacks_of}
-use Rattle.sim_events.specs.TableOf.{Kept, kept_or_new}
+use Rattle.sim_happen_model.specs.TableOf.{Kept, kept_or_new}
 use Rattle.sim_happen_model.specs.HappenOf.{HappenOf}
 
 -- the event, or a blank one

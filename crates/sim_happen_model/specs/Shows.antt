@@ -8,7 +8,7 @@ use Rattle.sim_machine.specs.State.{Calendar}
 use Rattle.sim_machine.specs.Events.{event_at, callbacks_of}
 use Rattle.sim_machine.specs.Agenda.{due, popped}
 use Rattle.sim_machine.specs.Steps.{line_of}
-use Rattle.sim_events.specs.TableOf.{Kept, IsKept, kept_at}
+use Rattle.sim_happen_model.specs.TableOf.{Kept, IsKept, kept_at}
 use Rattle.sim_happen_model.specs.HappenOf.{HappenOf, held, as_before, one_more}
 
 -- an event is kept as the calendar has it, with its callbacks in order

@@ -6,8 +6,8 @@ use Rattle.sim_types.specs.declared.event.Entry.{Entry}
 use Rattle.sim_machine.specs.Events.{is_same}
 use Rattle.sim_machine.specs.Conditions.{most_weight}
 use Rattle.sim_machine.specs.Standing.{one_if}
-use Rattle.sim_agenda.specs.Agendas.{AgendaOf}
-use Rattle.sim_events.specs.TableOf.{Kept, TableOf, Spare, kept_at, kept_or_new, kept_condition}
+use Rattle.sim_happen_model.specs.Agendas.{AgendaOf}
+use Rattle.sim_happen_model.specs.TableOf.{Kept, TableOf, Spare, kept_at, kept_or_new, kept_condition}
 use Rattle.sim_happen_model.specs.HappenOf.{HappenOf}
 use Rattle.sim_happen_model.specs.Holders.{AreOwed}
 

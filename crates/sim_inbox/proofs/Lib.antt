@@ -1,9 +1,9 @@
 pub mod Lists
 pub mod Untaken
+pub mod NewPosters
 mod Closed
 mod Deliveries
 mod Draining
 mod InOrder
 mod Joining
-mod NewPosters
 mod TakenNext

@@ -5,8 +5,6 @@ mod posting;
 mod queue;
 mod rule;
 mod taken;
-#[cfg(test)]
-mod tests;
 
 pub use posting::{CloseRefused, Inbox, PostFault, Posting, Taking};
 pub use queue::{QueueInbox, QueuePoster, QueueTaker, new_queue};

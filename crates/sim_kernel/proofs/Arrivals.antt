@@ -8,9 +8,9 @@ use Rattle.sim_machine.specs.Bodies.{BodyOf}
 use Rattle.sim_machine.specs.Effect.{calendar}
 use Rattle.sim_machine.specs.Setups.{FitsCode}
 use Rattle.sim_machine.specs.Units.{arrive, Course}
-use Rattle.sim_machine_law.proofs.MadeEvents.{MakesFew}
-use Rattle.sim_machine_law.proofs.WholeSteps.{lawful_arrival}
-use Rattle.sim_events.specs.TableOf.{AreNeeded}
+use Rattle.sim_lawful.proofs.Units.MadeEvents.{MakesFew}
+use Rattle.sim_lawful.proofs.Units.WholeSteps.{lawful_arrival}
+use Rattle.sim_happen_model.specs.TableOf.{AreNeeded}
 use Rattle.sim_happen_model.specs.HappenOf.{held}
 use Rattle.sim_steps_model.specs.PartsOf.{PartsOf, KeepsButRoom, plan_of}
 use Rattle.sim_steps_model.specs.StandsFor.{Balances, StandsFor, LawfulOf}
@@ -18,11 +18,11 @@ use Rattle.sim_steps_model.specs.Becoming.{AreFew, BecomesWith, most_held}
 use Rattle.sim_steps_model.specs.Opening.{most_begun}
 use Rattle.sim_kernel.specs.Arriving.{MakesArrival}
 use Rattle.sim_kernel.specs.Holding.{Holds, most_opened}
-use Rattle.sim_steps_law.proofs.Keeping.{few_weaker}
-use Rattle.sim_steps_law.proofs.Becoming.{lawful_stands}
-use Rattle.sim_steps_law.proofs.Rooms.{roomier_balances, roomier_held, roomier_lawful, roomier_stands}
-use Rattle.sim_steps_law.proofs.Running.{KeepsLaw}
-use Rattle.sim_steps_law.proofs.Starting.{of_process_events}
+use Rattle.sim_steps_law.proofs.Kernels.Keeping.{few_weaker}
+use Rattle.sim_steps_law.proofs.Kernels.Becoming.{lawful_stands}
+use Rattle.sim_steps_law.proofs.Kernels.Rooms.{roomier_balances, roomier_held, roomier_lawful, roomier_stands}
+use Rattle.sim_steps_law.proofs.Kernels.Running.{KeepsLaw}
+use Rattle.sim_steps_law.proofs.Starts.Starting.{of_process_events}
 use Rattle.sim_kernel.proofs.UnitSteps.{accounts_balance, balance_accounts, opened_lawful, opened_through, unit_bounded}
 
 -- it makes two events, and processes none

@@ -6,7 +6,7 @@ use Rattle.sim_machine.specs.State.{Plan, State}
 use Rattle.sim_machine.specs.Bodies.{BodyOf}
 use Rattle.sim_machine.specs.Runs.{blank_state, start_process, opening}
 use Rattle.sim_machine.specs.Setups.{FitsCode}
-use Rattle.sim_machine_law.proofs.WholeSteps.{lawful_opening}
+use Rattle.sim_lawful.proofs.Units.WholeSteps.{lawful_opening}
 use Rattle.sim_happen_model.specs.HappenOf.{held}
 use Rattle.sim_steps_model.specs.PartsOf.{PartsOf, plan_of}
 use Rattle.sim_steps_model.specs.StandsFor.{LawfulOf}
@@ -14,8 +14,8 @@ use Rattle.sim_steps_model.specs.Becoming.{most_held}
 use Rattle.sim_steps_model.specs.Opening.{most_begun}
 use Rattle.sim_kernel.specs.Holding.{Holds, most_opened}
 use Rattle.sim_kernel.specs.Opening.{with_starts}
-use Rattle.sim_steps_law.proofs.Keeping.{few_weaker}
-use Rattle.sim_steps_law.proofs.Running.{KeepsLaw}
+use Rattle.sim_steps_law.proofs.Kernels.Keeping.{few_weaker}
+use Rattle.sim_steps_law.proofs.Kernels.Running.{KeepsLaw}
 use Rattle.sim_kernel.proofs.StartingAll.{events_of_starts}
 use Rattle.sim_kernel.proofs.Stopping.{IsOpened, stop_events}
 

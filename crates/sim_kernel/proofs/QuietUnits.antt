@@ -1,7 +1,7 @@
 -- Units in a row, in which a process asks for nothing but in the last, are as many steps of the machine.
 use Rattle.std.proofs.Common.{◌≡◌, ℕ, zero, suc, ◌+◌, refl, sym, ap, ◌∙◌, subst, arith}
 use Rattle.sim_machine.specs.Bodies.{BodyOf}
-use Rattle.sim_events.specs.TableOf.{AreNeeded}
+use Rattle.sim_happen_model.specs.TableOf.{AreNeeded}
 use Rattle.sim_procs.specs.QuietPolls.{InARow}
 use Rattle.sim_steps_model.specs.declared.mode.Unit.{Unit}
 use Rattle.sim_steps_model.specs.declared.mode.Unit.TheVariants as unit
@@ -9,9 +9,9 @@ use Rattle.sim_steps_model.specs.PartsOf.{PartsOf, IsOpenedAs, KeepsButRoom}
 use Rattle.sim_steps_model.specs.QuietUnits.{MovesQuietly, MovesAtLast}
 use Rattle.sim_kernel.specs.Holding.{Holds}
 use Rattle.sim_kernel.specs.Stepping.{MakesQuietStep, MakesSteps}
-use Rattle.sim_steps_law.proofs.Accounting.{opened_then}
-use Rattle.sim_steps_law.proofs.Rooms.{as_roomy}
-use Rattle.sim_steps_law.proofs.Running.{KeepsLaw}
+use Rattle.sim_steps_law.proofs.Kernels.Accounting.{opened_then}
+use Rattle.sim_steps_law.proofs.Kernels.Rooms.{as_roomy}
+use Rattle.sim_steps_law.proofs.Kernels.Running.{KeepsLaw}
 use Rattle.sim_kernel.proofs.UnitSteps.{opened_through, unit_holds, unit_steps}
 
 -- so many quiet units were made where room was made first: as many quiet steps lead from the old kernel to one that differs

@@ -21,8 +21,8 @@ use Rattle.sim_steps_model.specs.StandsFor.{Balances, StandsFor, process_of}
 use Rattle.sim_steps_model.specs.Becoming.{AreFew, BecomesWith, Stands}
 use Rattle.sim_steps_model.specs.Opening.{IsOpening, KeepsButProcesses, most_begun}
 use Rattle.sim_kernel.specs.Opening.{HasStarted, with_starts}
-use Rattle.sim_steps_law.proofs.Keeping.{few_weaker}
-use Rattle.sim_steps_law.proofs.Starting.{of_process_events}
+use Rattle.sim_steps_law.proofs.Kernels.Keeping.{few_weaker}
+use Rattle.sim_steps_law.proofs.Starts.Starting.{of_process_events}
 
 -- ---- before any process is made
 

@@ -15,10 +15,10 @@ use Rattle.sim_machine.specs.Scopes.{on_events}
 use Rattle.sim_machine.specs.Setups.{FitsCode, until_fits}
 use Rattle.sim_machine.specs.Tellings.{CodeFacts}
 use Rattle.sim_machine.specs.Runs.{set_stop, opening}
-use Rattle.sim_machine_law.proofs.EventLaws.{change_event-length, make-length}
-use Rattle.sim_machine_law.proofs.OpeningLaws.{Opens, starts_open}
+use Rattle.sim_machine_law.proofs.Events.EventLaws.{change_event-length, make-length}
+use Rattle.sim_lawful.proofs.Opening.OpeningLaws.{Opens, starts_open}
 use Rattle.sim_happen_model.specs.HappenOf.{held}
-use Rattle.sim_happen_law.proofs.Following.{read_is}
+use Rattle.sim_happen_law.proofs.Changes.Following.{read_is}
 use Rattle.sim_shared_model.specs.Making.{unheld_events}
 use Rattle.sim_steps_model.specs.Becoming.{AreFew, Becomes, Stands}
 use Rattle.sim_steps_model.specs.Opening.{CanStop, KeepsButProcesses, SetsStop, most_begun}
@@ -26,10 +26,10 @@ use Rattle.sim_steps_model.specs.PartsOf.{PartsOf, KeepsButHappen, plan_of}
 use Rattle.sim_steps_model.specs.StandsFor.{Balances, StandsFor, StandsForOpening}
 use Rattle.sim_kernel.specs.Opening.{HasStarted, with_starts}
 use Rattle.sim_accounts.proofs.CalendarChanges.{plainly_stop}
-use Rattle.sim_steps_law.proofs.Keeping.{adds_unheld, few_weaker}
-use Rattle.sim_steps_law.proofs.Accounting.{keeps_unheld}
-use Rattle.sim_steps_law.proofs.Becoming.{becomes_turned}
-use Rattle.sim_steps_law.proofs.CountedHolders.{owing_named}
+use Rattle.sim_steps_law.proofs.Kernels.Keeping.{adds_unheld, few_weaker}
+use Rattle.sim_steps_law.proofs.Kernels.Accounting.{keeps_unheld}
+use Rattle.sim_steps_law.proofs.Kernels.Becoming.{becomes_turned}
+use Rattle.sim_steps_law.proofs.Holders.CountedHolders.{owing_named}
 
 -- ---- a run can be stopped as its setup says
 

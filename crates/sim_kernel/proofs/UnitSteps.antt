@@ -3,9 +3,9 @@ use Rattle.std.proofs.Common.{ℕ, ◌+◌, ◌*◌, ◌≤◌, ◌≡◌, [], r
 use Rattle.sim_machine.specs.State.{State}
 use Rattle.sim_machine.specs.Bodies.{BodyOf}
 use Rattle.sim_machine.specs.Setups.{FitsCode}
-use Rattle.sim_machine_law.proofs.WholeSteps.{lawful_step}
-use Rattle.sim_machine_law.proofs.MadeEvents.{MakesFew, step_makes}
-use Rattle.sim_events.specs.TableOf.{AreNeeded}
+use Rattle.sim_lawful.proofs.Units.WholeSteps.{lawful_step}
+use Rattle.sim_lawful.proofs.Units.MadeEvents.{MakesFew, step_makes}
+use Rattle.sim_happen_model.specs.TableOf.{AreNeeded}
 use Rattle.sim_happen_model.specs.HappenOf.{held}
 use Rattle.sim_steps_model.specs.declared.mode.Unit.{Unit}
 use Rattle.sim_steps_model.specs.PartsOf.{PartsOf, IsOpenedAs, KeepsButRoom, plan_of}
@@ -14,10 +14,10 @@ use Rattle.sim_steps_model.specs.Becoming.{AreFew, Moves, most_held}
 use Rattle.sim_kernel.specs.Holding.{Holds, IsBounded, most_opened, most_made}
 use Rattle.sim_kernel.specs.Accounting.{HasAccounts}
 use Rattle.sim_kernel.specs.Stepping.{MakesStep}
-use Rattle.sim_steps_law.proofs.Keeping.{few_weaker}
-use Rattle.sim_steps_law.proofs.Accounting.{opened_then}
-use Rattle.sim_steps_law.proofs.Rooms.{roomier_balances, roomier_held, roomier_lawful, roomier_stands}
-use Rattle.sim_steps_law.proofs.Running.{KeepsLaw}
+use Rattle.sim_steps_law.proofs.Kernels.Keeping.{few_weaker}
+use Rattle.sim_steps_law.proofs.Kernels.Accounting.{opened_then}
+use Rattle.sim_steps_law.proofs.Kernels.Rooms.{roomier_balances, roomier_held, roomier_lawful, roomier_stands}
+use Rattle.sim_steps_law.proofs.Kernels.Running.{KeepsLaw}
 
 -- ---- the state after a unit is lawful, since the machine keeps what is lawful
 

@@ -3,7 +3,7 @@ use Rattle.std.specs.Prelude.{ℕ, length}
 use Rattle.sim_machine.specs.State.{State}
 use Rattle.sim_machine.specs.Bodies.{BodyOf}
 use Rattle.sim_machine.specs.KeptEvents.{kept_events}
-use Rattle.sim_accounts.specs.Accounts.{Accounts}
+use Rattle.sim_happen_model.specs.Accounts.{Accounts}
 use Rattle.sim_steps_model.specs.PartsOf.{PartsOf}
 
 -- the accounts of holders are right for s, a state of the machine that the kernel was opened with

@@ -8,8 +8,6 @@ mod poster;
 mod rule;
 mod steps;
 mod taker;
-#[cfg(test)]
-mod tests;
 mod view;
 
 pub use lane_end::LaneEnd;

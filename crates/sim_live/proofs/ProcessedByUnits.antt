@@ -14,7 +14,7 @@ use Rattle.sim_machine.specs.Steps.{TurnFunction, poll_if_any, pop_if_any, step_
 use Rattle.sim_machine.specs.Units.{Course, due_arrival, unit_at}
 use Rattle.sim_machine.specs.Runs.{after_units, blank_state, opening_course, start_process}
 use Rattle.sim_machine_law.specs.Courses.{Run, course_after}
-use Rattle.sim_machine_law.proofs.JournalLaws.{call_or_settle_processed, effect_processed}
+use Rattle.sim_machine_law.proofs.RunLaws.JournalLaws.{call_or_settle_processed, effect_processed}
 
 -- ---- a unit processes one event at most
 

@@ -2,6 +2,7 @@ pub mod Keys
 pub mod Choices
 pub mod State
 pub mod Events
+pub mod Callbacks
 pub mod Agenda
 pub mod Triggering
 pub mod Conditions

@@ -46,17 +46,6 @@ pub fn counted_members()
         is_pending c cond ≡ false → check cond member c ≡ c }
 {}
 
-/// Once an ok condition is built its value stays what was processed by then, before anyone who waits for it goes on; an event
-/// is in the value of a processed condition that is ok, and of no other (SimPy's "Events", ConditionValue).
-pub fn fixed_values()
-    ensures fixed { (cond : _) (c : _) → cond.0 < length c.events →
-        is_fail (event_at c cond).outcome ≡ false →
-        (condition_at (build cond c) cond).value ≡ value_of cond c }
-    ensures failed { (cond : _) (c : _) → is_fail (event_at c cond).outcome ≡ true →
-        (condition_at (build cond c) cond).value ≡ (condition_at c cond).value }
-    ensures had { (cond : _) (e : _) (c : _) → (has cond e c ≡ true) ↔ HasInValue c cond e }
-{}
-
 /// A condition weighs one more than its members together, and an event that is no condition weighs one; a condition that
 /// would weigh more than the most is refused (this project's own: SimPy has no such bound).
 pub fn weights()

@@ -2,9 +2,6 @@ ghost use Rattle.std.specs.Prelude.{◌≡◌, ◌+◌, ℕ, Some};
 ghost use Rattle.sim_machine.specs.State.{User, Facilities};
 ghost use Rattle.sim_machine.specs.Trying.{preempt};
 ghost use Rattle.sim_machine_law.specs.Courses.{Run, AddsAtMostOne, EndsBy, GoesOnFrom, HasOneLineMore, UsesNoMore, lines_after, trace_after};
-ghost use Rattle.sim_machine_law.specs.LawfulRuns.{IsRunOf, StaysLawful, UsersFit, LevelsFromZero, LevelsFit, ItemsFit};
-
-use sim_machine::LawfulBody;
 
 /// A trace is the lines of the run and a last line, on its end; and with a greater limit the lines stay and others come behind
 /// them. So a trace without its last line begins each trace with a greater limit, and from the end of the run on the whole
@@ -16,21 +13,6 @@ pub fn trace_grows<B>()
     // For any limit and any greater one, in the words of traces alone.
     ensures begins { (r : Run B) (n k : ℕ) → GoesOnFrom (trace_after r n) (trace_after r (n + k)) }
     ensures ended { (r : Run B) (n k : ℕ) → EndsBy r n → trace_after r (n + k) ≡ trace_after r n }
-{}
-
-/// Each state that a run comes to is lawful, where the setup is for the code, the bodies' turns are among those of the law, and
-/// all arrivals come in by ports that there are. (Lawful states are this project's own.)
-pub fn lawful_run<B: LawfulBody>()
-    ensures run { (code : B.Code) (r : Run B) → IsRunOf B.body code r → StaysLawful B.body code r }
-{}
-
-/// In each state that such a run comes to, a resource has no more users than its capacity, a container holds from 0 to its
-/// capacity, and a store has no more items than its capacity (SimPy's "Shared resources").
-pub fn within_capacity<B: LawfulBody>()
-    ensures users { (code : B.Code) (r : Run B) → IsRunOf B.body code r → UsersFit r }
-    ensures levels_low { (code : B.Code) (r : Run B) → IsRunOf B.body code r → LevelsFromZero r }
-    ensures levels_high { (code : B.Code) (r : Run B) → IsRunOf B.body code r → LevelsFit r }
-    ensures items { (code : B.Code) (r : Run B) → IsRunOf B.body code r → ItemsFit r }
 {}
 
 /// A preemption ends the use of its victim: after it no user of the resource has the victim's request (SimPy's "Shared

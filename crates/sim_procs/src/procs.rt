@@ -9,10 +9,10 @@ ghost use Rattle.sim_procs.specs.Indexed.{IsFoundSomewhere, SetsPlace, found_the
 use crate::record::ProcRecord;
 use crate::scopes::Scopes;
 use sim_index::Index;
-use sim_memo::Memo;
 use sim_types::{EventId, ProcId, Scope};
 use std::alloc::{AllocError, Global};
 use std::marker::Model;
+use std::snapshot::Snapshot;
 
 /// The live processes, each with its body, its target and its open scopes. It must be spent by `abandon`.
 pub struct Procs<B> {
@@ -28,7 +28,7 @@ pub struct Procs<B> {
     // Where the record of each process stands.
     index: Index,
     // How many scopes find room in each record.
-    room: Memo<usize>,
+    room: Snapshot<usize>,
 }
 
 // How many hints there are at least, once there is room: among few, too many numbers would share theirs.
@@ -61,7 +61,7 @@ impl<B> Procs<B> {
             sought: 0,
             hints: Vec::new(alloc),
             index: Index::new(alloc),
-            room: Memo::of(&room),
+            room: Snapshot::of(&room),
         })
     }
 

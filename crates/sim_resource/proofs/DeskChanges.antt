@@ -15,15 +15,16 @@ use Rattle.sim_machine.specs.Events.{is_same}
 use Rattle.sim_machine.specs.Keys.{is_served_first}
 use Rattle.sim_machine.specs.Choices.{best_from}
 use Rattle.sim_machine.specs.Users.{last_served}
-use Rattle.sim_resource.specs.declared.kind.DeskKind.{DeskKind}
-use Rattle.sim_resource.specs.declared.queue.WaitingRequest.{WaitingRequest}
-use Rattle.sim_resource.specs.Attempts.{waiting_but, users_but}
-use Rattle.sim_resource.specs.Sorting.{put_behind, queue_joined, waits_before, IsInOrderBy}
-use Rattle.sim_resource.specs.DeskOf.{goes_by_keys}
+use Rattle.sim_shared_model.specs.declared.desk.DeskKind.{DeskKind}
+use Rattle.sim_shared_model.specs.declared.desk.WaitingRequest.{WaitingRequest}
+use Rattle.sim_shared_model.specs.Attempts.{waiting_but, users_but}
+use Rattle.sim_shared_model.specs.Sorting.{put_behind, IsInOrderBy}
+use Rattle.sim_resource.specs.QueueOrder.{queue_joined, waits_before}
+use Rattle.sim_shared_model.specs.DeskOf.{goes_by_keys}
 use Rattle.sim_resource.specs.GrantOrder.{UsersOf}
 use Rattle.sim_resource.specs.SoundDesks.{AreApart, IsSoundDesk}
 use Rattle.sim_resource.proofs.Keys.{waits_ordered}
-use Rattle.sim_resource.proofs.StableSorts.{same_behind, behind_in_order}
+use Rattle.sim_shared_model.proofs.StableSorts.{same_behind, behind_in_order}
 
 abbrev Differ : WaitingRequest → WaitingRequest → Type 0
 Differ v w = v.request ≢ w.request

@@ -10,12 +10,13 @@ use Rattle.sim_types.proofs.Permutations.{AllPairs-IsPermutation}
 use Rattle.sim_types.specs.declared.event.EventId.{EventId}
 use Rattle.sim_machine.specs.State.{User}
 use Rattle.sim_machine.specs.Events.{is_same}
-use Rattle.sim_resource.specs.Attempts.{users_but}
+use Rattle.sim_shared_model.specs.Attempts.{users_but}
 use Rattle.sim_resource.specs.declared.user.NumberedUser.{NumberedUser}
-use Rattle.sim_resource.specs.Sorting.{put_behind, put_ahead, sorted_by, ranks_before, IsInOrderBy}
+use Rattle.sim_shared_model.specs.Sorting.{put_behind, put_ahead, sorted_by, IsInOrderBy}
+use Rattle.sim_resource.specs.QueueOrder.{ranks_before}
 use Rattle.sim_resource.specs.GrantOrder.{was_granted_before, stands_before, as_granted, numbered_but, IsSoundUsers}
 use Rattle.sim_resource.proofs.Keys.{ranks_ordered}
-use Rattle.sim_resource.proofs.StableSorts.{by_test, same_sorted, same_behind, sorted_joined, sorted_filtered, sorted_in_order}
+use Rattle.sim_shared_model.proofs.StableSorts.{by_test, same_sorted, same_behind, sorted_joined, sorted_filtered, sorted_in_order}
 
 pub grants_ordered : IsStrictWeakOrder was_granted_before
 grants_ordered =

@@ -14,12 +14,13 @@ use Rattle.sim_types.proofs.Permutations.{AllPairs-head, AllPairs-tail}
 use Rattle.sim_machine.specs.Events.{is_same}
 use Rattle.sim_machine.specs.Choices.{best_from, best}
 use Rattle.sim_machine.specs.Users.{last_served}
-use Rattle.sim_resource.specs.Sorting.{put_behind, sorted_by, ranks_before, IsInOrderBy}
+use Rattle.sim_shared_model.specs.Sorting.{put_behind, sorted_by, IsInOrderBy}
+use Rattle.sim_resource.specs.QueueOrder.{ranks_before}
 use Rattle.sim_resource.specs.declared.user.NumberedUser.{NumberedUser}
 use Rattle.sim_resource.specs.GrantOrder.{as_granted, numbered_but, IsSoundUsers}
 use Rattle.sim_resource.proofs.Keys.{ranks_ordered}
-use Rattle.sim_resource.proofs.StableSorts.{by_test, sorted_joined, behind_in_order}
-use Rattle.sim_resource.proofs.Removals.{same_no, same_self, none_left_out}
+use Rattle.sim_shared_model.proofs.StableSorts.{by_test, sorted_joined, behind_in_order}
+use Rattle.sim_shared_model.proofs.LeftOut.{same_no, same_self, none_left_out}
 
 -- a list whose last element is this
 pub record EndsWith {X : Type 0} (xs : List X) (m : X) : Type 0 where

@@ -1,11 +1,8 @@
 pub mod Keys
-pub mod StableSorts
 pub mod Removals
 pub mod GrantOrders
 pub mod NewNumbers
 pub mod LastElements
 pub mod MachineQueues
 pub mod DeskChanges
-pub mod WaitersInOrder
-pub mod Attempting
 pub mod RememberedRequests

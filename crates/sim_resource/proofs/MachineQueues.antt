@@ -6,13 +6,14 @@ use Rattle.sim_machine.specs.Keys.{is_served_first}
 use Rattle.sim_machine.specs.Users.{insert_waiter, sorted_waiters, in_order}
 use Rattle.sim_machine.specs.Attempts.{grant_of, victim_of}
 use Rattle.sim_machine.specs.Requests.{victim_at_first}
-use Rattle.sim_resource.specs.declared.kind.DeskKind.{DeskKind}
-use Rattle.sim_resource.specs.declared.kind.DeskKind.TheVariants as desk
-use Rattle.sim_resource.specs.declared.queue.WaitingRequest.{WaitingRequest}
-use Rattle.sim_resource.specs.DeskOf.{resource_kind, goes_by_keys, waiter_at, waiters_at}
-use Rattle.sim_resource.specs.Sorting.{put_behind, put_ahead, sorted_by, queue_joined, first_key_with, waits_before, IsInOrderBy}
+use Rattle.sim_shared_model.specs.declared.desk.DeskKind.{DeskKind}
+use Rattle.sim_shared_model.specs.declared.desk.DeskKind.TheVariants as desk
+use Rattle.sim_shared_model.specs.declared.desk.WaitingRequest.{WaitingRequest}
+use Rattle.sim_shared_model.specs.DeskOf.{resource_kind, goes_by_keys, waiter_at, waiters_at}
+use Rattle.sim_shared_model.specs.Sorting.{put_behind, put_ahead, sorted_by, IsInOrderBy}
+use Rattle.sim_resource.specs.QueueOrder.{queue_joined, first_key_with, waits_before}
 use Rattle.sim_resource.proofs.Keys.{waits_ordered}
-use Rattle.sim_resource.proofs.StableSorts.{sorted_joined, sorted_same}
+use Rattle.sim_shared_model.proofs.StableSorts.{sorted_joined, sorted_same}
 
 inserted_is : (res : ℕ) (w : WaitingRequest) (vs : List WaitingRequest) →
     insert_waiter (waiter_at res w) (waiters_at res vs) ≡ waiters_at res (put_ahead waits_before w vs)

@@ -8,9 +8,9 @@ use Rattle.std.proofs.lemmas.List.Sorted.{All-permutation}
 use Rattle.std.proofs.lemmas.Bool.Decides.{nat_tests}
 use Rattle.std.proofs.lemmas.List.Elements.{All-head, All-tail, All-nil, All-weaker, All-push}
 use Rattle.sim_resource.specs.declared.user.NumberedUser.{NumberedUser}
-use Rattle.sim_resource.specs.Sorting.{put_ahead, sorted_by}
+use Rattle.sim_shared_model.specs.Sorting.{put_ahead, sorted_by}
 use Rattle.sim_resource.specs.GrantOrder.{was_granted_before, as_granted, with_number, IsLeastFrom, IsNextGrant}
-use Rattle.sim_resource.proofs.StableSorts.{same_sorted}
+use Rattle.sim_shared_model.proofs.StableSorts.{same_sorted}
 
 -- ---- one number becomes another
 

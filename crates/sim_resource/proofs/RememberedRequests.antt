@@ -8,8 +8,8 @@ use Rattle.std.proofs.lemmas.Option.{slice_get_within, get_or_from_slice_get, sl
 use Rattle.sim_types.specs.declared.event.EventId.{EventId}
 use Rattle.sim_machine.specs.State.{User}
 use Rattle.sim_machine.specs.Events.{is_same}
-use Rattle.sim_resource.specs.Attempts.{users_but}
-use Rattle.sim_resource.proofs.Removals.{same_no, same_self}
+use Rattle.sim_shared_model.specs.Attempts.{users_but}
+use Rattle.sim_shared_model.proofs.LeftOut.{same_no, same_self}
 use Rattle.sim_resource.specs.PreemptedOf.{PreemptedOf, place_of_request, IsRemembered, NoUserIsRemembered}
 
 -- what stands at a place after a write: it is what was written, or stood there before, elsewhere

@@ -9,31 +9,16 @@ use Rattle.std.proofs.lemmas.List.Elements.{All-head, All-tail, All-weaker}
 use Rattle.sim_types.proofs.Permutations.{AllPairs-head, AllPairs-tail}
 use Rattle.sim_types.specs.declared.event.EventId.{EventId}
 use Rattle.sim_machine.specs.Events.{is_same, without_first}
+use Rattle.sim_shared_model.proofs.LeftOut.{same_yes, none_left_out}
 use Rattle.sim_resource.specs.Places.{IsPlaceFound}
 
 -- ---- a request
-
-same_event : (e f : EventId) → e.0 ≡ f.0 → e ≡ f
-same_event e f h = ap (λ (n : ℕ). record { 0 = n }) h
-
-pub same_yes : (e f : EventId) → is_same e f ≡ true → e ≡ f
-same_yes e f h = same_event e f (grind (arith, nat_tests))
-
-pub same_self : (e : EventId) → is_same e e ≡ true
-same_self e = grind (arith, nat_tests)
-
-pub same_no : (e f : EventId) → e ≢ f → is_same e f ≡ false
-same_no e f h = false_from_ne_true (is_same e f) (λ yes. h (same_yes e f yes))
 
 -- ---- any test
 
 -- no two elements pass the test
 abbrev pub PassAlone : {X : Type 0} → (X → Bool) → List X → Type 0
 PassAlone p xs = AllPairs (λ x y. p x ≡ true → p y ≡ true → ⊥) xs
-
-pub none_left_out : {X : Type 0} (p : X → Bool) (xs : List X) → All (λ x. p x ≡ false) xs → filter (λ x. not (p x)) xs ≡ xs
-none_left_out p [] h = refl
-none_left_out p (x ∷ xs) h = rw (All-head (λ y. p y ≡ false) x xs h) (ap (λ ys. x ∷ ys) (none_left_out p xs (All-tail (λ y. p y ≡ false) x xs h)))
 
 first_taken : {X : Type 0} (p : X → Bool) (xs : List X) → position_or_len p xs < length xs → remove xs (position_or_len p xs) ≡ without_first p xs
 first_taken p [] h = refl
@@ -149,16 +134,3 @@ pub alone_of : {X : Type 0} (request_of : X → EventId) (request : EventId) (xs
     PassAlone (λ x. is_same (request_of x) request) xs
 alone_of request_of request xs h =
     λ i j d before below yes also. h i j d before below (same_yes _ request yes ∙ sym (same_yes _ request also))
-
--- where none passes, none is left out
-pub none_any : {X : Type 0} (p : X → Bool) (xs : List X) → list_any p xs ≡ false → filter (λ x. not (p x)) xs ≡ xs
-none_any p [] h = refl
-none_any {X} p (x ∷ xs) h = by (p x) refl (none_any p xs) h
-  where
-    by : (b : Bool) → p x ≡ b → (list_any p xs ≡ false → filter (λ y. not (p y)) xs ≡ xs) → list_any p (x ∷ xs) ≡ false →
-        filter (λ y. not (p y)) (x ∷ xs) ≡ x ∷ xs
-    by true is rest h = absurd (not_both (rw is at h))
-      where
-        not_both : true ≡ false → ⊥
-        not_both h = cc
-    by false is rest h = rw is (ap (λ ys. x ∷ ys) (rest (rw is at h)))

@@ -5,7 +5,8 @@ use Rattle.sim_types.specs.declared.event.EventId.{EventId}
 use Rattle.sim_machine.specs.State.{User}
 use Rattle.sim_machine.specs.Events.{is_same}
 use Rattle.sim_resource.specs.declared.user.NumberedUser.{NumberedUser}
-use Rattle.sim_resource.specs.Sorting.{sorted_by, ranks_before}
+use Rattle.sim_shared_model.specs.Sorting.{sorted_by}
+use Rattle.sim_resource.specs.QueueOrder.{ranks_before}
 
 -- the users in the order of grant, whether they are ranked by their keys, and for how many more there is room
 pub record UsersOf : Type 0 where

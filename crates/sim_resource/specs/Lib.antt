@@ -1,6 +1,4 @@
-pub mod DeskOf
-pub mod Attempts
-pub mod Sorting
+pub mod QueueOrder
 pub mod GrantOrder
 pub mod SoundDesks
 pub mod Places

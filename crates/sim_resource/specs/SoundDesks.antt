@@ -2,10 +2,11 @@
 use Rattle.std.specs.Prelude.{◌≡◌, ◌≢◌, true, ℕ, ◌+◌, ◌-◌, ◌≤◌, min, List, length, All, AllPairs}
 use Rattle.sim_machine.specs.State.{User}
 use Rattle.sim_machine.specs.Requests.{is_preemptive}
-use Rattle.sim_resource.specs.declared.kind.DeskKind.{DeskKind}
-use Rattle.sim_resource.specs.declared.queue.WaitingRequest.{WaitingRequest}
-use Rattle.sim_resource.specs.DeskOf.{resource_kind, goes_by_keys}
-use Rattle.sim_resource.specs.Sorting.{IsInOrderBy, waits_before}
+use Rattle.sim_shared_model.specs.declared.desk.DeskKind.{DeskKind}
+use Rattle.sim_shared_model.specs.declared.desk.WaitingRequest.{WaitingRequest}
+use Rattle.sim_shared_model.specs.DeskOf.{resource_kind, goes_by_keys}
+use Rattle.sim_shared_model.specs.Sorting.{IsInOrderBy}
+use Rattle.sim_resource.specs.QueueOrder.{waits_before}
 use Rattle.sim_resource.specs.GrantOrder.{UsersOf}
 
 -- the requests that wait differ, those that are users differ, and none does both

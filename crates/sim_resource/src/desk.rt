@@ -7,17 +7,17 @@ ghost use Rattle.sim_machine.specs.State.{User};
 ghost use Rattle.sim_machine.specs.Users.{in_order, first_of_list, last_served};
 ghost use Rattle.sim_machine.specs.Attempts.{grant_of, victim_of, has_free_slot};
 ghost use Rattle.sim_machine.specs.Requests.{is_of, is_preemptive, victim_at_first};
-ghost use Rattle.sim_resource.specs.declared.queue.WaitingRequest.{WaitingRequest};
-ghost use Rattle.sim_resource.specs.DeskOf.{resource_kind, resource_of, waiting_by, waiters_at, queue_with};
-ghost use Rattle.sim_resource.specs.Attempts.{NoneIsServed, attempt_of, waiting_but, users_but, serve_first};
+ghost use Rattle.sim_shared_model.specs.declared.desk.WaitingRequest.{WaitingRequest};
+ghost use Rattle.sim_shared_model.specs.DeskOf.{resource_kind, resource_of, waiting_by, waiters_at, queue_with};
+ghost use Rattle.sim_shared_model.specs.Attempts.{NoneIsServed, attempt_of, waiting_but, users_but, serve_first};
 ghost use Rattle.sim_resource.specs.SoundDesks.{AreApart};
 
-use crate::grant::Grant;
 use crate::key::is_served_first;
-use crate::kind::{DeskKind, goes_by_keys, is_preemptive};
-use crate::queue::{WaitingRequest, first_key_with, join, take_out};
+use crate::kind::{goes_by_keys, is_preemptive};
+use crate::queue::{first_key_with, join, take_out};
 use crate::user::User;
 use crate::users::Users;
+use sim_shared_model::{DeskKind, Grant, WaitingRequest};
 use sim_types::{EventId, ProcId, RequestKey};
 use std::alloc::{AllocError, Global};
 use std::collections::VecDeque;
@@ -40,7 +40,7 @@ pub struct Desk {
 impl Model for Desk {
     ghost use Rattle.std.specs.Prelude.{length};
     ghost use Rattle.std.specs.VecDeque.{deque_len, deque_capacity};
-    ghost use Rattle.sim_resource.specs.DeskOf.{DeskOf};
+    ghost use Rattle.sim_shared_model.specs.DeskOf.{DeskOf};
     ghost use Rattle.sim_resource.specs.SoundDesks.{IsSoundDesk, HasDeskRoom};
 
     ghost Value = { DeskOf };

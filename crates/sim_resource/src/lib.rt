@@ -4,17 +4,11 @@
 
 mod desk;
 mod ends;
-mod grant;
 mod key;
 mod kind;
-mod laws;
 mod preempted;
 mod queue;
 mod user;
 mod users;
 
 pub use desk::Desk;
-pub use grant::Grant;
-pub use kind::DeskKind;
-pub use laws::{answers, queues};
-pub use queue::WaitingRequest;

@@ -4,26 +4,17 @@ ghost use Rattle.std.specs.List.{list_any, position};
 ghost use Rattle.std.specs.List.Sorted.{IsPartitionPoint};
 ghost use Rattle.std.specs.VecDeque.{deque_len, deque_capacity};
 ghost use Rattle.sim_machine.specs.Events.{is_same};
-ghost use Rattle.sim_resource.specs.Attempts.{waiting_but};
-ghost use Rattle.sim_resource.specs.Sorting as sorting;
-ghost use Rattle.sim_resource.specs.Sorting.{IsInOrderBy, put_behind, queue_joined, waits_before};
+ghost use Rattle.sim_shared_model.specs.Attempts.{waiting_but};
+ghost use Rattle.sim_resource.specs.QueueOrder as order;
+ghost use Rattle.sim_shared_model.specs.Sorting.{IsInOrderBy, put_behind};
+ghost use Rattle.sim_resource.specs.QueueOrder.{queue_joined, waits_before};
 ghost use Rattle.sim_machine.specs.Keys as keys;
 
 use crate::ends::place_from_ends;
 use crate::key::is_served_first;
+use sim_shared_model::WaitingRequest;
 use sim_types::{EventId, ProcId, RequestKey};
 use std::collections::VecDeque;
-
-/// A request that waits at a desk.
-#[derive(Clone, Copy)]
-pub struct WaitingRequest {
-    /// Its event.
-    pub request: EventId,
-    /// What it waits by.
-    pub key: RequestKey,
-    /// The process whose request it is.
-    pub process: ProcId,
-}
 
 // How many waiters a request of this key does not come before: they stand before all others.
 fn place_of_key(queue: &VecDeque<WaitingRequest>, key: RequestKey) -> usize
@@ -75,7 +66,7 @@ pub(crate) fn first_key_with(
     by_keys: bool,
     key: RequestKey,
 ) -> RequestKey
-    ensures { result ≡ sorting.first_key_with by_keys key queue.now.items }
+    ensures { result ≡ order.first_key_with by_keys key queue.now.items }
 {
     match queue.front() {
         Some(first) => {

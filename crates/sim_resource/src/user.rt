@@ -1,7 +1,7 @@
 ghost use Rattle.std.specs.Prelude.{◌≡◌};
-ghost use Rattle.sim_resource.specs.Attempts.{user_of};
+ghost use Rattle.sim_shared_model.specs.Attempts.{user_of};
 
-use crate::queue::WaitingRequest;
+use sim_shared_model::WaitingRequest;
 use sim_types::{EventId, ProcId, RequestKey};
 use std::marker::Model;
 

@@ -7,8 +7,8 @@ ghost use Rattle.sim_machine.specs.State.{User};
 ghost use Rattle.sim_machine.specs.Keys as keys;
 ghost use Rattle.sim_machine.specs.Events.{is_same};
 ghost use Rattle.sim_machine.specs.Users.{last_served};
-ghost use Rattle.sim_resource.specs.Attempts.{users_but};
-ghost use Rattle.sim_resource.specs.Sorting.{IsInOrderBy, put_behind};
+ghost use Rattle.sim_shared_model.specs.Attempts.{users_but};
+ghost use Rattle.sim_shared_model.specs.Sorting.{IsInOrderBy, put_behind};
 ghost use Rattle.sim_resource.specs.GrantOrder.{as_granted, stands_before, numbered_but, IsWithoutLast, IsNextGrant, with_number};
 
 use crate::ends::place_from_ends;

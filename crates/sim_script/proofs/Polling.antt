@@ -13,8 +13,8 @@ use Rattle.sim_script_model.specs.Scripts.{Script}
 use Rattle.sim_script_model.specs.Polls.{take_in, script_turn}
 use Rattle.sim_script_law.specs.Ready.{can_take, can_ask}
 use Rattle.sim_script_law.specs.ScriptMembers.{IsScriptTurn, script_body}
-use Rattle.sim_script_law.proofs.Readiness.{ready_to_take, ready_to_ask}
-use Rattle.sim_script_law.proofs.ScriptLaw.{script_lawful}
+use Rattle.sim_script_law.proofs.Laws.Readiness.{ready_to_take, ready_to_ask}
+use Rattle.sim_script_law.proofs.Laws.ScriptLaw.{script_lawful}
 
 module _ (x : ScenarioOf) (b : Script) (told : Signal) (code : List Stmt) (is : code ≡ x.code) where
   -- it can take in what it may be told

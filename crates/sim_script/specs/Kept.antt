@@ -8,7 +8,7 @@ use Rattle.sim_types.specs.declared.setup.Class.{Class}
 use Rattle.sim_types.specs.declared.setup.Class.TheVariants as class
 use Rattle.sim_types.specs.declared.script.Kind.{Kind}
 use Rattle.sim_machine.specs.Tellings.{is_class}
-use Rattle.sim_memo.specs.declared.Memo.{Memo}
+use Rattle.core.specs.declared.snapshot.Snapshot.{Snapshot}
 use Rattle.sim_script_model.specs.Scripts as scripts
 use Rattle.sim_script_model.specs.Arithmetic as arithmetic
 use Rattle.sim_script.specs.declared.frames.Frame.{Frame}
@@ -38,7 +38,7 @@ abbrev pub answer_of : Result ℤ ℕ → arithmetic.Answer
 answer_of (Ok value) = arithmetic.Number value
 answer_of (Err number) = arithmetic.Error number
 
-abbrev pub asked_of : Option (Memo Op) → Option Op
+abbrev pub asked_of : Option (Snapshot Op) → Option Op
 asked_of None = None
 asked_of (Some asked) = Some asked.value
 

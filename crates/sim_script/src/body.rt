@@ -8,7 +8,7 @@ use std::alloc::{AllocError, Global};
 
 impl LawfulBody for Script {
     ghost use Rattle.sim_script_law.specs.ScriptMembers.{script_body};
-    ghost use Rattle.sim_script_law.proofs.ScriptLaw.{script_lawful};
+    ghost use Rattle.sim_script_law.proofs.Laws.ScriptLaw.{script_lawful};
 
     type Code = Scenario;
 
@@ -20,8 +20,8 @@ impl LawfulBody for Script {
 impl Body for Script {
     ghost use Rattle.sim_script_model.specs.Needs.{most_open_scopes};
     ghost use Rattle.sim_script_law.specs.ScriptMembers.{script_holds, script_is_for, script_told_place};
-    ghost use Rattle.sim_script_law.proofs.ScriptLaw.{script_enters_within, script_has_places};
-    ghost use Rattle.sim_script_law.proofs.GivenPlaces.{script_gives_within, script_holds_as_many, script_keeps_others};
+    ghost use Rattle.sim_script_law.proofs.Laws.ScriptLaw.{script_enters_within, script_has_places};
+    ghost use Rattle.sim_script_law.proofs.Laws.GivenPlaces.{script_gives_within, script_holds_as_many, script_keeps_others};
 
     ghost events_held = { script_holds };
 

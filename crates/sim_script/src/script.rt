@@ -12,19 +12,19 @@ ghost use Rattle.sim_script.specs.StatementGroups.{asked_where};
 
 use crate::frames::{Frame, Frames};
 use crate::mode::Mode;
-use sim_memo::Memo;
 use sim_scenario::Scenario;
 use sim_types::{
     Class, Classes, ERROR, EventId, Kind, Num, Op, ProcId, Ref, Signal, SpawnArg, Stmt, Throw,
 };
 use std::alloc::{AllocError, Global};
 use std::marker::Model;
+use std::snapshot::Snapshot;
 
 /// A process that does the statements of its kind.
 #[derive(Drop)]
 pub struct Script {
     /// The scenario that its kind and its statements stand in, which contracts alone see.
-    scenario: Memo<Scenario>,
+    scenario: Snapshot<Scenario>,
     /// The statement that comes next.
     place: usize,
     mode: Mode,
@@ -36,9 +36,9 @@ pub struct Script {
     numbers: u64,
     me: ProcId,
     /// Its kind, the classes of its variables, and what it asked for last, which contracts alone see.
-    kind: Memo<u32>,
-    classes: Memo<Classes>,
-    asked: Memo<Option<Memo<Op>>>,
+    kind: Snapshot<u32>,
+    classes: Snapshot<Classes>,
+    asked: Snapshot<Option<Snapshot<Op>>>,
 }
 
 impl Model for Script {
@@ -74,16 +74,16 @@ impl Script {
     {
         let variables = scenario.last_variable() + 1;
         Ok(Script {
-            scenario: Memo::of(scenario),
+            scenario: Snapshot::of(scenario),
             place: 0,
             mode: Mode::Running,
             frames: Frames::new(alloc, scenario.most_frames())?,
             variables: Vec::from_slice(alloc, &[0; 64][..variables])?,
             numbers: u64::MAX,
             me: ProcId(0),
-            kind: Memo::of(&0),
-            classes: Memo::of(&Classes::new()),
-            asked: Memo::of(&None),
+            kind: Snapshot::of(&0),
+            classes: Snapshot::of(&Classes::new()),
+            asked: Snapshot::of(&None),
         })
     }
 
@@ -98,9 +98,9 @@ impl Script {
         self.frames.clear();
         self.numbers = numbers_of(&declared.classes, self.variables.len());
         self.me = ProcId(0);
-        self.kind = Memo::of(&kind);
-        self.classes = Memo::of(&declared.classes);
-        self.asked = Memo::of(&None);
+        self.kind = Snapshot::of(&kind);
+        self.classes = Snapshot::of(&declared.classes);
+        self.asked = Snapshot::of(&None);
     }
 
     /// Its process has this number.
@@ -276,7 +276,7 @@ impl Script {
     {
         self.take_in(code, signal);
         let asks = self.ask(code, time, asked);
-        self.asked = Memo::of(&Some(last_asked(asks, asked)));
+        self.asked = Snapshot::of(&Some(last_asked(asks, asked)));
         asks
     }
 
@@ -437,13 +437,13 @@ pub(crate) fn ask_nothing(asked: &mut Op)
 }
 
 /// What a script asked for that tells whether it asked for an operation.
-fn last_asked(asks: bool, asked: &Op) -> Memo<Op>
+fn last_asked(asks: bool, asked: &Op) -> Snapshot<Op>
     ensures { result.value ≡ asked_where asks asked.now }
 {
     if asks {
-        Memo::of(asked)
+        Snapshot::of(asked)
     } else {
-        Memo::of(&Op::Nop)
+        Snapshot::of(&Op::Nop)
     }
 }
 

@@ -1,17 +1,6 @@
-pub mod Walking
-pub mod KindsOfScenarios
-pub mod Starts
-pub mod Variables
-pub mod Answered
-pub mod Asking
-pub mod WithinVariables
-pub mod Needs
-pub mod Frames
-pub mod Standing
-pub mod Leaving
-pub mod Doing
-pub mod Taking
-pub mod ScriptLaw
-pub mod GivenPlaces
-pub mod SetupFits
-pub mod Readiness
+-- the code and the variables of a script
+pub mod Scripts
+-- what a turn does
+pub mod Turns
+-- the law of a body, and setups that fit
+pub mod Laws

@@ -12,9 +12,9 @@ use Rattle.sim_types.specs.Setups.{resource_fits}
 use Rattle.sim_machine.specs.Runs.{first_calendar}
 use Rattle.sim_machine.specs.Users.{resource_at, in_order}
 use Rattle.sim_happen_model.specs.Shows.{Shows}
-use Rattle.sim_resource.specs.DeskOf.{waiters_at}
-use Rattle.sim_shared_model.specs.declared.resource.SharedResource.{SharedResource}
-use Rattle.sim_shared_model.specs.declared.resource.SharedResource.TheVariants.{Desk, Tank, Shelf}
+use Rattle.sim_shared_model.specs.DeskOf.{waiters_at}
+use Rattle.sim_shared_model.specs.AnyShared.{SharedResource}
+use Rattle.sim_shared_model.specs.declared.resource.AnyResource.TheVariants.{Desk, Tank, Shelf}
 use Rattle.sim_shared_model.specs.Resources.{declared_as, without_opening}
 use Rattle.sim_shared_model.specs.SharedOf.{SharedOf}
 use Rattle.sim_shared_model.specs.ShowsAll.{ShowsAt, ShowsAll, amount_waiting, put_waiting, get_waiting}

@@ -4,8 +4,8 @@ use Rattle.sim_types.specs.declared.setup.Resource.{Resource}
 use Rattle.sim_machine.specs.State.{Facilities}
 use Rattle.sim_machine.specs.Runs.{first_calendar}
 use Rattle.sim_machine.specs.Users.{resource_at}
-use Rattle.sim_shared_model.specs.declared.resource.SharedResource.{SharedResource}
-use Rattle.sim_shared_model.specs.declared.resource.SharedResource.TheVariants.{Desk, Tank, Shelf}
+use Rattle.sim_shared_model.specs.AnyShared.{SharedResource}
+use Rattle.sim_shared_model.specs.declared.resource.AnyResource.TheVariants.{Desk, Tank, Shelf}
 use Rattle.sim_shared_model.specs.Resources.{HasPlace, declared_as, without_opening}
 
 -- the facilities of the machine as a run begins, before anything was made: event 0 alone is there

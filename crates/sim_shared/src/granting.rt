@@ -6,16 +6,16 @@ ghost use Rattle.sim_machine.specs.Triggering as triggering;
 ghost use Rattle.sim_machine.specs.Trying as trying;
 ghost use Rattle.sim_machine.specs.Trying.{on_calendar};
 ghost use Rattle.sim_machine.specs.Users.{resource_at};
-ghost use Rattle.sim_events.specs.Changes.{more_events, more_callbacks};
+ghost use Rattle.sim_happen_model.specs.Changes.{more_events, more_callbacks};
 ghost use Rattle.sim_happen_model.specs.HappenOf.{IsOpen, unheld_event};
 ghost use Rattle.sim_shared_model.specs.Granting.{TriesDesk, interrupted_for, preempted_since};
 ghost use Rattle.sim_shared_model.specs.Making.{MakesAll};
 ghost use Rattle.sim_shared_model.specs.ShowsAll.{TurnsAll};
 ghost use Rattle.sim_shared_model.specs.Waiting.{AreAllOpen};
 
+use crate::resource::SharedResource;
 use crate::shared::Shared;
-use sim_resource::Grant;
-use sim_shared_model::SharedResource;
+use sim_shared_model::Grant;
 use sim_types::{EventId, PREEMPTION, ProcId, Throw};
 
 impl Shared {

@@ -7,7 +7,7 @@ ghost use Rattle.sim_machine.specs.Attempts as attempts;
 ghost use Rattle.sim_machine.specs.MayAsk.{takes_requests};
 ghost use Rattle.sim_machine.specs.Requests as requests;
 ghost use Rattle.sim_machine.specs.Users.{resource_at};
-ghost use Rattle.sim_events.specs.Changes.{more_events, more_callbacks};
+ghost use Rattle.sim_happen_model.specs.Changes.{more_events, more_callbacks};
 ghost use Rattle.sim_happen_model.specs.HappenOf.{unheld_event};
 ghost use Rattle.sim_shared_model.specs.Joining.{IsAbsent, IsJoinedAt};
 ghost use Rattle.sim_shared_model.specs.Making.{MakesAll, ShowsSome};

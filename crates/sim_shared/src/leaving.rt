@@ -4,13 +4,14 @@ ghost use Rattle.sim_machine.specs.State.{Facilities};
 ghost use Rattle.sim_machine.specs.Requests as requests;
 ghost use Rattle.sim_machine.specs.MayAsk.{takes_requests};
 ghost use Rattle.sim_machine.specs.Users.{resource_at};
-ghost use Rattle.sim_events.specs.TableOf.{IsKept, kept_at};
-ghost use Rattle.sim_events.specs.Changes.{more_events, more_callbacks};
+ghost use Rattle.sim_happen_model.specs.TableOf.{IsKept, kept_at};
+ghost use Rattle.sim_happen_model.specs.Changes.{more_events, more_callbacks};
 ghost use Rattle.sim_happen_model.specs.HappenOf.{IsOpen, KeepsRoom, gone_if_unheld, unheld_event};
 ghost use Rattle.sim_shared_model.specs.ShowsAll.{ShowsAll, FollowsAll, TurnsAll};
 ghost use Rattle.sim_shared_model.specs.Waiting.{AreAllOpen, LeavesRoom, WaitsAtMostAt, gone_if_waits, waits_anywhere, waits_in};
 ghost use Rattle.sim_shared.specs.Naming.{tried_by, tried_by_first};
 
+use crate::resource::{cancel, release};
 use crate::shared::Shared;
 use sim_types::{Callback, EventId, EventKind};
 
@@ -45,7 +46,7 @@ impl Shared {
         ensures made { length self.new.happen.events ≡ length self.old.happen.events }
         ensures setup { self.new.setup ≡ self.old.setup }
     {
-        if !self.resources[at].cancel(event) {
+        if !cancel(&mut self.resources[at], event) {
             return false;
         }
         self.happen.shut(event);
@@ -171,7 +172,7 @@ impl Shared {
         ensures happen { self.new.happen ≡ self.old.happen }
         ensures used { self.new.used ≡ self.old.used }
     {
-        self.resources[res as usize].release(request);
+        release(&mut self.resources[res as usize], request);
     }
 
     /// A release of the request is made and served at once: where the request uses a slot of this resource, it does so

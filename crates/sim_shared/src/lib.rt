@@ -9,6 +9,7 @@ mod leaving;
 mod making;
 mod opening;
 mod queues;
+mod resource;
 mod serving;
 mod shared;
 mod trying;

@@ -3,7 +3,7 @@ ghost use Rattle.std.specs.Prelude.{◌≡◌, ◌<◌, ◌^◌, length};
 ghost use Rattle.sim_machine.specs.Events as events;
 ghost use Rattle.sim_machine.specs.Triggering as triggering;
 ghost use Rattle.sim_machine.specs.Trying.{on_calendar};
-ghost use Rattle.sim_events.specs.Changes.{more_events, more_callbacks};
+ghost use Rattle.sim_happen_model.specs.Changes.{more_events, more_callbacks};
 ghost use Rattle.sim_happen_model.specs.HappenOf.{IsOpen, unheld_event};
 ghost use Rattle.sim_happen_model.specs.Shows.{Follows};
 ghost use Rattle.sim_shared_model.specs.ShowsAll.{FollowsAll, TurnsAll};

@@ -2,14 +2,15 @@
 ghost use Rattle.std.specs.Prelude.{◌≡◌, IsTrue, IfOk};
 ghost use Rattle.std.specs.List.{AllPass};
 ghost use Rattle.sim_types.specs.Setups.{resource_fits};
-ghost use Rattle.sim_resource.specs.DeskOf.{resource_kind};
-ghost use Rattle.sim_stores.specs.Shelves.{store_kind};
+ghost use Rattle.sim_shared_model.specs.DeskOf.{resource_kind};
+ghost use Rattle.sim_shared_model.specs.Shelves.{store_kind};
 ghost use Rattle.sim_types.specs.declared.setup.ResourceKind.TheVariants as kinds;
 ghost use Rattle.sim_shared.specs.Opening.{AreOpened, IsOpened};
 
-use sim_resource::{Desk, DeskKind};
-use sim_shared_model::SharedResource;
-use sim_stores::{Shelf, ShelfKind, Tank};
+use crate::resource::SharedResource;
+use sim_resource::Desk;
+use sim_shared_model::{DeskKind, ShelfKind};
+use sim_stores::{Shelf, Tank};
 use sim_types::{Resource, ResourceKind};
 use std::alloc::{AllocError, Global};
 

@@ -11,7 +11,7 @@ ghost use Rattle.sim_shared_model.specs.Joining.{IsAbsentAt, IsJoined, with_wait
 ghost use Rattle.sim_shared_model.specs.Resources.{HasPlace, declared_as, without_opening};
 ghost use Rattle.sim_shared_model.specs.ShowsAll.{ShowsAt};
 
-use sim_shared_model::SharedResource;
+use crate::resource::SharedResource;
 use sim_types::{EventId, ProcId, RequestKey};
 
 /// Whether a request may take the slot of a user.

@@ -3,16 +3,16 @@ ghost use Rattle.std.specs.Prelude.{◌≡◌, ◌+◌, ◌<◌, ℕ, length, sl
 ghost use Rattle.sim_machine.specs.MayAsk.{takes_requests};
 ghost use Rattle.sim_machine.specs.Trying as trying;
 ghost use Rattle.sim_machine.specs.Users.{resource_at};
-ghost use Rattle.sim_stores.specs.Waiting.{AllDiffer};
-ghost use Rattle.sim_shared_model.specs.declared.resource.SharedResource.{SharedResource};
+ghost use Rattle.sim_shared_model.specs.StoreQueues.{AllDiffer};
+ghost use Rattle.sim_shared_model.specs.AnyShared.{SharedResource};
 ghost use Rattle.sim_shared_model.specs.Resources.{waiting_at};
 ghost use Rattle.sim_shared_model.specs.Serving.{TriesAt, TriesPut, TriesGet, puts_go_on, store_goes_on, gets_go_on, DoesPartOrAll, AreOpenAt, count_waiting_at};
 ghost use Rattle.sim_shared_model.specs.ShowsAll.{FollowsAll};
 ghost use Rattle.sim_shared_model.specs.Waiting.{AreAllOpen};
 
+use crate::resource::SharedResource;
 use crate::shared::Shared;
-use sim_shared_model::SharedResource;
-use sim_stores::{Served, ShelfKind};
+use sim_shared_model::{Served, ShelfKind};
 
 // Serves a put, if one can be served. Nobody puts at a desk.
 fn serve_one_put(resource: &mut SharedResource) -> Option<Served>

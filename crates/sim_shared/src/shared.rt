@@ -5,19 +5,19 @@ ghost use Rattle.sim_types.specs.Setups.{resource_fits};
 ghost use Rattle.sim_machine.specs.State.{Facilities};
 ghost use Rattle.sim_machine.specs.Requests as requests;
 ghost use Rattle.sim_happen_model.specs.HappenOf.{held};
-ghost use Rattle.sim_shared_model.specs.declared.resource.SharedResource.{SharedResource};
+ghost use Rattle.sim_shared_model.specs.AnyShared.{SharedResource};
 ghost use Rattle.sim_shared_model.specs.Resources.{count_at};
 ghost use Rattle.sim_shared_model.specs.SharedOf.{IsSameButRoom};
 ghost use Rattle.sim_shared_model.specs.ShowsAll.{ShowsAll};
 ghost use Rattle.sim_shared.specs.Opening.{first_facilities};
 
 use crate::opening::open_all;
+use crate::resource::{SharedResource, count, reserve};
 use sim_happen::Happen;
-use sim_memo::Memo;
-use sim_shared_model::SharedResource;
 use sim_types::{List, Resource};
 use std::alloc::{AllocError, Global};
 use std::marker::Model;
+use std::snapshot::Snapshot;
 
 /// How many events one unit may make at most.
 const EVENTS: u32 = 40;
@@ -39,7 +39,7 @@ pub struct Shared {
     // The resource whose place was taken since room was made.
     pub(crate) used: Option<u32>,
     // What the resources were opened with.
-    setup: Memo<List<Resource>>,
+    setup: Snapshot<List<Resource>>,
 }
 
 impl Model for Shared {
@@ -76,7 +76,7 @@ impl Shared {
             happen: Happen::new(alloc)?,
             resources: opened,
             used: None,
-            setup: Memo::of(resources),
+            setup: Snapshot::of(resources),
         })
     }
 
@@ -103,7 +103,7 @@ impl Shared {
         ensures rest { IsSameButRoom self.old self.new }
     {
         if let Some(used) = self.used {
-            self.resources[used as usize].reserve()?;
+            reserve(&mut self.resources[used as usize])?;
             self.used = None;
         }
         Ok(())
@@ -169,6 +169,6 @@ impl Shared {
         ensures shown { (f : Facilities) → ShowsAll self.now f →
             result ≡ requests.held self.now.setup res f }
     {
-        self.resources[res as usize].count()
+        count(&self.resources[res as usize])
     }
 }

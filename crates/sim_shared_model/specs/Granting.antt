@@ -6,10 +6,10 @@ use Rattle.sim_types.specs.declared.event.ProcId.{ProcId}
 use Rattle.sim_types.specs.declared.event.Throw.{Throw}
 use Rattle.sim_machine.specs.State.{Calendar}
 use Rattle.sim_machine.specs.Triggering.{succeed, make_interruption}
-use Rattle.sim_resource.specs.declared.grant.Grant.{Grant}
-use Rattle.sim_resource.specs.DeskOf.{DeskOf}
-use Rattle.sim_resource.specs.Attempts.{attempt_of}
-use Rattle.sim_shared_model.specs.declared.resource.SharedResource.TheVariants.{Desk}
+use Rattle.sim_shared_model.specs.declared.desk.Grant.{Grant}
+use Rattle.sim_shared_model.specs.DeskOf.{DeskOf}
+use Rattle.sim_shared_model.specs.Attempts.{attempt_of}
+use Rattle.sim_shared_model.specs.declared.resource.AnyResource.TheVariants.{Desk}
 use Rattle.sim_shared_model.specs.SharedOf.{SharedOf}
 
 -- the first that waits at the desk of this place was tried now, which came to this; the desk is left as the attempt

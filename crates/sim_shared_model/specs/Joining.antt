@@ -4,7 +4,7 @@ use Rattle.sim_types.specs.declared.event.EventId.{EventId}
 use Rattle.sim_types.specs.declared.setup.Resource.{Resource}
 use Rattle.sim_machine.specs.State.{Waiter, Facilities}
 use Rattle.sim_machine.specs.Users.{resource_at}
-use Rattle.sim_shared_model.specs.declared.resource.SharedResource.{SharedResource}
+use Rattle.sim_shared_model.specs.AnyShared.{SharedResource}
 use Rattle.sim_shared_model.specs.Resources.{declared_as, without_opening}
 use Rattle.sim_shared_model.specs.SharedOf.{SharedOf}
 use Rattle.sim_shared_model.specs.ShowsAll.{ShowsAt}

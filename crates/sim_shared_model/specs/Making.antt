@@ -1,7 +1,7 @@
 -- How calls that make events follow what the machine does to facilities.
 use Rattle.std.specs.Prelude.{◌≡◌, ℕ, zero, suc, ◌≤◌, List, Option}
 use Rattle.sim_machine.specs.State.{Facilities}
-use Rattle.sim_events.specs.Changes.{more_events, more_callbacks}
+use Rattle.sim_happen_model.specs.Changes.{more_events, more_callbacks}
 use Rattle.sim_happen_model.specs.HappenOf.{unheld_event}
 use Rattle.sim_shared_model.specs.SharedOf.{SharedOf}
 use Rattle.sim_shared_model.specs.ShowsAll.{ShowsAll, TurnsAll}

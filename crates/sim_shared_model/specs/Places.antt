@@ -3,7 +3,7 @@ use Rattle.std.specs.Prelude.{◌≡◌, ◌≢◌, ℕ, ◌<◌, List, map, len
 use Rattle.std.specs.List.{AllPass}
 use Rattle.sim_types.specs.Setups.{resource_fits}
 use Rattle.sim_types.specs.declared.setup.Resource.{Resource}
-use Rattle.sim_shared_model.specs.declared.resource.SharedResource.{SharedResource}
+use Rattle.sim_shared_model.specs.AnyShared.{SharedResource}
 use Rattle.sim_shared_model.specs.Resources.{HasPlace, declared_as, without_opening}
 
 -- the one that was used is there, and each other has room for one more to wait

@@ -2,11 +2,11 @@
 use Rattle.std.specs.Prelude.{◌≤◌, ℤ, pos, List, map, length}
 use Rattle.sim_types.specs.declared.event.EventId.{EventId}
 use Rattle.sim_types.specs.declared.setup.Resource.{Resource}
-use Rattle.sim_resource.specs.DeskOf.{resource_of}
-use Rattle.sim_stores.specs.Tanks.{container_of, waiting_at_tank}
-use Rattle.sim_stores.specs.Shelves.{store_of, waiting_at_shelf}
-use Rattle.sim_shared_model.specs.declared.resource.SharedResource.{SharedResource}
-use Rattle.sim_shared_model.specs.declared.resource.SharedResource.TheVariants.{Desk, Tank, Shelf}
+use Rattle.sim_shared_model.specs.DeskOf.{resource_of}
+use Rattle.sim_shared_model.specs.Tanks.{container_of, waiting_at_tank}
+use Rattle.sim_shared_model.specs.Shelves.{store_of, waiting_at_shelf}
+use Rattle.sim_shared_model.specs.AnyShared.{SharedResource}
+use Rattle.sim_shared_model.specs.declared.resource.AnyResource.TheVariants.{Desk, Tank, Shelf}
 
 -- its kind and its capacity, as a resource of a scenario
 abbrev pub declared_as : SharedResource → Resource

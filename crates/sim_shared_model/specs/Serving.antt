@@ -2,14 +2,14 @@
 use Rattle.std.specs.Prelude.{Bool, ◌≡◌, true, false, ℕ, length, slice_get, slice_set, Option, Some, None, All, IfSome}
 use Rattle.sim_machine.specs.State.{Facilities}
 use Rattle.sim_happen_model.specs.HappenOf.{IsOpen, held}
-use Rattle.sim_stores.specs.declared.stock.ShelfKind.TheVariants as kind
-use Rattle.sim_stores.specs.declared.stock.ShelfKind.{ShelfKind}
-use Rattle.sim_stores.specs.declared.waiting.Served.{Served}
-use Rattle.sim_stores.specs.Waiting.{AllDiffer}
-use Rattle.sim_stores.specs.Tanks.{TriesFill, TriesDrain}
-use Rattle.sim_stores.specs.Shelves.{TriesDeposit, TriesHandOut}
-use Rattle.sim_shared_model.specs.declared.resource.SharedResource.{SharedResource}
-use Rattle.sim_shared_model.specs.declared.resource.SharedResource.TheVariants.{Desk, Tank, Shelf}
+use Rattle.sim_shared_model.specs.declared.stock.ShelfKind.TheVariants as kind
+use Rattle.sim_shared_model.specs.declared.stock.ShelfKind.{ShelfKind}
+use Rattle.sim_shared_model.specs.declared.stock.Served.{Served}
+use Rattle.sim_shared_model.specs.StoreQueues.{AllDiffer}
+use Rattle.sim_shared_model.specs.Tanks.{TriesFill, TriesDrain}
+use Rattle.sim_shared_model.specs.Shelves.{TriesDeposit, TriesHandOut}
+use Rattle.sim_shared_model.specs.AnyShared.{SharedResource}
+use Rattle.sim_shared_model.specs.declared.resource.AnyResource.TheVariants.{Desk, Tank, Shelf}
 use Rattle.sim_shared_model.specs.Resources.{waiting_at}
 use Rattle.sim_shared_model.specs.SharedOf.{SharedOf}
 use Rattle.sim_shared_model.specs.ShowsAll.{ShowsAll, FollowsAll}

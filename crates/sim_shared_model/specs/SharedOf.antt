@@ -2,7 +2,7 @@
 use Rattle.std.specs.Prelude.{◌≡◌, ℕ, List, Option, map}
 use Rattle.sim_types.specs.declared.setup.Resource.{Resource}
 use Rattle.sim_happen_model.specs.HappenOf.{HappenOf}
-use Rattle.sim_shared_model.specs.declared.resource.SharedResource.{SharedResource}
+use Rattle.sim_shared_model.specs.AnyShared.{SharedResource}
 use Rattle.sim_shared_model.specs.Resources.{without_room}
 
 -- the resources stand by their places in the setup that they were opened with. Each has room for one more to wait, but for

@@ -9,14 +9,14 @@ use Rattle.sim_machine.specs.Trying.{level}
 use Rattle.sim_machine.specs.LawfulLedger.{LawfulLedger}
 use Rattle.sim_happen_model.specs.HappenOf.{held, as_before}
 use Rattle.sim_happen_model.specs.Shows.{Shows}
-use Rattle.sim_resource.specs.DeskOf.{DeskOf, waiters_at}
-use Rattle.sim_stores.specs.declared.waiting.WaitingAmount.{WaitingAmount}
-use Rattle.sim_stores.specs.declared.waiting.WaitingPut.{WaitingPut}
-use Rattle.sim_stores.specs.declared.waiting.WaitingGet.{WaitingGet}
-use Rattle.sim_stores.specs.Tanks.{TankOf}
-use Rattle.sim_stores.specs.Shelves.{ShelfOf}
-use Rattle.sim_shared_model.specs.declared.resource.SharedResource.{SharedResource}
-use Rattle.sim_shared_model.specs.declared.resource.SharedResource.TheVariants.{Desk, Tank, Shelf}
+use Rattle.sim_shared_model.specs.DeskOf.{DeskOf, waiters_at}
+use Rattle.sim_shared_model.specs.declared.stock.WaitingAmount.{WaitingAmount}
+use Rattle.sim_shared_model.specs.declared.stock.WaitingPut.{WaitingPut}
+use Rattle.sim_shared_model.specs.declared.stock.WaitingGet.{WaitingGet}
+use Rattle.sim_shared_model.specs.Tanks.{TankOf}
+use Rattle.sim_shared_model.specs.Shelves.{ShelfOf}
+use Rattle.sim_shared_model.specs.AnyShared.{SharedResource}
+use Rattle.sim_shared_model.specs.declared.resource.AnyResource.TheVariants.{Desk, Tank, Shelf}
 use Rattle.sim_shared_model.specs.Resources.{declared_as, without_opening}
 use Rattle.sim_shared_model.specs.SharedOf.{SharedOf}
 

@@ -4,9 +4,9 @@ use Rattle.std.specs.List.{list_any}
 use Rattle.sim_types.specs.declared.event.EventId.{EventId}
 use Rattle.sim_machine.specs.State.{User}
 use Rattle.sim_machine.specs.Events.{is_same}
-use Rattle.sim_resource.specs.Attempts.{users_but}
-use Rattle.sim_shared_model.specs.declared.resource.SharedResource.{SharedResource}
-use Rattle.sim_shared_model.specs.declared.resource.SharedResource.TheVariants.{Desk}
+use Rattle.sim_shared_model.specs.Attempts.{users_but}
+use Rattle.sim_shared_model.specs.AnyShared.{SharedResource}
+use Rattle.sim_shared_model.specs.declared.resource.AnyResource.TheVariants.{Desk}
 
 -- the users of a resource; containers and stores have none
 abbrev pub users_at : SharedResource → List User

@@ -2,14 +2,14 @@
 use Rattle.std.specs.Prelude.{Bool, ◌≡◌, ◌≢◌, false, ℕ, ◌+◌, ◌≤◌, List, slice_get, Option, Some, None, All, if◌then◌else◌}
 use Rattle.std.specs.List.{list_any}
 use Rattle.sim_types.specs.declared.event.EventId.{EventId}
-use Rattle.sim_events.specs.TableOf.{kept_count}
+use Rattle.sim_happen_model.specs.TableOf.{kept_count}
 use Rattle.sim_happen_model.specs.HappenOf.{HappenOf, IsOpen, gone_if_unheld}
-use Rattle.sim_resource.specs.Attempts.{waiting_but}
-use Rattle.sim_stores.specs.Waiting.{stands_among}
-use Rattle.sim_stores.specs.Tanks.{tank_besides}
-use Rattle.sim_stores.specs.Shelves.{shelf_besides}
-use Rattle.sim_shared_model.specs.declared.resource.SharedResource.{SharedResource}
-use Rattle.sim_shared_model.specs.declared.resource.SharedResource.TheVariants.{Desk, Tank, Shelf}
+use Rattle.sim_shared_model.specs.Attempts.{waiting_but}
+use Rattle.sim_shared_model.specs.StoreQueues.{stands_among}
+use Rattle.sim_shared_model.specs.Tanks.{tank_besides}
+use Rattle.sim_shared_model.specs.Shelves.{shelf_besides}
+use Rattle.sim_shared_model.specs.AnyShared.{SharedResource}
+use Rattle.sim_shared_model.specs.declared.resource.AnyResource.TheVariants.{Desk, Tank, Shelf}
 use Rattle.sim_shared_model.specs.Resources.{waiting_at}
 use Rattle.sim_shared_model.specs.SharedOf.{SharedOf}
 

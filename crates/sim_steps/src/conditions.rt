@@ -5,7 +5,7 @@ ghost use Rattle.sim_machine.specs.Conditions as conditions;
 ghost use Rattle.sim_machine.specs.Effect as effect;
 ghost use Rattle.sim_machine.specs.Scopes.{on_events};
 ghost use Rattle.sim_machine.specs.State.{Calendar, Every, Either};
-ghost use Rattle.sim_events.specs.TableOf.{IsKept};
+ghost use Rattle.sim_happen_model.specs.TableOf.{IsKept};
 ghost use Rattle.sim_happen_model.specs.HappenOf.{held, holding};
 ghost use Rattle.sim_happen_model.specs.Shows.{Shows, Turns};
 ghost use Rattle.sim_steps_model.specs.Becoming.{AreFew, Becomes, BecomesWith};

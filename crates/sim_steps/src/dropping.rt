@@ -8,7 +8,7 @@ ghost use Rattle.sim_machine.specs.MayAsk.{most_scopes};
 ghost use Rattle.sim_machine.specs.Processes as processes;
 ghost use Rattle.sim_machine.specs.Scopes as scopes;
 ghost use Rattle.sim_procs.specs.RecordOf.{innermost, record_of};
-ghost use Rattle.sim_events.specs.TableOf.{IsKept};
+ghost use Rattle.sim_happen_model.specs.TableOf.{IsKept};
 ghost use Rattle.sim_steps_model.specs.Becoming.{Becomes};
 ghost use Rattle.sim_steps_model.specs.Dropping.{CanBeDropped, CanLeave, LeavesInnermost, LeavesAll, StopsWaiting};
 ghost use Rattle.sim_steps_model.specs.Holding.{StandInPlaces};

@@ -7,7 +7,7 @@ ghost use Rattle.sim_types.specs.Throws.{failure};
 ghost use Rattle.sim_machine.specs.Effect as effect;
 ghost use Rattle.sim_machine.specs.Processes as processes;
 ghost use Rattle.sim_machine.specs.Triggering as triggering;
-ghost use Rattle.sim_events.specs.TableOf.{IsKept, kept_at};
+ghost use Rattle.sim_happen_model.specs.TableOf.{IsKept, kept_at};
 ghost use Rattle.sim_happen_model.specs.Shows.{Follows};
 ghost use Rattle.sim_happen_model.specs.HappenOf.{AreHeldByFew};
 ghost use Rattle.sim_steps_model.specs.Becoming.{Becomes, BecomesOwing, BecomesWith, IsOwing};

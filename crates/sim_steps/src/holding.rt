@@ -1,8 +1,8 @@
 //! Holders of events: what the state of the machine names is held, so that it is kept, and what it names no more is given
 //! back (this project's own; in Python an interpreter counts references).
 ghost use Rattle.std.specs.Prelude.{◌≡◌, [], ◌∷◌};
-ghost use Rattle.sim_accounts.specs.Naming.{but_zero};
-ghost use Rattle.sim_events.specs.TableOf.{AreNeeded, IsKept, kept_count};
+ghost use Rattle.sim_happen_model.specs.Naming.{but_zero};
+ghost use Rattle.sim_happen_model.specs.TableOf.{AreNeeded, IsKept, kept_count};
 ghost use Rattle.sim_happen_model.specs.HappenOf.{AreHeldByFew};
 ghost use Rattle.sim_steps_model.specs.Becoming.{BecomesOwing, IsOwing};
 ghost use Rattle.sim_steps_model.specs.Holding.{HoldsMore, ReturnsHolder, TakesHolder};

@@ -13,12 +13,12 @@ use crate::making::{make_named, set_stop};
 use crate::parts::Parts;
 use rand_core::SeedableRng;
 use rand_pcg::Pcg64;
-use sim_memo::Memo;
 use sim_procs::{Body, Procs};
 use sim_shared::Shared;
 use sim_steps_model::Mode;
 use sim_types::{Setup, Start};
 use std::alloc::{AllocError, Global};
+use std::snapshot::Snapshot;
 
 impl<B: Body> Parts<B> {
     /// What a kernel has before any process is made.
@@ -52,9 +52,9 @@ impl<B: Body> Parts<B> {
             ready: None,
             mode: Mode::Idle,
             ports,
-            code: Memo::of(code),
-            setup: Memo::of(setup),
-            seed: Memo::of(&seed),
+            code: Snapshot::of(code),
+            setup: Snapshot::of(setup),
+            seed: Snapshot::of(&seed),
             alloc,
         })
     }

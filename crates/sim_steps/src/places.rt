@@ -1,7 +1,7 @@
 //! What stands in the places of bodies, and is held there (this project's own; in Python an interpreter counts references).
 ghost use Rattle.std.specs.Prelude.{◌≡◌, ◌<◌, ◌≤◌, ◌^◌, ℕ, [], IfSome, IsSome, length, slice_index_or};
-ghost use Rattle.sim_accounts.specs.Naming.{but_zero};
-ghost use Rattle.sim_events.specs.TableOf.{IsKept};
+ghost use Rattle.sim_happen_model.specs.Naming.{but_zero};
+ghost use Rattle.sim_happen_model.specs.TableOf.{IsKept};
 ghost use Rattle.sim_happen_model.specs.HappenOf.{held};
 ghost use Rattle.sim_procs.specs.RecordOf.{record_of};
 ghost use Rattle.sim_steps_model.specs.Becoming.{AreFew, BecomesOwing, IsOwing};

@@ -3,7 +3,7 @@ ghost use Rattle.std.specs.Prelude.{◌≡◌, ◌+◌, ◌<◌, ◌≤◌, ◌^
 ghost use Rattle.sim_types.specs.declared.event.Signal.TheVariants as signal;
 ghost use Rattle.sim_machine.specs.Processes.{told_more};
 ghost use Rattle.sim_machine.specs.Setups.{FitsCode};
-ghost use Rattle.sim_events.specs.TableOf.{AreNeeded};
+ghost use Rattle.sim_happen_model.specs.TableOf.{AreNeeded};
 ghost use Rattle.sim_happen_model.specs.HappenOf.{AreHeldByFew, held};
 ghost use Rattle.sim_procs.specs.RecordOf.{record_of};
 ghost use Rattle.sim_steps_model.specs.Becoming.{AreFew, IsOwing};

@@ -7,7 +7,7 @@ ghost use Rattle.sim_machine.specs.Effect as effect;
 ghost use Rattle.sim_machine.specs.Processes as processes;
 ghost use Rattle.sim_procs.specs.Premises.{CanBegin};
 ghost use Rattle.sim_procs.specs.RecordOf.{record_of};
-ghost use Rattle.sim_events.specs.TableOf.{IsKept};
+ghost use Rattle.sim_happen_model.specs.TableOf.{IsKept};
 ghost use Rattle.sim_happen_model.specs.HappenOf.{IsOpen, held};
 ghost use Rattle.sim_steps_model.specs.Becoming.{AreFew, Becomes, BecomesWith, IsOwing};
 ghost use Rattle.sim_steps_model.specs.Calling.{called};

@@ -6,7 +6,7 @@ use Rattle.sim_types.specs.declared.event.Callback.TheVariants as callback
 use Rattle.sim_machine.specs.State.{Calling, State, Plan}
 use Rattle.sim_machine.specs.Standing.{left_of}
 use Rattle.sim_machine.specs.Steps.{call}
-use Rattle.sim_events.specs.TableOf.{IsKept, kept_at}
+use Rattle.sim_happen_model.specs.TableOf.{IsKept, kept_at}
 use Rattle.sim_procs.specs.RecordOf.{RecordOf, record_of}
 use Rattle.sim_steps_model.specs.PartsOf.{PartsOf}
 

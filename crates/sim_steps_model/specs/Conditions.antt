@@ -5,7 +5,7 @@ use Rattle.sim_types.specs.declared.event.EventId.{EventId}
 use Rattle.sim_types.specs.declared.event.Callback.{Callback}
 use Rattle.sim_types.specs.declared.event.Callback.TheVariants as callback
 use Rattle.sim_machine.specs.Events.{is_same}
-use Rattle.sim_events.specs.TableOf.{Kept, IsKept, kept_at, kept_condition}
+use Rattle.sim_happen_model.specs.TableOf.{Kept, IsKept, kept_at, kept_condition}
 
 -- e is a member of a condition that is kept and was not cancelled; where it is pending not all members are counted
 pub record ChecksMember (condition e : EventId) (events : List (Option Kept)) : Type 0 where

@@ -14,7 +14,7 @@ use Rattle.sim_machine.specs.Scopes.{leave_innermost, leave_all}
 use Rattle.sim_machine.specs.Users.{resource_at}
 use Rattle.sim_machine.specs.MayAsk.{takes_requests, most_scopes}
 use Rattle.sim_procs.specs.RecordOf.{RecordOf, record_of, change_record, without_innermost}
-use Rattle.sim_events.specs.TableOf.{IsKept}
+use Rattle.sim_happen_model.specs.TableOf.{IsKept}
 use Rattle.sim_happen_model.specs.HappenOf.{HappenOf, held}
 use Rattle.sim_happen_model.specs.Shows.{Shows}
 use Rattle.sim_steps_model.specs.PartsOf.{PartsOf}

@@ -2,10 +2,10 @@
 use Rattle.std.specs.Prelude.{◌≡◌, ◌≤◌, ◌||◌, false, ℕ, List, [], ◌∷◌, ◌++◌, Option, length}
 use Rattle.sim_types.specs.declared.event.EventId.{EventId}
 use Rattle.sim_machine.specs.Tellings.{Telling}
-use Rattle.sim_events.specs.TableOf.{Kept, IsKept, kept_at}
+use Rattle.sim_happen_model.specs.TableOf.{Kept, IsKept, kept_at}
 use Rattle.sim_happen_model.specs.HappenOf.{HappenOf}
-use Rattle.sim_accounts.specs.Accounts.{Balanced}
-use Rattle.sim_accounts.specs.Naming.{but_zero, named_in_places}
+use Rattle.sim_happen_model.specs.Accounts.{Balanced}
+use Rattle.sim_happen_model.specs.Naming.{but_zero, named_in_places}
 
 -- a holder is taken: what is kept stays so, as it was, and nothing else is touched
 pub record TakesHolder (old new : HappenOf) : Type 0 where

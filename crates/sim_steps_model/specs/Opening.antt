@@ -4,7 +4,7 @@ use Rattle.sim_types.specs.declared.event.EventId.{EventId}
 use Rattle.sim_types.specs.declared.event.ProcId.{ProcId}
 use Rattle.sim_types.specs.declared.setup.Until.{Until}
 use Rattle.sim_types.specs.declared.setup.Until.TheVariants as until
-use Rattle.sim_events.specs.TableOf.{Kept, IsKept, kept_at}
+use Rattle.sim_happen_model.specs.TableOf.{Kept, IsKept, kept_at}
 use Rattle.sim_machine.specs.Processes.{make_events_of_process}
 use Rattle.sim_machine.specs.Runs.{set_stop}
 use Rattle.sim_machine.specs.Tellings.{CodeFacts}

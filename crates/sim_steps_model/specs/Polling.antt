@@ -13,9 +13,9 @@ use Rattle.sim_machine.specs.Steps.{polled}
 use Rattle.sim_machine.specs.Tellings.{CodeFacts}
 use Rattle.sim_machine.specs.Bodies.{BodyOf}
 use Rattle.sim_machine_law.specs.NamedEvents.{events_named}
-use Rattle.sim_events.specs.TableOf.{IsKept, kept_at}
+use Rattle.sim_happen_model.specs.TableOf.{IsKept, kept_at}
 use Rattle.sim_procs.specs.RecordOf.{RecordOf, change_record, record_of}
-use Rattle.sim_accounts.specs.Naming.{but_zero}
+use Rattle.sim_happen_model.specs.Naming.{but_zero}
 use Rattle.sim_steps_model.specs.declared.mode.Unit.{Unit}
 use Rattle.sim_steps_model.specs.PartsOf.{PartsOf, plan_of, with_happen}
 use Rattle.sim_steps_model.specs.StandsFor.{StandsFor, LawfulOf, StepOf, lines_of}

@@ -7,7 +7,7 @@ use Rattle.sim_machine.specs.MayAsk.{takes_requests}
 use Rattle.sim_machine.specs.Effect.{with_move}
 use Rattle.sim_machine.specs.Bodies.{BodyOf}
 use Rattle.sim_machine.specs.Scopes.{on_facilities}
-use Rattle.sim_events.specs.TableOf.{IsKept}
+use Rattle.sim_happen_model.specs.TableOf.{IsKept}
 use Rattle.sim_shared_model.specs.Making.{ShowsSome}
 use Rattle.sim_shared_model.specs.Waiting.{AreAllOpen}
 use Rattle.sim_steps_model.specs.PartsOf.{PartsOf, HasUnitRoom}

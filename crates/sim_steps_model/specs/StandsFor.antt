@@ -14,8 +14,8 @@ use Rattle.sim_machine.specs.Runs.{opening}
 use Rattle.sim_machine.specs.Lawful.{Lawful}
 use Rattle.sim_procs.specs.RecordOf.{RecordOf}
 use Rattle.sim_shared_model.specs.ShowsAll.{ShowsAll}
-use Rattle.sim_accounts.specs.Naming.{held_alone}
-use Rattle.sim_accounts.specs.Accounts.{AreGoneClosed, Balanced}
+use Rattle.sim_happen_model.specs.Naming.{held_alone}
+use Rattle.sim_happen_model.specs.Accounts.{AreGoneClosed, Balanced}
 use Rattle.sim_steps_model.specs.PartsOf.{PartsOf, plan_of}
 use Rattle.sim_steps_model.specs.declared.mode.Unit.{Unit}
 use Rattle.sim_steps_model.specs.declared.mode.Unit.TheVariants as unit

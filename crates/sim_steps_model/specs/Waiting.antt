@@ -6,7 +6,7 @@ use Rattle.sim_machine.specs.Effect.{with_timeout}
 use Rattle.sim_machine.specs.Bodies.{BodyOf}
 use Rattle.sim_machine.specs.Scopes.{on_events}
 use Rattle.sim_machine.specs.Triggering.{make_timeout}
-use Rattle.sim_events.specs.TableOf.{IsKept, kept_at}
+use Rattle.sim_happen_model.specs.TableOf.{IsKept, kept_at}
 use Rattle.sim_steps_model.specs.PartsOf.{PartsOf, KeepsButHappen}
 use Rattle.sim_steps_model.specs.Becoming.{Becomes, BecomesWith}
 

@@ -11,11 +11,11 @@ use Rattle.sim_machine.specs.Events.{is_same}
 use Rattle.sim_machine.specs.Attempts.{fill, drain}
 use Rattle.sim_machine.specs.Attempts as attempts
 use Rattle.sim_machine.specs.Trying.{WhileServed}
-use Rattle.sim_stores.specs.declared.waiting.WaitingAmount.{WaitingAmount}
-use Rattle.sim_stores.specs.Waiting.{stands_among, AllDiffer, besides}
+use Rattle.sim_shared_model.specs.declared.stock.WaitingAmount.{WaitingAmount}
+use Rattle.sim_shared_model.specs.StoreQueues.{stands_among, AllDiffer, besides}
 use Rattle.sim_stores.specs.Queues.{PopsWithin}
-use Rattle.sim_stores.specs.Tanks.{TankOf, attempt_fill, attempt_drain, Fills, Drains}
-use Rattle.sim_stores.proofs.Apart.{differ_first, differ_second, differ_without}
+use Rattle.sim_shared_model.specs.Tanks.{TankOf, attempt_fill, attempt_drain, Fills, Drains}
+use Rattle.sim_shared_model.proofs.Apart.{differ_first, differ_second, differ_without}
 use Rattle.sim_stores.proofs.Leaving.{differ_besides}
 use Rattle.sim_stores.proofs.Serving.{serves_first}
 use Rattle.sim_stores.specs.Sound.{IsSoundTank}

@@ -4,7 +4,7 @@ use Rattle.std.specs.List.{remove, AllWithin, HoldsAt}
 use Rattle.std.proofs.lemmas.Bool.{false≢true}
 use Rattle.std.proofs.lemmas.List.{take-append-drop, drop_more, get_or-take, length-take-le}
 use Rattle.sim_machine.specs.State.{Item}
-use Rattle.sim_stores.specs.Shelves.{Leaves}
+use Rattle.sim_shared_model.specs.Shelves.{Leaves}
 use Rattle.sim_stores.specs.Items.{GivesItem, is_in_range}
 
 module _ {X : Type 0} (p : X → Bool) where

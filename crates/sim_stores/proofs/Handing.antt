@@ -7,15 +7,15 @@ use Rattle.sim_machine.specs.State.{Item, Taken}
 use Rattle.sim_machine.specs.Users.{first_of_list, least_item}
 use Rattle.sim_machine.specs.Attempts.{hand_out}
 use Rattle.sim_machine.specs.Trying.{get_reach}
-use Rattle.sim_stores.specs.declared.waiting.Served.{Served}
-use Rattle.sim_stores.specs.declared.waiting.WaitingPut.{WaitingPut}
-use Rattle.sim_stores.specs.declared.waiting.WaitingGet.{WaitingGet}
+use Rattle.sim_shared_model.specs.declared.stock.Served.{Served}
+use Rattle.sim_shared_model.specs.declared.stock.WaitingPut.{WaitingPut}
+use Rattle.sim_shared_model.specs.declared.stock.WaitingGet.{WaitingGet}
 use Rattle.sim_stores.specs.declared.stock.Stock.{Stock}
-use Rattle.sim_stores.specs.declared.stock.ShelfKind.{ShelfKind}
-use Rattle.sim_stores.specs.declared.stock.ShelfKind.TheVariants as kind
+use Rattle.sim_shared_model.specs.declared.stock.ShelfKind.{ShelfKind}
+use Rattle.sim_shared_model.specs.declared.stock.ShelfKind.TheVariants as kind
 use Rattle.sim_stores.specs.Items.{GivesItem}
 use Rattle.sim_stores.specs.Stocks.{kind_of_stock, items_of_stock}
-use Rattle.sim_stores.specs.Shelves.{Leaves, ShelfOf, store_kind, given_to, attempt_hand_out, HandsOut}
+use Rattle.sim_shared_model.specs.Shelves.{Leaves, ShelfOf, store_kind, given_to, attempt_hand_out, HandsOut}
 use Rattle.sim_stores.specs.Finding.{given_from, FindsGet}
 use Rattle.sim_stores.proofs.Looking.{looked_few}
 use Rattle.sim_stores.proofs.Storing.{sound_hand_out}

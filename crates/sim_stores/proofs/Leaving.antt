@@ -9,8 +9,8 @@ use Rattle.std.proofs.lemmas.List.Kept.{AllPairs-filter}
 use Rattle.sim_types.proofs.Permutations.{AllPairs-head, AllPairs-tail}
 use Rattle.sim_types.specs.declared.event.EventId.{EventId}
 use Rattle.sim_machine.specs.Events.{is_same}
-use Rattle.sim_stores.specs.Waiting.{stands_among, AllDiffer, besides}
-use Rattle.sim_stores.proofs.Apart.{Apart}
+use Rattle.sim_shared_model.specs.StoreQueues.{stands_among, AllDiffer, besides}
+use Rattle.sim_shared_model.proofs.Apart.{Apart}
 
 module _ {X : Type 0} (p : X → Bool) where
   stays_step : (b r : Bool) (x : X) (us vs : List X) → (b || r) ≡ false → (r ≡ false → us ≡ vs) → cond (not b) (x ∷ us) us ≡ x ∷ vs

@@ -1,5 +1,4 @@
 -- events that wait
-pub mod Apart
 pub mod Leaving
 -- tries
 pub mod Serving

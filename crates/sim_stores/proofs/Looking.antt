@@ -4,12 +4,12 @@ use Rattle.std.proofs.lemmas.List.{take_all, take_more, get_or_default}
 use Rattle.std.proofs.lemmas.List.Elements.{All-push}
 use Rattle.sim_machine.specs.Trying.{Reach, First, WhileServed, get_reach}
 use Rattle.sim_machine.specs.Trying as trying
-use Rattle.sim_stores.specs.declared.waiting.WaitingGet.{WaitingGet}
+use Rattle.sim_shared_model.specs.declared.stock.WaitingGet.{WaitingGet}
 use Rattle.sim_stores.specs.declared.stock.Stock.{Stock}
-use Rattle.sim_stores.specs.Waiting.{looked_at}
+use Rattle.sim_shared_model.specs.StoreQueues.{looked_at}
 use Rattle.sim_stores.specs.Items.{ItemsOf, GivesItem}
 use Rattle.sim_stores.specs.Stocks.{kind_of_stock, items_of_stock}
-use Rattle.sim_stores.specs.Shelves.{store_kind, given_to}
+use Rattle.sim_shared_model.specs.Shelves.{store_kind, given_to}
 use Rattle.sim_stores.specs.Finding.{given_from, FindsGet}
 
 module _ {W : Type 0} where

@@ -5,7 +5,7 @@ use Rattle.sim_types.specs.declared.event.EventId.{EventId}
 use Rattle.sim_machine.specs.Attempts as attempts
 use Rattle.sim_machine.specs.Trying.{Reach, First, WhileServed}
 use Rattle.sim_machine.specs.Trying as trying
-use Rattle.sim_stores.specs.Waiting.{looked_at, ServesOne}
+use Rattle.sim_shared_model.specs.StoreQueues.{looked_at, ServesOne}
 
 -- a try looks at the first in any case
 pub looks_at_first : {W : Type 0} (reach : Reach) (w : W) (ws : List W) → 0 < length (looked_at reach (w ∷ ws))

@@ -8,12 +8,12 @@ use Rattle.sim_types.specs.declared.event.EventId.{EventId}
 use Rattle.sim_machine.specs.State.{Item, Deposited}
 use Rattle.sim_machine.specs.Attempts as attempts
 use Rattle.sim_machine.specs.Trying.{put_reach}
-use Rattle.sim_stores.specs.declared.waiting.WaitingPut.{WaitingPut}
-use Rattle.sim_stores.specs.declared.waiting.WaitingGet.{WaitingGet}
-use Rattle.sim_stores.specs.declared.stock.ShelfKind.{ShelfKind}
-use Rattle.sim_stores.specs.Waiting.{stands_among, AllDiffer, besides}
-use Rattle.sim_stores.specs.Shelves.{Leaves, ShelfOf, store_kind, brought_by, attempt_deposit, Deposits}
-use Rattle.sim_stores.proofs.Apart.{differ_first, differ_second, differ_without, differ_served}
+use Rattle.sim_shared_model.specs.declared.stock.WaitingPut.{WaitingPut}
+use Rattle.sim_shared_model.specs.declared.stock.WaitingGet.{WaitingGet}
+use Rattle.sim_shared_model.specs.declared.stock.ShelfKind.{ShelfKind}
+use Rattle.sim_shared_model.specs.StoreQueues.{stands_among, AllDiffer, besides}
+use Rattle.sim_shared_model.specs.Shelves.{Leaves, ShelfOf, store_kind, brought_by, attempt_deposit, Deposits}
+use Rattle.sim_shared_model.proofs.Apart.{differ_first, differ_second, differ_without, differ_served}
 use Rattle.sim_stores.proofs.Leaving.{differ_besides}
 use Rattle.sim_stores.proofs.Serving.{serves_first}
 use Rattle.sim_stores.specs.Sound.{IsSoundShelf}

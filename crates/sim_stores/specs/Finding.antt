@@ -2,12 +2,12 @@
 use Rattle.std.specs.Prelude.{◌≡◌, ℕ, ◌<◌, ◌≤◌, ℤ, List, length, take, slice_index_or, Option, None, All, MatchOption}
 use Rattle.sim_machine.specs.State.{Item}
 use Rattle.sim_machine.specs.Trying.{get_reach}
-use Rattle.sim_stores.specs.declared.waiting.WaitingGet.{WaitingGet}
+use Rattle.sim_shared_model.specs.declared.stock.WaitingGet.{WaitingGet}
 use Rattle.sim_stores.specs.declared.stock.Stock.{Stock}
-use Rattle.sim_stores.specs.Waiting.{looked_at}
+use Rattle.sim_shared_model.specs.StoreQueues.{looked_at}
 use Rattle.sim_stores.specs.Items.{GivesItem}
 use Rattle.sim_stores.specs.Stocks.{kind_of_stock, items_of_stock}
-use Rattle.sim_stores.specs.Shelves.{store_kind, given_to}
+use Rattle.sim_shared_model.specs.Shelves.{store_kind, given_to}
 
 -- the item that a get is given from the stock, if there is one
 abbrev pub given_from : Stock → WaitingGet → Option Item

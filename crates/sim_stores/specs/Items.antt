@@ -2,7 +2,7 @@
 use Rattle.std.specs.Prelude.{◌≡◌, ◌<◌, Bool, ◌&&◌, IsTrue, IsFalse, int_le, ℕ, length, ℤ, List, Option, Some, None, MatchOption}
 use Rattle.std.specs.List.{AllWithin, HoldsAt}
 use Rattle.sim_machine.specs.State.{Item}
-use Rattle.sim_stores.specs.Shelves.{Leaves}
+use Rattle.sim_shared_model.specs.Shelves.{Leaves}
 
 -- the items in the order put, and for how many more there is room
 pub record ItemsOf : Type 0 where

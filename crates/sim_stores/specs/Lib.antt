@@ -1,7 +1,4 @@
 -- what the contracts of this crate say
-pub mod Waiting
-pub mod Tanks
-pub mod Shelves
 -- how the code keeps it
 pub mod Items
 pub mod RankedItems

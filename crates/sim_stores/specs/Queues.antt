@@ -3,7 +3,7 @@ use Rattle.std.specs.Prelude.{◌≡◌, true, false, ℕ, ◌<◌, ℤ, ◌≤�
 use Rattle.std.specs.List.{list_any}
 use Rattle.sim_types.specs.declared.event.EventId.{EventId}
 use Rattle.sim_machine.specs.Events.{is_same}
-use Rattle.sim_stores.specs.declared.waiting.WaitingAmount.{WaitingAmount}
+use Rattle.sim_shared_model.specs.declared.stock.WaitingAmount.{WaitingAmount}
 
 -- the first is taken out of a queue, and its amount is at most so much
 pub record PopsWithin (most : ℤ) (old : List WaitingAmount) (first : WaitingAmount) (after : List WaitingAmount) : Type 0 where

@@ -2,10 +2,10 @@
 use Rattle.std.specs.Prelude.{ℕ, ◌≤◌, ℤ, pos, ◌≤ℤ◌, ◌<ℤ◌, List, ◌++◌, map, length, All}
 use Rattle.sim_types.specs.Limits.{most_level}
 use Rattle.sim_machine.specs.State.{Item}
-use Rattle.sim_stores.specs.declared.waiting.WaitingAmount.{WaitingAmount}
-use Rattle.sim_stores.specs.declared.waiting.WaitingPut.{WaitingPut}
-use Rattle.sim_stores.specs.declared.waiting.WaitingGet.{WaitingGet}
-use Rattle.sim_stores.specs.Waiting.{AllDiffer}
+use Rattle.sim_shared_model.specs.declared.stock.WaitingAmount.{WaitingAmount}
+use Rattle.sim_shared_model.specs.declared.stock.WaitingPut.{WaitingPut}
+use Rattle.sim_shared_model.specs.declared.stock.WaitingGet.{WaitingGet}
+use Rattle.sim_shared_model.specs.StoreQueues.{AllDiffer}
 
 -- the level is from 0 to the capacity, amounts are above 0, and the events that wait differ
 pub record IsSoundTank (capacity level : ℤ) (puts gets : List WaitingAmount) : Type 0 where

@@ -3,8 +3,8 @@ use Rattle.std.specs.Prelude.{Bool, true, false}
 use Rattle.sim_stores.specs.Items.{ItemsOf}
 use Rattle.sim_stores.specs.declared.stock.Stock.{Stock}
 use Rattle.sim_stores.specs.declared.stock.Stock.TheVariants as stock
-use Rattle.sim_stores.specs.declared.stock.ShelfKind.{ShelfKind}
-use Rattle.sim_stores.specs.declared.stock.ShelfKind.TheVariants as kind
+use Rattle.sim_shared_model.specs.declared.stock.ShelfKind.{ShelfKind}
+use Rattle.sim_shared_model.specs.declared.stock.ShelfKind.TheVariants as kind
 
 -- the kind of store that this is
 abbrev pub kind_of_stock : Stock → ShelfKind

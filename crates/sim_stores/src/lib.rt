@@ -10,6 +10,4 @@ mod tank;
 mod waiting;
 
 pub use shelf::Shelf;
-pub use stock::ShelfKind;
 pub use tank::Tank;
-pub use waiting::{Served, WaitingAmount, WaitingGet, WaitingPut};

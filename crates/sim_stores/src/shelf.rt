@@ -1,13 +1,14 @@
 ghost use Rattle.std.specs.Prelude.{◌≡◌, ◌+◌, ◌-◌, ◌≤◌, ℕ, [], ◌∷◌, ◌++◌, length, IsFalse, IsOk, OnOk};
 ghost use Rattle.sim_machine.specs.Trying.{get_reach};
-ghost use Rattle.sim_stores.specs.Waiting.{stands_among, looked_at, AllDiffer};
+ghost use Rattle.sim_shared_model.specs.StoreQueues.{stands_among, looked_at, AllDiffer};
 ghost use Rattle.sim_stores.specs.Stocks.{kind_of_stock, items_of_stock};
-ghost use Rattle.sim_stores.specs.Shelves.{waiting_at_shelf, TriesDeposit, TriesHandOut, shelf_besides, store_kind};
+ghost use Rattle.sim_shared_model.specs.Shelves.{waiting_at_shelf, TriesDeposit, TriesHandOut, shelf_besides, store_kind};
 ghost use Rattle.sim_stores.specs.Finding.{FindsGetIfAny};
 
 use crate::item::Item;
-use crate::stock::{ShelfKind, Stock};
-use crate::waiting::{Served, WaitingGet, WaitingPut, leave_queue};
+use crate::stock::Stock;
+use crate::waiting::leave_queue;
+use sim_shared_model::{Served, ShelfKind, WaitingGet, WaitingPut};
 use sim_types::EventId;
 use std::alloc::{AllocError, Global};
 use std::collections::VecDeque;
@@ -28,7 +29,7 @@ impl Model for Shelf {
     ghost use Rattle.std.specs.Prelude.{◌-◌, ◌≤◌, min};
     ghost use Rattle.std.specs.VecDeque.{deque_len, deque_capacity};
     ghost use Rattle.sim_stores.specs.Stocks.{kind_of_stock, items_of_stock};
-    ghost use Rattle.sim_stores.specs.Shelves.{ShelfOf};
+    ghost use Rattle.sim_shared_model.specs.Shelves.{ShelfOf};
     ghost use Rattle.sim_stores.specs.Sound.{IsSoundShelf};
 
     ghost Value = { ShelfOf };

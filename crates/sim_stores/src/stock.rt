@@ -3,23 +3,13 @@ ghost use Rattle.std.specs.Prelude.{◌≡◌, ◌+◌, ◌≤◌, [], ◌∷◌
 ghost use Rattle.sim_machine.specs.Users.{item_for};
 ghost use Rattle.sim_stores.specs.Items.{GivesItemIfAny};
 ghost use Rattle.sim_stores.specs.Stocks.{kind_of_stock, items_of_stock, is_filter};
-ghost use Rattle.sim_stores.specs.Shelves.{store_kind};
+ghost use Rattle.sim_shared_model.specs.Shelves.{store_kind};
 
 use crate::heap::Heap;
 use crate::item::Item;
 use crate::row::Row;
+use sim_shared_model::ShelfKind;
 use std::alloc::{AllocError, Global};
-
-/// Which item a store gives (SimPy's Store, PriorityStore and FilterStore).
-#[derive(Clone, Copy)]
-pub enum ShelfKind {
-    /// The first put.
-    Fifo,
-    /// The one with the least priority, among equals the first put.
-    Priority,
-    /// The first put of those in the range of the get.
-    Filter,
-}
 
 /// The items of a store.
 #[derive(Drop)]

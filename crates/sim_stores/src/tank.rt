@@ -1,11 +1,12 @@
 ghost use Rattle.std.specs.Prelude.{◌≡◌, ◌+◌, ◌-◌, ◌≤◌, ℕ, pos, ◌≤ℤ◌, ◌<ℤ◌, [], ◌∷◌, ◌++◌, All, IfSome, IsFalse, IsOk, OnOk};
 ghost use Rattle.sim_types.specs.Limits.{most_level};
 ghost use Rattle.std.specs.VecDeque.{deque_len, deque_capacity};
-ghost use Rattle.sim_stores.specs.Waiting.{stands_among, AllDiffer};
+ghost use Rattle.sim_shared_model.specs.StoreQueues.{stands_among, AllDiffer};
 ghost use Rattle.sim_stores.specs.Queues.{PopsIfWithin};
-ghost use Rattle.sim_stores.specs.Tanks.{waiting_at_tank, TriesFill, TriesDrain, tank_besides};
+ghost use Rattle.sim_shared_model.specs.Tanks.{waiting_at_tank, TriesFill, TriesDrain, tank_besides};
 
-use crate::waiting::{Served, WaitingAmount, leave_queue};
+use crate::waiting::leave_queue;
+use sim_shared_model::{Served, WaitingAmount};
 use sim_types::EventId;
 use std::alloc::{AllocError, Global};
 use std::collections::VecDeque;
@@ -24,7 +25,7 @@ pub struct Tank {
 impl Model for Tank {
     ghost use Rattle.std.specs.Prelude.{◌-◌};
     ghost use Rattle.std.specs.VecDeque.{deque_len, deque_capacity};
-    ghost use Rattle.sim_stores.specs.Tanks.{TankOf};
+    ghost use Rattle.sim_shared_model.specs.Tanks.{TankOf};
     ghost use Rattle.sim_stores.specs.Sound.{IsSoundTank};
 
     ghost Value = { TankOf };

@@ -4,48 +4,12 @@ ghost use Rattle.std.specs.List.{list_any};
 ghost use Rattle.std.specs.VecDeque.{deque_len, deque_capacity};
 ghost use Rattle.sim_machine.specs.Events.{is_same};
 ghost use Rattle.sim_types.specs.declared.event.EventId.{EventId};
-ghost use Rattle.sim_stores.specs.Waiting.{AllDiffer, besides};
+ghost use Rattle.sim_shared_model.specs.StoreQueues.{AllDiffer, besides};
 ghost use Rattle.sim_stores.specs.Queues.{IsPlaceOf};
 
+use sim_shared_model::{WaitingAmount, WaitingGet, WaitingPut};
 use sim_types::EventId;
 use std::collections::VecDeque;
-
-/// A put or get that was served.
-#[derive(Clone, Copy, Debug, PartialEq, Eq)]
-pub struct Served {
-    /// The event of the put or get.
-    pub event: EventId,
-    /// What the event is to succeed with: the value of the item that a get of a store is given, else 0.
-    pub value: i64,
-}
-
-/// A put or get that waits at a container.
-#[derive(Clone, Copy)]
-pub struct WaitingAmount {
-    pub event: EventId,
-    /// How much is put or got.
-    pub amount: i64,
-}
-
-/// A put that waits at a store.
-#[derive(Clone, Copy)]
-pub struct WaitingPut {
-    pub event: EventId,
-    /// The value of the item.
-    pub value: i64,
-    /// The priority of the item: a priority store gives the least first. Others take no notice of it.
-    pub priority: i64,
-}
-
-/// A get that waits at a store.
-#[derive(Clone, Copy)]
-pub struct WaitingGet {
-    pub event: EventId,
-    /// A filter store gives an item from here ..
-    pub least: i64,
-    /// .. to here. Others take no notice of the two.
-    pub greatest: i64,
-}
 
 /// What waits, and is known by its event.
 pub(crate) trait Waits: Drop {

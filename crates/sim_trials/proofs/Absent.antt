@@ -5,8 +5,8 @@ use Rattle.std.proofs.lemmas.List.Elements.{All-nil, All-cons}
 use Rattle.sim_types.specs.declared.event.EventId.{EventId}
 use Rattle.sim_machine.specs.Events.{is_same}
 use Rattle.sim_machine.specs.State.{User}
-use Rattle.sim_resource.specs.declared.queue.WaitingRequest.{WaitingRequest}
-use Rattle.sim_resource.proofs.Removals.{same_self}
+use Rattle.sim_shared_model.specs.declared.desk.WaitingRequest.{WaitingRequest}
+use Rattle.sim_shared_model.proofs.LeftOut.{same_self}
 
 not_both : true ≡ false → ⊥
 not_both h = cc

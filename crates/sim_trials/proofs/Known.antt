@@ -17,14 +17,14 @@ use Rattle.sim_machine.specs.Agenda.{due, popped}
 use Rattle.sim_machine.specs.Runs.{first_calendar}
 use Rattle.sim_machine.specs.State.{EventOf, Calendar}
 use Rattle.sim_machine.specs.Events.{event_at, pending_event}
-use Rattle.sim_events.specs.TableOf.{Kept, IsKept, kept_at, kept_or_new, is_needed}
-use Rattle.sim_events.specs.Changes.{without_holder}
+use Rattle.sim_happen_model.specs.TableOf.{Kept, IsKept, kept_at, kept_or_new, is_needed}
+use Rattle.sim_happen_model.specs.Changes.{without_holder}
 use Rattle.sim_happen_model.specs.HappenOf.{HappenOf, AreHeldByFew, held, one_more}
 use Rattle.sim_happen_model.specs.Holders.{members_in, member_count, HasOwnHolder, unheld, unheld_within}
 use Rattle.sim_happen_model.specs.Shows.{Shows, Turns, PopsEntry}
-use Rattle.sim_happen_law.proofs.KeptPlaces.{kept_is}
-use Rattle.sim_happen_law.proofs.Held.{holders_at, held_at, kept_of}
-use Rattle.sim_happen_law.proofs.Shutting.{by_need}
+use Rattle.sim_happen_law.proofs.Shown.KeptPlaces.{kept_is}
+use Rattle.sim_happen_law.proofs.Changes.Held.{holders_at, held_at, kept_of}
+use Rattle.sim_happen_law.proofs.Changes.Shutting.{by_need}
 
 pub record Known (h : HappenOf) (c : Calendar) (hs : List (Option ℕ)) : Type 0 where
   pub shows : Shows h c

@@ -1,6 +1,7 @@
 //! Slots that requests wait for and use.
 
-use sim_resource::{Desk, DeskKind, Grant};
+use sim_resource::Desk;
+use sim_shared_model::{DeskKind, Grant};
 use sim_types::{EventId, ProcId, RequestKey};
 use std::process::Abort;
 use std::test::Fail;

@@ -1,7 +1,8 @@
 //! Containers and stores.
 ghost use Rattle.std.specs.Prelude.{pos, ◌<ℤ◌};
 
-use sim_stores::{Served, Shelf, ShelfKind, Tank};
+use sim_shared_model::{Served, ShelfKind};
+use sim_stores::{Shelf, Tank};
 use sim_types::EventId;
 use std::process::Abort;
 use std::test::Fail;

@@ -4,8 +4,8 @@ ghost use Rattle.std.specs.List.{list_any};
 ghost use Rattle.sim_machine.specs.State.{Every, Either};
 ghost use Rattle.sim_machine.specs.Events.{is_same};
 ghost use Rattle.sim_machine.specs.Conditions.{is_met};
-ghost use Rattle.sim_events.specs.TableOf.{new_kept, new_condition, kept_at, kept_condition, IsKept};
-ghost use Rattle.sim_events.specs.Changes.{on_condition, change_kept, more_events, more_conditions};
+ghost use Rattle.sim_happen_model.specs.TableOf.{new_kept, new_condition, kept_at, kept_condition, IsKept};
+ghost use Rattle.sim_happen_model.specs.Changes.{on_condition, change_kept, more_events, more_conditions};
 
 use super::{Table, add, key_of};
 use crate::part::{ConditionValue, Part};

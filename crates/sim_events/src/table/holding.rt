@@ -1,7 +1,7 @@
 //! Who holds an event: what takes a holder, and what gives one back.
 ghost use Rattle.std.specs.Prelude.{◌≡◌, ◌+◌, ◌<◌, ◌^◌, not, is_some, is_none, IfNone, IfSome};
-ghost use Rattle.sim_events.specs.TableOf.{kept_at, IsKept, is_needed, kept_and_spare};
-ghost use Rattle.sim_events.specs.Changes.{with_holder, without_holder, change_kept, change_or_forget, callbacks_freed, conditions_freed};
+ghost use Rattle.sim_happen_model.specs.TableOf.{kept_at, IsKept, is_needed, kept_and_spare};
+ghost use Rattle.sim_happen_model.specs.Changes.{with_holder, without_holder, change_kept, change_or_forget, callbacks_freed, conditions_freed};
 ghost use Rattle.sim_events.specs.States.{is_unhandled};
 
 use super::{Table, forget_unneeded, key_of};

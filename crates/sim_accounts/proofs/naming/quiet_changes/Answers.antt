@@ -1,5 +1,5 @@
 use Rattle.std.proofs.Common.{refl}
-use Rattle.sim_accounts.specs.Naming.{held_alone}
+use Rattle.sim_happen_model.specs.Naming.{held_alone}
 use Rattle.sim_accounts.proofs.Trading.{trades_nothing}
 use Rattle.sim_accounts.proofs.StateChanges.{quiet_trade}
 use Rattle.sim_accounts.proofs.Quiet.{told_trade, rest_trade, stripped_trade}

@@ -2,7 +2,7 @@ use Rattle.std.proofs.Common.{◌≡◌, ap, sym, subst, ◌∙◌}
 use Rattle.std.proofs.lemmas.Result.{on_ok_weaker}
 use Rattle.sim_types.specs.declared.setup.Setup.{Setup}
 use Rattle.sim_machine.specs.Setups.{FitsCode}
-use Rattle.sim_machine_law.proofs.OpeningLaws.{starts_open}
+use Rattle.sim_lawful.proofs.Opening.OpeningLaws.{starts_open}
 use Rattle.sim_steps_model.specs.PartsOf.{plan_of}
 use Rattle.sim_steps_model.specs.Opening.{CanStop}
 use Rattle.sim_kernel.proofs.StartingAll.{all_few}

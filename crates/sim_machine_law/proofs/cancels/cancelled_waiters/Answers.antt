@@ -1,5 +1,5 @@
-use Rattle.sim_machine_law.proofs.ReleasedUsers.{waiters_cancelled, ledger_cancelled}
-use Rattle.sim_machine_law.proofs.CancelledWaiters.{agenda_cancelled, registered_cancelled, others_cancelled}
+use Rattle.sim_machine_law.proofs.Requests.ReleasedUsers.{waiters_cancelled, ledger_cancelled}
+use Rattle.sim_machine_law.proofs.Requests.CancelledWaiters.{agenda_cancelled, registered_cancelled, others_cancelled}
 use Rattle.sim_machine_law.proofs.cancels.cancelled_waiters.Goals as goal
 
 pub returns-clause-waiters : goal.returns-clause-waiters

@@ -1,5 +1,5 @@
-use Rattle.sim_machine_law.proofs.ReleasedUsers.{waiters_left}
-use Rattle.sim_machine_law.proofs.CancelledWaiters.{users_left, other_users_left, items_left, level_left, scheduled_left}
+use Rattle.sim_machine_law.proofs.Requests.ReleasedUsers.{waiters_left}
+use Rattle.sim_machine_law.proofs.Requests.CancelledWaiters.{users_left, other_users_left, items_left, level_left, scheduled_left}
 use Rattle.sim_machine_law.proofs.cancels.left_scopes.Goals as goal
 
 pub returns-clause-waiters : goal.returns-clause-waiters

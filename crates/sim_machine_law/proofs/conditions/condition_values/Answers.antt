@@ -1,4 +1,4 @@
-use Rattle.sim_machine_law.proofs.ConditionValues.{value_is, value_has, value_once, stands_already, stands_last, plain_value}
+use Rattle.sim_machine_law.proofs.ConditionLaws.ConditionValues.{value_is, value_has, value_once, stands_already, stands_last, plain_value}
 use Rattle.sim_machine_law.proofs.conditions.condition_values.Goals as goal
 
 pub returns-clause-leaves : goal.returns-clause-leaves

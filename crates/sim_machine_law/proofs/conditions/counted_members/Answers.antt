@@ -1,4 +1,4 @@
-use Rattle.sim_machine_law.proofs.CountedMembers.{counts_one, all_of_counted, any_of_counted, fails_with, defuses_member, counts_nothing}
+use Rattle.sim_machine_law.proofs.ConditionLaws.CountedMembers.{counts_one, all_of_counted, any_of_counted, fails_with, defuses_member, counts_nothing}
 use Rattle.sim_machine_law.proofs.conditions.counted_members.Goals as goal
 
 pub returns-clause-counts : goal.returns-clause-counts

@@ -1,4 +1,4 @@
-use Rattle.sim_machine_law.proofs.PlainWeights.{plain_weight, wide_told, wide_where}
+use Rattle.sim_machine_law.proofs.ConditionLaws.PlainWeights.{plain_weight, wide_told, wide_where}
 use Rattle.sim_machine_law.proofs.conditions.weights.Goals as goal
 
 pub returns-clause-plain : goal.returns-clause-plain

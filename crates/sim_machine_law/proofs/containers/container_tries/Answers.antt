@@ -1,4 +1,4 @@
-use Rattle.sim_machine_law.proofs.ServedFronts.{front_of_puts, front_of_gets}
+use Rattle.sim_machine_law.proofs.Stocks.ServedFronts.{front_of_puts, front_of_gets}
 use Rattle.sim_machine_law.proofs.containers.container_tries.Goals as goal
 
 pub returns-clause-puts : goal.returns-clause-puts

@@ -1,4 +1,4 @@
-use Rattle.sim_machine_law.proofs.ServedFronts.{level_of_amounts}
+use Rattle.sim_machine_law.proofs.Stocks.ServedFronts.{level_of_amounts}
 use Rattle.sim_machine_law.proofs.containers.levels.Goals as goal
 
 pub returns : goal.returns

@@ -1,4 +1,4 @@
-use Rattle.sim_machine_law.proofs.UsersOfDeeds.{nothing_done, user_more, user_replaced}
+use Rattle.sim_machine_law.proofs.Ledger.UsersOfDeeds.{nothing_done, user_more, user_replaced}
 use Rattle.sim_machine_law.proofs.desks.attempts.Goals as goal
 
 pub returns-clause-nothing : goal.returns-clause-nothing

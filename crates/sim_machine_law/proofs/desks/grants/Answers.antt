@@ -1,4 +1,4 @@
-use Rattle.sim_machine_law.proofs.GrantedSlots.{takes_slot_of, room_where_free, free_where_room, no_slot_of}
+use Rattle.sim_machine_law.proofs.Requests.GrantedSlots.{takes_slot_of, room_where_free, free_where_room, no_slot_of}
 use Rattle.sim_machine_law.proofs.desks.grants.Goals as goal
 
 pub returns-clause-free : goal.returns-clause-free

@@ -1,4 +1,4 @@
-use Rattle.sim_machine_law.proofs.KeptUses.{uses_kept}
+use Rattle.sim_machine_law.proofs.Requests.KeptUses.{uses_kept}
 use Rattle.sim_machine_law.proofs.desks.own_victim.Goals as goal
 
 pub returns : goal.returns

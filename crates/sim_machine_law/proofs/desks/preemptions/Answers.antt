@@ -1,5 +1,5 @@
 use Rattle.std.proofs.Common.{refl}
-use Rattle.sim_machine_law.proofs.MadeInterruptions.{throws, is_defused, urgent_now}
+use Rattle.sim_machine_law.proofs.Requests.MadeInterruptions.{throws, is_defused, urgent_now}
 use Rattle.sim_machine_law.proofs.desks.preemptions.Goals as goal
 
 pub returns-clause-throws : goal.returns-clause-throws

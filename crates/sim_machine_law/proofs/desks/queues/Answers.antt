@@ -1,4 +1,4 @@
-use Rattle.sim_machine_law.proofs.SortedQueues.{same_waiters, by_keys, equals_as_came, others_as_came}
+use Rattle.sim_machine_law.proofs.Requests.SortedQueues.{same_waiters, by_keys, equals_as_came, others_as_came}
 use Rattle.sim_machine_law.proofs.desks.queues.Goals as goal
 
 pub returns-clause-same_waiters : goal.returns-clause-same_waiters

@@ -1,8 +1,8 @@
 use Rattle.sim_machine.specs.State.{Preempted}
 use Rattle.sim_machine.specs.Users.{users}
 use Rattle.std.proofs.Common.{◌++◌, ◌∷◌, []}
-use Rattle.sim_machine_law.proofs.GrantedSlots.{preempted_room, room_yes}
-use Rattle.sim_machine_law.proofs.UsersOfDeeds.{users_granted, users_elsewhere, users_released, users_left}
+use Rattle.sim_machine_law.proofs.Requests.GrantedSlots.{preempted_room, room_yes}
+use Rattle.sim_machine_law.proofs.Ledger.UsersOfDeeds.{users_granted, users_elsewhere, users_released, users_left}
 use Rattle.sim_machine_law.proofs.desks.users_of_deeds.Goals as goal
 
 pub returns-clause-granted : goal.returns-clause-granted

@@ -1,4 +1,4 @@
-use Rattle.sim_machine_law.proofs.DrawnNumbers.{drawn_least, drawn_greatest, drawn_each}
+use Rattle.sim_machine_law.proofs.RunLaws.DrawnNumbers.{drawn_least, drawn_greatest, drawn_each}
 use Rattle.sim_machine_law.proofs.draws.drawn_numbers.Goals as goal
 
 pub returns-clause-least : goal.returns-clause-least

@@ -1,4 +1,4 @@
-use Rattle.sim_machine_law.proofs.DrawnNumbers.{word_drawn, no_word_drawn}
+use Rattle.sim_machine_law.proofs.RunLaws.DrawnNumbers.{word_drawn, no_word_drawn}
 use Rattle.sim_machine_law.proofs.draws.drawn_words.Goals as goal
 
 pub returns-clause-one : goal.returns-clause-one

@@ -1,4 +1,4 @@
-use Rattle.sim_machine_law.proofs.MadeUnits.{made_at_most, made_same, made_on, made_whole, units_of_run}
+use Rattle.sim_machine_law.proofs.RunLaws.MadeUnits.{made_at_most, made_same, made_on, made_whole, units_of_run}
 use Rattle.sim_machine_law.proofs.limits.made_units.Goals as goal
 
 pub returns-clause-at_most : goal.returns-clause-at_most

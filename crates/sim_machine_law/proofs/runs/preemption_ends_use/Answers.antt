@@ -1,4 +1,4 @@
-use Rattle.sim_machine_law.proofs.LedgerSteps.{users_preempted}
+use Rattle.sim_machine_law.proofs.Ledger.LedgerSteps.{users_preempted}
 use Rattle.sim_machine_law.proofs.runs.preemption_ends_use.Goals as goal
 
 pub returns : goal.returns

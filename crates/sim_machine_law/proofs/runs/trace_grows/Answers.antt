@@ -1,7 +1,7 @@
 use Rattle.sim_machine.specs.Runs.{end_of}
 use Rattle.sim_machine_law.specs.Courses.{course_after}
-use Rattle.sim_machine_law.proofs.TraceLaws.{next_lines, trace_begins, trace_ended, trace_is}
-use Rattle.sim_machine_law.proofs.UnitLaws.{some_end}
+use Rattle.sim_machine_law.proofs.RunLaws.TraceLaws.{next_lines, trace_begins, trace_ended, trace_is}
+use Rattle.sim_machine_law.proofs.RunLaws.UnitLaws.{some_end}
 use Rattle.sim_machine_law.proofs.runs.trace_grows.Goals as goal
 
 pub returns-clause-next : goal.returns-clause-next

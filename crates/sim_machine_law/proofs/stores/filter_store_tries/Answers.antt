@@ -1,4 +1,4 @@
-use Rattle.sim_machine_law.proofs.TriedStores.{gets_settled}
+use Rattle.sim_machine_law.proofs.Stocks.TriedStores.{gets_settled}
 use Rattle.sim_machine_law.proofs.stores.filter_store_tries.Goals as goal
 
 pub returns : goal.returns

@@ -1,4 +1,4 @@
-use Rattle.sim_machine_law.proofs.FoundItems.{first_put, first_least, first_in_range, none_in_store, none_in_priority_store, none_in_range}
+use Rattle.sim_machine_law.proofs.Stocks.FoundItems.{first_put, first_least, first_in_range, none_in_store, none_in_priority_store, none_in_range}
 use Rattle.sim_machine_law.proofs.stores.given_items.Goals as goal
 
 pub returns-clause-first : goal.returns-clause-first

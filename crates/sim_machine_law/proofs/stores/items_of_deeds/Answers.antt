@@ -1,4 +1,4 @@
-use Rattle.sim_machine_law.proofs.FoundItems.{items_deposited, items_elsewhere, items_taken}
+use Rattle.sim_machine_law.proofs.Stocks.FoundItems.{items_deposited, items_elsewhere, items_taken}
 use Rattle.sim_machine_law.proofs.stores.items_of_deeds.Goals as goal
 
 pub returns-clause-deposited : goal.returns-clause-deposited

@@ -1,4 +1,4 @@
-use Rattle.sim_machine_law.proofs.TriedStores.{one_put, one_get, none_put, none_got}
+use Rattle.sim_machine_law.proofs.Stocks.TriedStores.{one_put, one_get, none_put, none_got}
 use Rattle.sim_machine_law.proofs.stores.one_attempt.Goals as goal
 
 pub returns-clause-put : goal.returns-clause-put

@@ -1,4 +1,4 @@
-use Rattle.sim_machine_law.proofs.ServedStores.{handed_out, none_handed, put_in, none_put_in}
+use Rattle.sim_machine_law.proofs.Stocks.ServedStores.{handed_out, none_handed, put_in, none_put_in}
 use Rattle.sim_machine_law.proofs.stores.store_attempts.Goals as goal
 
 pub returns-clause-handed : goal.returns-clause-handed

@@ -1,5 +1,5 @@
 use Rattle.sim_machine.specs.Runs.{opening_course}
-use Rattle.sim_machine_law.proofs.JournalLaws.{added_at_state}
+use Rattle.sim_machine_law.proofs.RunLaws.JournalLaws.{added_at_state}
 use Rattle.sim_machine_law.proofs.units.added_arrival.Goals as goal
 
 pub returns : goal.returns

@@ -1,4 +1,4 @@
-use Rattle.sim_machine_law.proofs.AgendaLaws.{due_contained, due_first, due_only}
+use Rattle.sim_machine_law.proofs.Events.AgendaLaws.{due_contained, due_first, due_only}
 use Rattle.sim_machine_law.proofs.units.due_entry.Goals as goal
 
 pub returns-clause-contained : goal.returns-clause-contained

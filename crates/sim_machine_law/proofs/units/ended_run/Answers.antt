@@ -1,6 +1,6 @@
 use Rattle.sim_machine.specs.Runs.{end_of, opening_course}
 use Rattle.sim_machine_law.specs.Courses.{course_after}
-use Rattle.sim_machine_law.proofs.UnitLaws.{ended_stays, ended_stays_on, some_end}
+use Rattle.sim_machine_law.proofs.RunLaws.UnitLaws.{ended_stays, ended_stays_on, some_end}
 use Rattle.sim_machine_law.proofs.units.ended_run.Goals as goal
 
 pub returns-clause-unit : goal.returns-clause-unit

@@ -1,4 +1,4 @@
-use Rattle.sim_machine_law.proofs.LineLaws.{unit_adds}
+use Rattle.sim_machine_law.proofs.RunLaws.LineLaws.{unit_adds}
 use Rattle.sim_machine_law.proofs.units.lines_of_a_unit.Goals as goal
 
 pub returns : goal.returns

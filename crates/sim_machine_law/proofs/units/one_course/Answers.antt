@@ -1,4 +1,4 @@
-use Rattle.sim_machine_law.proofs.UnitLaws.{only_unit, only_run, unit_where_not_ended}
+use Rattle.sim_machine_law.proofs.RunLaws.UnitLaws.{only_unit, only_run, unit_where_not_ended}
 use Rattle.sim_machine_law.proofs.units.one_course.Goals as goal
 
 pub returns-clause-unit : goal.returns-clause-unit

@@ -1,6 +1,6 @@
 use Rattle.std.proofs.Common.{◌∙◌}
-use Rattle.sim_resource.specs.Sorting.{waits_before}
-use Rattle.sim_resource.proofs.StableSorts.{put_at}
+use Rattle.sim_resource.specs.QueueOrder.{waits_before}
+use Rattle.sim_shared_model.proofs.StableSorts.{put_at}
 use Rattle.sim_resource.proofs.queue.put_by_key.Goals as goal
 
 pub returns-clause-put : goal.returns-clause-put

@@ -2,8 +2,8 @@ use Rattle.std.proofs.Common.{not, rules}
 use Rattle.std.proofs.lemmas.List.Sorted.{IsPartitionPoint-from_clause}
 use Rattle.sim_machine.specs.Keys.{is_served_first}
 use Rattle.sim_resource.specs.GrantOrder.{stands_before}
-use Rattle.sim_resource.proofs.Keys.{first_onward}
-use Rattle.sim_resource.proofs.StableSorts.{partitioned, place_of_test}
+use Rattle.sim_shared_model.proofs.Keys.{first_onward}
+use Rattle.sim_shared_model.proofs.StableSorts.{partitioned, place_of_test}
 use Rattle.sim_resource.proofs.users.place_of_key.Goals as goal
 
 pub returns-clause-place : goal.returns-clause-place

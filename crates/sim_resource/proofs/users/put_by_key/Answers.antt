@@ -1,6 +1,6 @@
 use Rattle.std.proofs.Common.{◌∙◌}
 use Rattle.sim_resource.specs.GrantOrder.{stands_before}
-use Rattle.sim_resource.proofs.StableSorts.{put_at}
+use Rattle.sim_shared_model.proofs.StableSorts.{put_at}
 use Rattle.sim_resource.proofs.users.put_by_key.Goals as goal
 
 pub returns-clause-put : goal.returns-clause-put

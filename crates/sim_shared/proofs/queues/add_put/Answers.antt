@@ -1,6 +1,6 @@
 use Rattle.std.proofs.Common.{w64}
 use Rattle.std.proofs.lemmas.Int.{to_z-of_z}
-use Rattle.sim_shared_law.proofs.JoinedWaiters.{shelf_put_joined}
+use Rattle.sim_shared_law.proofs.Waiters.JoinedWaiters.{shelf_put_joined}
 use Rattle.sim_shared.proofs.queues.add_put.Goals as goal
 
 pub returns-in-Shelf : goal.returns-in-Shelf

@@ -1,7 +1,7 @@
 use Rattle.std.proofs.Common.{◌∙◌}
 use Rattle.sim_shared_model.proofs.AmongEvents.{any_of_events}
-use Rattle.sim_shared_law.proofs.JoinedWaiters.{desk_joined}
-use Rattle.sim_shared_law.proofs.JoinedEvents.{all_others}
+use Rattle.sim_shared_law.proofs.Waiters.JoinedWaiters.{desk_joined}
+use Rattle.sim_shared_law.proofs.Waiters.JoinedEvents.{all_others}
 use Rattle.sim_shared.proofs.queues.add_request.Goals as goal
 
 pub join-requires-clause-not_waiting : goal.join-requires-clause-not_waiting

@@ -1,7 +1,7 @@
 use Rattle.std.proofs.Common.{ap, ◌∙◌}
 use Rattle.sim_machine.specs.Requests.{is_of}
-use Rattle.sim_resource.specs.DeskOf.{waiting_by}
-use Rattle.sim_shared_law.proofs.JoinedWaiters.{victim_shown}
+use Rattle.sim_shared_model.specs.DeskOf.{waiting_by}
+use Rattle.sim_shared_law.proofs.Waiters.JoinedWaiters.{victim_shown}
 use Rattle.sim_shared.proofs.queues.own_victim.Goals as goal
 
 pub returns-in-Desk : goal.returns-in-Desk

@@ -3,11 +3,11 @@ use Rattle.sim_types.specs.declared.event.EventKind.TheVariants as kind
 use Rattle.sim_machine.specs.Runs.{first_calendar}
 use Rattle.sim_happen_model.specs.HappenOf.{held}
 use Rattle.sim_happen_model.specs.Shows.{Shows}
-use Rattle.sim_happen_law.proofs.NewEvents.{is_new}
-use Rattle.sim_steps_law.proofs.Keeping.{held_by_few}
-use Rattle.sim_steps_law.proofs.Rooms.{roomier_shows}
-use Rattle.sim_steps_law.proofs.Made.{named_shown, events_named}
-use Rattle.sim_steps_law.proofs.NamedHolders.{held_once, once_made, once_more}
+use Rattle.sim_happen_law.proofs.Changes.NewEvents.{is_new}
+use Rattle.sim_steps_law.proofs.Kernels.Keeping.{held_by_few}
+use Rattle.sim_steps_law.proofs.Kernels.Rooms.{roomier_shows}
+use Rattle.sim_steps_law.proofs.Kernels.Made.{named_shown, events_named}
+use Rattle.sim_steps_law.proofs.Holders.NamedHolders.{held_once, once_made, once_more}
 use Rattle.sim_steps.proofs.making.make_named.Goals as goal
 
 pub hold-requires-clause-kept : goal.hold-requires-clause-kept

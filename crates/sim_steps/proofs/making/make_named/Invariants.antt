@@ -2,7 +2,7 @@ use Rattle.std.proofs.Common.{◌≡◌, ◌+◌, length}
 use Rattle.sim_machine.specs.Runs.{first_calendar}
 use Rattle.sim_happen_model.specs.HappenOf.{held}
 use Rattle.sim_happen_model.specs.Shows.{Shows}
-use Rattle.sim_steps_law.proofs.NamedHolders.{held_once}
+use Rattle.sim_steps_law.proofs.Holders.NamedHolders.{held_once}
 use Rattle.sim_steps.proofs.making.make_named.Given as goal
 
 -- so many named events are made, each of which is held

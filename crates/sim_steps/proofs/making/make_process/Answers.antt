@@ -1,8 +1,8 @@
 use Rattle.sim_types.specs.declared.event.EventKind.TheVariants as kind
-use Rattle.sim_happen_law.proofs.NewEvents.{is_new}
+use Rattle.sim_happen_law.proofs.Changes.NewEvents.{is_new}
 use Rattle.std.proofs.Common.{refl, ◌∙◌}
-use Rattle.sim_happen_law.proofs.Following.{time_then}
-use Rattle.sim_steps_law.proofs.Made.{new_is_open, same_time, not_beyond, at_now, turns_process}
+use Rattle.sim_happen_law.proofs.Changes.Following.{time_then}
+use Rattle.sim_steps_law.proofs.Kernels.Made.{new_is_open, same_time, not_beyond, at_now, turns_process}
 use Rattle.sim_steps.proofs.making.make_process.Goals as goal
 
 pub register-requires-clause-unprocessed : goal.register-requires-clause-unprocessed

@@ -1,8 +1,8 @@
 use Rattle.std.proofs.Common.{rules, refl, w64, FitsSigned}
 use Rattle.std.proofs.lemmas.Int.{to_z-of_z}
 use Rattle.sim_types.specs.declared.event.EventKind.TheVariants as kind
-use Rattle.sim_happen_law.proofs.NewEvents.{is_new}
-use Rattle.sim_steps_law.proofs.Made.{new_is_open, same_time, not_beyond, from_start, sets_stop}
+use Rattle.sim_happen_law.proofs.Changes.NewEvents.{is_new}
+use Rattle.sim_steps_law.proofs.Kernels.Made.{new_is_open, same_time, not_beyond, from_start, sets_stop}
 use Rattle.sim_steps.proofs.making.stop_at.Goals as goal
 
 pub register-requires-clause-unprocessed : goal.register-requires-clause-unprocessed

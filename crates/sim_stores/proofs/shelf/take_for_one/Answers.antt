@@ -1,9 +1,9 @@
 use Rattle.std.proofs.Common.{◌≡◌, ◌<◌, ◌∙◌, length, take, None, All, subst, ap, rules, arith, w64, FitsSigned}
 use Rattle.std.proofs.lemmas.Int.{to_z-of_z}
 use Rattle.sim_machine.specs.Trying.{get_reach}
-use Rattle.sim_stores.specs.Waiting.{looked_at}
+use Rattle.sim_shared_model.specs.StoreQueues.{looked_at}
 use Rattle.sim_stores.specs.Stocks.{kind_of_stock}
-use Rattle.sim_stores.specs.Shelves.{store_kind}
+use Rattle.sim_shared_model.specs.Shelves.{store_kind}
 use Rattle.sim_stores.specs.Finding.{given_from}
 use Rattle.sim_stores.proofs.Looking.{looked_front, looked_few, front_more, finds_get, passed_by}
 use Rattle.sim_stores.proofs.shelf.take_for_one.Goals as goal

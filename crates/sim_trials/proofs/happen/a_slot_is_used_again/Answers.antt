@@ -4,7 +4,7 @@ use Rattle.sim_types.specs.declared.event.EventKind.TheVariants as kind
 use Rattle.sim_machine.specs.State.{EventOf, Calendar}
 use Rattle.sim_machine.specs.Runs.{first_calendar}
 use Rattle.sim_machine.specs.Triggering.{make}
-use Rattle.sim_machine_law.proofs.EventLaws.{same_event}
+use Rattle.sim_machine_law.proofs.Events.EventLaws.{same_event}
 use Rattle.sim_happen_model.specs.HappenOf.{unheld_event, one_more}
 use Rattle.sim_machine.specs.Events.{cancel_event}
 use Rattle.sim_happen_model.specs.HappenOf.{IsOpen, gone_if_unheld}

@@ -4,13 +4,13 @@ use Rattle.sim_types.specs.declared.event.EventKind.TheVariants as kind
 use Rattle.sim_machine.specs.State.{EventOf, Calendar}
 use Rattle.sim_machine.specs.Runs.{first_calendar}
 use Rattle.sim_machine.specs.Triggering.{make}
-use Rattle.sim_machine_law.proofs.EventLaws.{same_event}
+use Rattle.sim_machine_law.proofs.Events.EventLaws.{same_event}
 use Rattle.sim_happen_model.specs.HappenOf.{unheld_event}
 use Rattle.std.specs.Prelude.{pos, IsFalse}
 use Rattle.sim_types.specs.declared.event.Callback.TheVariants as callback
 use Rattle.sim_machine.specs.Events.{register}
 use Rattle.sim_machine.specs.Triggering.{succeed}
-use Rattle.sim_events.specs.TableOf.{kept_at}
+use Rattle.sim_happen_model.specs.TableOf.{kept_at}
 use Rattle.sim_happen_model.specs.Holders.{HasOwnHolder}
 use Rattle.sim_trials.proofs.Known.{Known, known_then, known_of, opened, known_rest, known_stepped, event_known, few_known, own_known, done, none_there}
 use Rattle.sim_trials.proofs.happen.an_event_is_processed.Goals as goal

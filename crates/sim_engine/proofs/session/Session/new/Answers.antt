@@ -1,7 +1,7 @@
 use Rattle.std.proofs.Common.{refl, sym, subst, false, pos}
 use Rattle.sim_machine.specs.Setups.{FitsCode}
 use Rattle.sim_script_law.specs.ScriptMembers.{script_facts}
-use Rattle.sim_script_law.proofs.SetupFits.{fits_code}
+use Rattle.sim_script_law.proofs.Laws.SetupFits.{fits_code}
 use Rattle.sim_engine.specs.Sessions.{SessionOf}
 use Rattle.sim_engine.proofs.SessionLaws.{opens_at, opens_idle, idle_settles}
 use Rattle.sim_engine.proofs.session.Session.new.Goals as goal

@@ -1,9 +1,9 @@
 use Rattle.std.proofs.Common.{◌+◌, ◌∙◌, true, refl, sym, ap, arith}
 use Rattle.slab.specs.Slab.{with_value}
-use Rattle.sim_chains.specs.declared.chain.Chain.{Chain}
+use Rattle.sim_callbacks.specs.declared.chain.Chain.{Chain}
 use Rattle.sim_events.specs.declared.slot.Slot.{Slot}
-use Rattle.sim_events.specs.TableOf.{Kept, kept_at}
-use Rattle.sim_events.specs.Changes.{with_processed, with_holder}
+use Rattle.sim_happen_model.specs.TableOf.{Kept, kept_at}
+use Rattle.sim_happen_model.specs.Changes.{with_processed, with_holder}
 use Rattle.sim_events.specs.Slots.{condition_in}
 use Rattle.sim_events.specs.Stores.{events_in}
 use Rattle.sim_events.proofs.Storing.{kept_with}

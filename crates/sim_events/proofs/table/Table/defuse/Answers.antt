@@ -1,5 +1,5 @@
 use Rattle.std.proofs.Common.{true, refl}
-use Rattle.sim_events.specs.Changes.{with_defused}
+use Rattle.sim_happen_model.specs.Changes.{with_defused}
 use Rattle.sim_events.proofs.Rewriting.{is_kept, rewrites_slot, sound_rewritten}
 use Rattle.sim_events.proofs.table.Table.defuse.Goals as goal
 

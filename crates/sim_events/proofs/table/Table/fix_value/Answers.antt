@@ -1,6 +1,6 @@
 use Rattle.slab.specs.Slab.{with_value}
 use Rattle.sim_machine.specs.State.{ConditionOf}
-use Rattle.sim_events.specs.Changes.{on_condition}
+use Rattle.sim_happen_model.specs.Changes.{on_condition}
 use Rattle.sim_events.proofs.Rewriting.{Rewrites, is_kept, rewrites_condition, sound_rewritten}
 use Rattle.sim_events.proofs.table.Table.fix_value.Goals as goal
 

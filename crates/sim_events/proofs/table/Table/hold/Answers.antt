@@ -1,6 +1,6 @@
 use Rattle.std.proofs.Common.{◌+◌, arith, refl}
-use Rattle.sim_events.specs.Changes.{with_holder}
-use Rattle.sim_events.specs.TableOf.{kept_at}
+use Rattle.sim_happen_model.specs.Changes.{with_holder}
+use Rattle.sim_happen_model.specs.TableOf.{kept_at}
 use Rattle.sim_events.specs.Stores.{events_in}
 use Rattle.sim_events.proofs.Rewriting.{is_kept, rewrites_slot, sound_rewritten}
 use Rattle.sim_events.proofs.KeptLists.{held_needed}

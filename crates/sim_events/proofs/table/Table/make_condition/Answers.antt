@@ -5,7 +5,7 @@ use Rattle.sim_machine.specs.State.{ConditionOf}
 use Rattle.sim_events.specs.declared.slot.Slot.{Slot}
 use Rattle.sim_events.specs.Slots.{new_slot}
 use Rattle.sim_events.specs.Stores.{events_in}
-use Rattle.sim_events.specs.TableOf.{Kept}
+use Rattle.sim_happen_model.specs.TableOf.{Kept}
 use Rattle.sim_events.proofs.Parts.{parts_updated, free_vacant}
 use Rattle.sim_events.proofs.Storing.{kept_with}
 use Rattle.sim_events.proofs.Extending.{sound_made, events_made}

@@ -1,9 +1,9 @@
 use Rattle.std.proofs.Common.{◌++◌, ◌∷◌, [], Option, Some, refl, sym, ap, subst, ◌∙◌, arith}
-use Rattle.sim_chains.specs.Chains.{IsEmpty}
+use Rattle.sim_callbacks.specs.Chains.{IsEmpty}
 use Rattle.sim_events.specs.declared.slot.Slot.{Slot}
 use Rattle.sim_events.specs.Slots.{new_slot, slot_with_outcome}
 use Rattle.sim_events.specs.Stores.{events_in, AddsSlot}
-use Rattle.sim_events.specs.TableOf.{Kept, IsInOrder}
+use Rattle.sim_happen_model.specs.TableOf.{Kept, IsInOrder}
 use Rattle.sim_events.proofs.Parts.{KeepsParts, parts_plain}
 use Rattle.sim_events.proofs.Outcomes.{made_with}
 use Rattle.sim_events.proofs.Extending.{sound_made, events_made}

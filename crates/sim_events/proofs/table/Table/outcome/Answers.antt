@@ -1,5 +1,5 @@
 use Rattle.std.proofs.Common.{ap, sym, ◌∙◌}
-use Rattle.sim_events.specs.TableOf.{Kept, kept_at}
+use Rattle.sim_happen_model.specs.TableOf.{Kept, kept_at}
 use Rattle.sim_events.specs.Stores.{events_in}
 use Rattle.sim_events.proofs.Placing.{kept_found}
 use Rattle.sim_events.proofs.Rewriting.{is_kept}

@@ -1,7 +1,7 @@
 use Rattle.std.proofs.Common.{suc, ap, arith}
 use Rattle.slab.specs.Slab.{with_value}
-use Rattle.sim_chains.specs.Keeping.{Relinked}
-use Rattle.sim_events.specs.Changes.{with_callback}
+use Rattle.sim_callbacks.specs.Keeping.{Relinked}
+use Rattle.sim_happen_model.specs.Changes.{with_callback}
 use Rattle.sim_events.specs.Slots.{condition_in}
 use Rattle.sim_events.proofs.Storing.{kept_with}
 use Rattle.sim_events.proofs.Rewriting.{Rewrites, is_kept, own_chain, rewrites_chain, sound_rewritten}

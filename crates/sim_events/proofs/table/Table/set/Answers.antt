@@ -1,4 +1,4 @@
-use Rattle.sim_events.specs.Changes.{with_outcome}
+use Rattle.sim_happen_model.specs.Changes.{with_outcome}
 use Rattle.sim_events.proofs.Rewriting.{is_kept, sound_rewritten}
 use Rattle.sim_events.proofs.Outcomes.{rewrites_outcome, settled_by}
 use Rattle.sim_events.proofs.table.Table.set.Goals as goal

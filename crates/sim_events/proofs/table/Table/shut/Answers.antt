@@ -1,6 +1,6 @@
 use Rattle.std.proofs.Common.{true, refl}
 use Rattle.sim_events.specs.declared.slot.Slot.{Slot}
-use Rattle.sim_events.specs.Changes.{with_cancelled}
+use Rattle.sim_happen_model.specs.Changes.{with_cancelled}
 use Rattle.sim_events.proofs.Rewriting.{is_kept, rewrites_slot}
 use Rattle.sim_events.proofs.Forgetting.{Forgotten, forgotten_slot}
 use Rattle.sim_events.proofs.table.Table.shut.Goals as goal

@@ -1,6 +1,6 @@
 use Rattle.std.proofs.Common.{refl, sym, ◌∙◌}
-use Rattle.sim_chains.specs.Callbacks.{is_same_callback}
-use Rattle.sim_chains.proofs.Links.{without_none}
+use Rattle.sim_machine.specs.Callbacks.{is_same_callback}
+use Rattle.sim_callbacks.proofs.Links.{without_none}
 use Rattle.sim_events.specs.Stores.{table_of}
 use Rattle.sim_events.proofs.Absent.{same_table}
 use Rattle.sim_events.proofs.Extending.{events_called, sound_called}

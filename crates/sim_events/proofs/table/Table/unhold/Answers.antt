@@ -1,4 +1,4 @@
-use Rattle.sim_events.specs.Changes.{without_holder}
+use Rattle.sim_happen_model.specs.Changes.{without_holder}
 use Rattle.sim_events.proofs.Rewriting.{rewrites_released}
 use Rattle.sim_events.proofs.Forgetting.{Forgotten, released}
 use Rattle.sim_events.proofs.table.Table.unhold.Goals as goal

@@ -2,8 +2,8 @@ use Rattle.std.proofs.Common.{◌≡◌, ◌∙◌, Bool, true, false, None, is_
 use Rattle.std.proofs.lemmas.Option.{same_Some}
 use Rattle.slab.specs.Slab.{get}
 use Rattle.sim_machine.specs.Standing.{one_if}
-use Rattle.sim_events.specs.TableOf.{Kept, kept_at, is_needed}
-use Rattle.sim_events.specs.Changes.{without_holder, conditions_freed}
+use Rattle.sim_happen_model.specs.TableOf.{Kept, kept_at, is_needed}
+use Rattle.sim_happen_model.specs.Changes.{without_holder, conditions_freed}
 use Rattle.sim_events.specs.Slots.{kept_in}
 use Rattle.sim_events.specs.declared.slot.Slot.{Slot}
 use Rattle.sim_events.specs.Stores.{events_in}

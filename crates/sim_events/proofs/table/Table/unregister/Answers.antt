@@ -1,13 +1,13 @@
 use Rattle.std.proofs.Common.{suc, ◌-◌, min, ap, sym, refl, ◌∙◌, arith}
 use Rattle.std.specs.List.{list_any}
 use Rattle.slab.specs.Slab.{with_value}
-use Rattle.sim_chains.specs.Keeping.{Relinked}
-use Rattle.sim_events.specs.Changes.{without_callback}
-use Rattle.sim_chains.specs.Callbacks.{is_same_callback}
+use Rattle.sim_callbacks.specs.Keeping.{Relinked}
+use Rattle.sim_happen_model.specs.Changes.{without_callback}
+use Rattle.sim_machine.specs.Callbacks.{is_same_callback}
 use Rattle.sim_events.specs.declared.slot.Slot.{Slot}
 use Rattle.sim_events.specs.Slots.{condition_in}
 use Rattle.sim_events.specs.Stores.{table_of}
-use Rattle.sim_events.specs.TableOf.{Kept}
+use Rattle.sim_happen_model.specs.TableOf.{Kept}
 use Rattle.sim_events.proofs.Slabs.{with_value_len, there_from}
 use Rattle.sim_events.proofs.Placing.{kept_found}
 use Rattle.sim_events.proofs.Absent.{same_table, without_absent}

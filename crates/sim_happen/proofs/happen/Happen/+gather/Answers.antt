@@ -1,7 +1,7 @@
 use Rattle.std.proofs.Common.{arith, sym, subst, ◌∙◌}
 use Rattle.std.specs.Prelude.{All}
-use Rattle.sim_events.specs.TableOf.{IsKept}
-use Rattle.sim_happen_law.proofs.Gathering.{gather_fits, gather_last}
+use Rattle.sim_happen_model.specs.TableOf.{IsKept}
+use Rattle.sim_happen_law.proofs.Conditions.Gathering.{gather_fits, gather_last}
 use Rattle.sim_happen.proofs.happen.Happen.+gather.Goals as goal
 
 pub gather-requires : goal.gather-requires

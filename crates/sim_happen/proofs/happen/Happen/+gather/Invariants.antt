@@ -1,5 +1,5 @@
 use Rattle.std.specs.Prelude.{◌-◌}
-use Rattle.sim_happen_law.proofs.Gathering.{GathersUpTo}
+use Rattle.sim_happen_law.proofs.Conditions.Gathering.{GathersUpTo}
 use Rattle.sim_happen.proofs.happen.Happen.+gather.Given as goal
 
 abbrev pub decreases-gather : goal.decreases-gather

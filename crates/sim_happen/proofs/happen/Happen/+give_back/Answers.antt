@@ -1,5 +1,5 @@
 use Rattle.std.proofs.Common.{arith, ◌∙◌}
-use Rattle.sim_happen_law.proofs.Unholding.{unheld_start, unheld_owns, unheld_more, unheld_end}
+use Rattle.sim_happen_law.proofs.Changes.Unholding.{unheld_start, unheld_owns, unheld_more, unheld_end}
 use Rattle.sim_happen.proofs.happen.Happen.+give_back.Goals as goal
 
 pub loop-member-init : goal.loop-member-init

@@ -1,5 +1,5 @@
 use Rattle.std.specs.Prelude.{◌-◌}
-use Rattle.sim_happen_law.proofs.Unholding.{UnheldUpTo}
+use Rattle.sim_happen_law.proofs.Changes.Unholding.{UnheldUpTo}
 use Rattle.sim_happen.proofs.happen.Happen.+give_back.Given as goal
 
 abbrev pub decreases-give_back : goal.decreases-give_back

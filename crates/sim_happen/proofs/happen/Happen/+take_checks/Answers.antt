@@ -1,7 +1,7 @@
 use Rattle.std.proofs.Common.{arith}
 use Rattle.sim_machine.specs.Events.{unregister, is_check_of}
-use Rattle.sim_happen_law.proofs.Following.{kept_then}
-use Rattle.sim_happen_law.proofs.TakingChecks.{member_there, takes_all}
+use Rattle.sim_happen_law.proofs.Changes.Following.{kept_then}
+use Rattle.sim_happen_law.proofs.Conditions.TakingChecks.{member_there, takes_all}
 use Rattle.sim_happen.proofs.happen.Happen.+take_checks.Goals as goal
 
 pub take_check-requires : goal.take_check-requires

@@ -1,5 +1,5 @@
 use Rattle.std.specs.Prelude.{◌-◌}
-use Rattle.sim_happen_law.proofs.TakingChecks.{TakesUpTo}
+use Rattle.sim_happen_law.proofs.Conditions.TakingChecks.{TakesUpTo}
 use Rattle.sim_happen.proofs.happen.Happen.+take_checks.Given as goal
 
 abbrev pub decreases-take_checks : goal.decreases-take_checks

@@ -1,6 +1,6 @@
 use Rattle.std.proofs.Common.{◌≤◌, sym, subst, ◌∙◌}
 use Rattle.sim_machine.specs.Conditions.{most_weight}
-use Rattle.sim_happen_law.proofs.Weights.{weight_is, light}
+use Rattle.sim_happen_law.proofs.Conditions.Weights.{weight_is, light}
 use Rattle.sim_happen.proofs.happen.Happen.+weigh.Goals as goal
 
 pub returns-after-loop-member-clause-weight : goal.returns-after-loop-member-clause-weight

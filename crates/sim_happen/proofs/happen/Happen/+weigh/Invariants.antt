@@ -1,5 +1,5 @@
 use Rattle.std.specs.Prelude.{◌-◌}
-use Rattle.sim_happen_law.proofs.Weights.{WeighsUpTo}
+use Rattle.sim_happen_law.proofs.Conditions.Weights.{WeighsUpTo}
 use Rattle.sim_happen.proofs.happen.Happen.+weigh.Given as goal
 
 abbrev pub decreases-weigh : goal.decreases-weigh

@@ -1,6 +1,6 @@
 use Rattle.std.proofs.Common.{refl, arith}
 use Rattle.sim_machine.specs.State.{Every, Either}
-use Rattle.sim_happen_law.proofs.NewConditions.{sound_condition, turns_condition}
+use Rattle.sim_happen_law.proofs.Conditions.NewConditions.{sound_condition, turns_condition}
 use Rattle.sim_happen.proofs.happen.Happen.add_condition.Goals as goal
 
 pub invariant_of-self : goal.invariant_of-self

@@ -1,7 +1,7 @@
 use Rattle.std.proofs.Common.{refl, ap, arith}
-use Rattle.sim_events.specs.TableOf.{TableOf}
-use Rattle.sim_happen_law.proofs.Following.{turns_held}
-use Rattle.sim_happen_law.proofs.Soundness.{sound_quiet}
+use Rattle.sim_happen_model.specs.TableOf.{TableOf}
+use Rattle.sim_happen_law.proofs.Changes.Following.{turns_held}
+use Rattle.sim_happen_law.proofs.Changes.Soundness.{sound_quiet}
 use Rattle.sim_happen.proofs.happen.Happen.add_holder.Goals as goal
 
 pub invariant_of-self : goal.invariant_of-self

@@ -1,5 +1,5 @@
 use Rattle.std.proofs.Common.{rules, ◌∙◌, sym}
-use Rattle.sim_happen_law.proofs.Gathering.{leaf_again, leaf_new, leaf_pushed}
+use Rattle.sim_happen_law.proofs.Conditions.Gathering.{leaf_again, leaf_new, leaf_pushed}
 use Rattle.sim_happen.proofs.happen.Happen.add_leaf.Goals as goal
 
 pub returns-then-not-contains-clause-gathers : goal.returns-then-not-contains-clause-gathers

@@ -2,8 +2,8 @@ use Rattle.std.proofs.Common.{arith}
 use Rattle.sim_types.specs.declared.event.Callback.TheVariants as callback
 use Rattle.sim_machine.specs.Events.{register}
 use Rattle.sim_happen_model.specs.HappenOf.{as_before, one_more}
-use Rattle.sim_happen_law.proofs.Held.{holders_by_held}
-use Rattle.sim_happen_law.proofs.Following.{kept_then, turns_then}
+use Rattle.sim_happen_law.proofs.Changes.Held.{holders_by_held}
+use Rattle.sim_happen_law.proofs.Changes.Following.{kept_then, turns_then}
 use Rattle.sim_happen.proofs.happen.Happen.append_trigger.Goals as goal
 
 pub hold-requires-clause-kept : goal.hold-requires-clause-kept

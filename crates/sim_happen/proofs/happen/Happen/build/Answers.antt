@@ -1,8 +1,8 @@
 use Rattle.sim_machine.specs.Conditions.{take_checks_within}
-use Rattle.sim_happen_law.proofs.Following.{kept_then}
-use Rattle.sim_happen_law.proofs.Held.{same_room_by_held}
-use Rattle.sim_happen_law.proofs.Unholding.{room_then}
-use Rattle.sim_happen_law.proofs.Gathering.{still_condition}
+use Rattle.sim_happen_law.proofs.Changes.Following.{kept_then}
+use Rattle.sim_happen_law.proofs.Changes.Held.{same_room_by_held}
+use Rattle.sim_happen_law.proofs.Changes.Unholding.{room_then}
+use Rattle.sim_happen_law.proofs.Conditions.Gathering.{still_condition}
 use Rattle.sim_happen.proofs.happen.Happen.build.Goals as goal
 
 pub fix_value-requires-clause-kept : goal.fix_value-requires-clause-kept

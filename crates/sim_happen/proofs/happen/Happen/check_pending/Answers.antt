@@ -2,8 +2,8 @@ use Rattle.std.proofs.Common.{◌∙◌, ap, sym, subst, refl, Option}
 use Rattle.std.specs.Prelude.{IsSome}
 use Rattle.sim_machine.specs.State.{EventOf, ConditionOf}
 use Rattle.sim_machine.specs.Conditions.{count_member}
-use Rattle.sim_happen_law.proofs.Following.{kept_then}
-use Rattle.sim_happen_law.proofs.Judging.{counted_is, checked_pending}
+use Rattle.sim_happen_law.proofs.Changes.Following.{kept_then}
+use Rattle.sim_happen_law.proofs.Changes.Judging.{counted_is, checked_pending}
 use Rattle.sim_happen.proofs.happen.Happen.check_pending.Goals as goal
 
 pub judge-requires-clause-kept : goal.judge-requires-clause-kept

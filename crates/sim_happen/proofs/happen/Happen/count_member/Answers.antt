@@ -1,9 +1,9 @@
 use Rattle.std.proofs.Common.{refl, ap, arith, ◌+◌, Some}
 use Rattle.sim_machine.specs.State.{EventOf, ConditionOf}
 use Rattle.sim_machine.specs.Conditions.{condition_of}
-use Rattle.sim_events.specs.TableOf.{TableOf}
-use Rattle.sim_happen_law.proofs.Following.{follows_changed}
-use Rattle.sim_happen_law.proofs.Soundness.{sound_quiet}
+use Rattle.sim_happen_model.specs.TableOf.{TableOf}
+use Rattle.sim_happen_law.proofs.Changes.Following.{follows_changed}
+use Rattle.sim_happen_law.proofs.Changes.Soundness.{sound_quiet}
 use Rattle.sim_happen.proofs.happen.Happen.count_member.Goals as goal
 
 pub invariant_of-self : goal.invariant_of-self

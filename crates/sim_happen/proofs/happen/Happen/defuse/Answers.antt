@@ -1,8 +1,8 @@
 use Rattle.std.proofs.Common.{refl, ap, true, arith}
 use Rattle.sim_machine.specs.State.{EventOf}
-use Rattle.sim_events.specs.TableOf.{TableOf}
-use Rattle.sim_happen_law.proofs.Following.{follows_changed}
-use Rattle.sim_happen_law.proofs.Soundness.{sound_quiet}
+use Rattle.sim_happen_model.specs.TableOf.{TableOf}
+use Rattle.sim_happen_law.proofs.Changes.Following.{follows_changed}
+use Rattle.sim_happen_law.proofs.Changes.Soundness.{sound_quiet}
 use Rattle.sim_happen.proofs.happen.Happen.defuse.Goals as goal
 
 pub invariant_of-self : goal.invariant_of-self

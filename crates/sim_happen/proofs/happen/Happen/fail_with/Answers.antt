@@ -1,9 +1,9 @@
 use Rattle.std.proofs.Common.{◌∙◌}
 use Rattle.sim_machine.specs.Events.{defuse}
 use Rattle.sim_machine.specs.Triggering.{fail}
-use Rattle.sim_happen_law.proofs.Following.{kept_then, follows_then}
-use Rattle.sim_happen_law.proofs.Judging.{defused_same}
-use Rattle.sim_happen_law.proofs.NewEvents.{not_refused}
+use Rattle.sim_happen_law.proofs.Changes.Following.{kept_then, follows_then}
+use Rattle.sim_happen_law.proofs.Changes.Judging.{defused_same}
+use Rattle.sim_happen_law.proofs.Changes.NewEvents.{not_refused}
 use Rattle.sim_happen.proofs.happen.Happen.fail_with.Goals as goal
 
 pub put_now-triggered-requires-clause-kept : goal.put_now-triggered-requires-clause-kept

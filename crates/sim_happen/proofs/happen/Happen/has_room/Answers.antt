@@ -1,7 +1,7 @@
 use Rattle.std.proofs.Common.{◌+◌, ◌≤◌, length, ◌∙◌, sym, arith}
 use Rattle.std.proofs.lemmas.Bool.{false≢true, leb-true}
-use Rattle.sim_events.specs.TableOf.{kept_count}
-use Rattle.sim_happen_law.proofs.Spares.{spare_is, places_are, events_are}
+use Rattle.sim_happen_model.specs.TableOf.{kept_count}
+use Rattle.sim_happen_law.proofs.Changes.Spares.{spare_is, places_are, events_are}
 use Rattle.sim_happen.proofs.happen.Happen.has_room.Goals as goal
 use Rattle.sim_happen.proofs.happen.Happen.has_room.Goals.{then-slots-events, else-slots-events}
 

@@ -1,7 +1,7 @@
 use Rattle.std.proofs.Common.{subst, sym}
 use Rattle.std.specs.Prelude.{All}
-use Rattle.sim_events.specs.TableOf.{IsKept}
-use Rattle.sim_happen_law.proofs.HoldingEach.{held_none, held_next}
+use Rattle.sim_happen_model.specs.TableOf.{IsKept}
+use Rattle.sim_happen_law.proofs.Conditions.HoldingEach.{held_none, held_next}
 use Rattle.sim_happen.proofs.happen.Happen.hold_each.Goals as goal
 
 pub loop-member-init : goal.loop-member-init

@@ -1,4 +1,4 @@
-use Rattle.sim_happen_law.proofs.HoldingEach.{HeldUpTo}
+use Rattle.sim_happen_law.proofs.Conditions.HoldingEach.{HeldUpTo}
 use Rattle.sim_happen.proofs.happen.Happen.hold_each.Given as goal
 
 abbrev pub invariant-loop-member : goal.invariant-loop-member

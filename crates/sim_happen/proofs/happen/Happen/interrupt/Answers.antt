@@ -1,6 +1,6 @@
 use Rattle.sim_types.specs.declared.event.EventKind.TheVariants as kind
 use Rattle.sim_types.specs.declared.event.Callback.TheVariants as callback
-use Rattle.sim_happen_law.proofs.NewEvents.{is_new, new_registered, new_defused, not_refused, turns_interruption}
+use Rattle.sim_happen_law.proofs.Changes.NewEvents.{is_new, new_registered, new_defused, not_refused, turns_interruption}
 use Rattle.sim_happen.proofs.happen.Happen.interrupt.Goals as goal
 
 pub register-requires-clause-unprocessed : goal.register-requires-clause-unprocessed

@@ -1,5 +1,5 @@
 use Rattle.sim_machine.specs.Conditions.{most_weight}
-use Rattle.sim_happen_law.proofs.Weights.{WeighsUpTo}
+use Rattle.sim_happen_law.proofs.Conditions.Weights.{WeighsUpTo}
 use Rattle.sim_happen.proofs.happen.Happen.is_too_wide.Given as goal
 
 abbrev pub invariant-loop-member : goal.invariant-loop-member

@@ -3,8 +3,8 @@ use Rattle.std.specs.Prelude.{◌==◌}
 use Rattle.sim_types.specs.declared.event.EventId.{EventId}
 use Rattle.std.proofs.lemmas.Bool.{false≢true}
 use Rattle.sim_machine.specs.Conditions.{join_member}
-use Rattle.sim_happen_law.proofs.Following.{kept_then}
-use Rattle.sim_happen_law.proofs.MadeConditions.{joined_some}
+use Rattle.sim_happen_law.proofs.Changes.Following.{kept_then}
+use Rattle.sim_happen_law.proofs.Conditions.MadeConditions.{joined_some}
 use Rattle.sim_happen.proofs.happen.Happen.join_all.Goals as goal
 
 pub register-requires-clause-kept : goal.register-requires-clause-kept

@@ -1,7 +1,7 @@
 use Rattle.std.proofs.Common.{fold, take}
 use Rattle.sim_machine.specs.Conditions.{join_member}
-use Rattle.sim_happen_law.proofs.Following.{kept_then}
-use Rattle.sim_happen_law.proofs.Joining.{joins_next}
+use Rattle.sim_happen_law.proofs.Changes.Following.{kept_then}
+use Rattle.sim_happen_law.proofs.Conditions.Joining.{joins_next}
 use Rattle.sim_happen.proofs.happen.Happen.join_each.Goals as goal
 
 pub join-requires-clause-member : goal.join-requires-clause-member

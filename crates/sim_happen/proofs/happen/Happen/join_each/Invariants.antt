@@ -1,4 +1,4 @@
-use Rattle.sim_happen_law.proofs.Joining.{JoinsUpTo}
+use Rattle.sim_happen_law.proofs.Conditions.Joining.{JoinsUpTo}
 use Rattle.sim_happen.proofs.happen.Happen.join_each.Given as goal
 
 abbrev pub invariant-loop-member : goal.invariant-loop-member

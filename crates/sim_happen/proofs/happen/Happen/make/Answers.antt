@@ -1,6 +1,6 @@
 use Rattle.std.proofs.Common.{refl, arith}
-use Rattle.sim_happen_law.proofs.Following.{turns_made}
-use Rattle.sim_happen_law.proofs.Soundness.{sound_made}
+use Rattle.sim_happen_law.proofs.Changes.Following.{turns_made}
+use Rattle.sim_happen_law.proofs.Changes.Soundness.{sound_made}
 use Rattle.sim_happen.proofs.happen.Happen.make.Goals as goal
 
 pub invariant_of-self : goal.invariant_of-self

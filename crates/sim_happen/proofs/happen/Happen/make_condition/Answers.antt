@@ -4,7 +4,7 @@ use Rattle.sim_types.specs.declared.event.EventId.{EventId}
 use Rattle.sim_machine.specs.State.{AllOrAny, Every, Either, EventOf}
 use Rattle.sim_machine.specs.Conditions.{most_weight}
 use Rattle.sim_happen_model.specs.Sound.{weight_in}
-use Rattle.sim_happen_law.proofs.MadeConditions.{kept_beside, condition_is, joining_new, turns_made_condition, sum_alike}
+use Rattle.sim_happen_law.proofs.Conditions.MadeConditions.{kept_beside, condition_is, joining_new, turns_made_condition, sum_alike}
 use Rattle.sim_happen.proofs.happen.Happen.make_condition.Goals as goal
 
 pub add_condition-condition-requires-clause-light : goal.add_condition-condition-requires-clause-light

@@ -3,13 +3,13 @@ use Rattle.std.specs.List.{sum_by}
 use Rattle.std.proofs.lemmas.Int.{to_z-of_z}
 use Rattle.sim_types.specs.Keys.{KeyOf}
 use Rattle.sim_machine.specs.Events.{pending_event}
-use Rattle.sim_events.specs.TableOf.{Kept, new_kept}
-use Rattle.sim_events.specs.Changes.{with_outcome}
+use Rattle.sim_happen_model.specs.TableOf.{Kept, new_kept}
+use Rattle.sim_happen_model.specs.Changes.{with_outcome}
 use Rattle.sim_happen_model.specs.Sound.{IsTime, kept_one}
-use Rattle.sim_happen_law.proofs.Signed.{time_after}
-use Rattle.sim_happen_law.proofs.Spares.{places_pushed}
-use Rattle.sim_happen_law.proofs.Soundness.{sum_more}
-use Rattle.sim_happen_law.proofs.MadeScheduled.{place_made, sound_scheduled, spare_scheduled, turns_made_scheduled}
+use Rattle.sim_happen_law.proofs.Shown.Signed.{time_after}
+use Rattle.sim_happen_law.proofs.Changes.Spares.{places_pushed}
+use Rattle.sim_happen_law.proofs.Changes.Soundness.{sum_more}
+use Rattle.sim_happen_law.proofs.Changes.MadeScheduled.{place_made, sound_scheduled, spare_scheduled, turns_made_scheduled}
 use Rattle.sim_happen.proofs.happen.Happen.make_scheduled.Goals as goal
 
 pub push-requires : goal.push-requires

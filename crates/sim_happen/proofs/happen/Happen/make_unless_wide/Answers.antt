@@ -1,6 +1,6 @@
 use Rattle.std.proofs.Common.{refl, sym, ◌∙◌}
 use Rattle.std.proofs.lemmas.Bool.{false≢true}
-use Rattle.sim_happen_law.proofs.Weights.{too_wide_shown}
+use Rattle.sim_happen_law.proofs.Conditions.Weights.{too_wide_shown}
 use Rattle.sim_happen.proofs.happen.Happen.make_unless_wide.Goals as goal
 
 pub returns-then-is_too_wide-clause-wide : goal.returns-then-is_too_wide-clause-wide

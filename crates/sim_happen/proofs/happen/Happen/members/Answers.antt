@@ -1,4 +1,4 @@
-use Rattle.sim_happen_law.proofs.Memberships.{members_kept}
+use Rattle.sim_happen_law.proofs.Conditions.Memberships.{members_kept}
 use Rattle.sim_happen.proofs.happen.Happen.members.Goals as goal
 
 pub returns-clause-held : goal.returns-clause-held

@@ -1,5 +1,5 @@
 use Rattle.std.proofs.Common.{arith}
-use Rattle.sim_happen_law.proofs.Held.{holders_by_held}
+use Rattle.sim_happen_law.proofs.Changes.Held.{holders_by_held}
 use Rattle.sim_happen.proofs.happen.Happen.pass_on_from.Goals as goal
 
 pub returns-clause-held : goal.returns-clause-held

@@ -2,13 +2,13 @@ use Rattle.std.proofs.Common.{rules, ◌∙◌, ap, refl, ◌+ℤ◌, List, Opti
 use Rattle.std.specs.List.{sum_by}
 use Rattle.std.proofs.lemmas.Int.{to_z-of_z}
 use Rattle.sim_types.specs.Keys.{KeyOf}
-use Rattle.sim_events.specs.TableOf.{Kept, TableOf}
+use Rattle.sim_happen_model.specs.TableOf.{Kept, TableOf}
 use Rattle.sim_happen_model.specs.Sound.{IsTime, kept_one}
-use Rattle.sim_happen_law.proofs.Signed.{time_after}
-use Rattle.sim_happen_law.proofs.KeptPlaces.{sum_same}
-use Rattle.sim_happen_law.proofs.Spares.{spare_same, places_pushed}
-use Rattle.sim_happen_law.proofs.Following.{follows_put}
-use Rattle.sim_happen_law.proofs.Soundness.{place_found, sound_put}
+use Rattle.sim_happen_law.proofs.Shown.Signed.{time_after}
+use Rattle.sim_happen_law.proofs.Shown.KeptPlaces.{sum_same}
+use Rattle.sim_happen_law.proofs.Changes.Spares.{spare_same, places_pushed}
+use Rattle.sim_happen_law.proofs.Changes.Following.{follows_put}
+use Rattle.sim_happen_law.proofs.Changes.Soundness.{place_found, sound_put}
 use Rattle.sim_happen.proofs.happen.Happen.put.Goals as goal
 
 pub push-requires : goal.push-requires

@@ -1,6 +1,6 @@
 use Rattle.std.proofs.Common.{refl, arith}
-use Rattle.sim_happen_law.proofs.Following.{follows_registered}
-use Rattle.sim_happen_law.proofs.Soundness.{sound_quiet}
+use Rattle.sim_happen_law.proofs.Changes.Following.{follows_registered}
+use Rattle.sim_happen_law.proofs.Changes.Soundness.{sound_quiet}
 use Rattle.sim_happen.proofs.happen.Happen.register.Goals as goal
 
 pub invariant_of-self : goal.invariant_of-self

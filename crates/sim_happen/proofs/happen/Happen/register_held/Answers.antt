@@ -1,8 +1,8 @@
 use Rattle.std.proofs.Common.{◌∙◌, refl, arith}
 use Rattle.sim_events.proofs.KeptLists.{still_kept, changed_twice}
-use Rattle.sim_events.specs.Changes.{with_callback, with_holder}
-use Rattle.sim_happen_law.proofs.Following.{follows_registered}
-use Rattle.sim_happen_law.proofs.Soundness.{sound_quiet}
+use Rattle.sim_happen_model.specs.Changes.{with_callback, with_holder}
+use Rattle.sim_happen_law.proofs.Changes.Following.{follows_registered}
+use Rattle.sim_happen_law.proofs.Changes.Soundness.{sound_quiet}
 use Rattle.sim_happen.proofs.happen.Happen.register_held.Goals as goal
 
 pub invariant_of-self : goal.invariant_of-self

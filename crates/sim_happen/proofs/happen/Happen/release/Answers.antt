@@ -1,5 +1,5 @@
 use Rattle.std.proofs.Common.{refl, arith}
-use Rattle.sim_happen_law.proofs.Shutting.{released_spare, sound_released}
+use Rattle.sim_happen_law.proofs.Changes.Shutting.{released_spare, sound_released}
 use Rattle.sim_happen.proofs.happen.Happen.release.Goals as goal
 
 pub invariant_of-self : goal.invariant_of-self

@@ -1,10 +1,10 @@
 use Rattle.std.proofs.Common.{◌≡◌, ℕ, refl, sym, ap, subst, arith, ◌+◌, ◌≤◌, Bool, Option, Some, None}
 use Rattle.std.specs.Prelude.{IfNone, IfSome}
-use Rattle.sim_events.specs.TableOf.{TableOf, kept_at, kept_count}
-use Rattle.sim_events.specs.Changes.{callbacks_freed, change_or_forget, without_holder}
+use Rattle.sim_happen_model.specs.TableOf.{TableOf, kept_at, kept_count}
+use Rattle.sim_happen_model.specs.Changes.{callbacks_freed, change_or_forget, without_holder}
 use Rattle.sim_happen_model.specs.Holders.{HasOwnHolder}
 use Rattle.sim_happen_model.specs.Sound.{IsSound, happen_of, spare_in}
-use Rattle.sim_happen_law.proofs.Shutting.{released_spare, sound_released}
+use Rattle.sim_happen_law.proofs.Changes.Shutting.{released_spare, sound_released}
 use Rattle.sim_happen.proofs.happen.Happen.release_plain.Goals as goal
 
 module _ (c : goal.After-unhold_plain) where

@@ -1,6 +1,6 @@
 use Rattle.std.proofs.Common.{arith}
 use Rattle.std.proofs.lemmas.Bool.{false≢true}
-use Rattle.sim_happen_law.proofs.Spares.{places_are}
+use Rattle.sim_happen_law.proofs.Changes.Spares.{places_are}
 use Rattle.sim_happen.proofs.happen.Happen.reserve_plain.Goals as goal
 
 pub returns-in_err-reserve-clause-ready : goal.returns-in_err-reserve-clause-ready

@@ -1,5 +1,5 @@
 use Rattle.std.proofs.Common.{refl}
-use Rattle.sim_happen_law.proofs.Shutting.{turns_shut, sound_shut}
+use Rattle.sim_happen_law.proofs.Changes.Shutting.{turns_shut, sound_shut}
 use Rattle.sim_happen.proofs.happen.Happen.shut.Goals as goal
 
 pub invariant_of-self : goal.invariant_of-self

@@ -1,13 +1,13 @@
 use Rattle.std.proofs.Common.{rules, ◌∙◌, ap, refl, List, Option, w64, FitsSigned}
 use Rattle.std.specs.List.{sum_by}
 use Rattle.std.proofs.lemmas.Int.{to_z-of_z}
-use Rattle.sim_events.specs.TableOf.{Kept}
+use Rattle.sim_happen_model.specs.TableOf.{Kept}
 use Rattle.sim_happen_model.specs.Sound.{kept_one}
-use Rattle.sim_happen_law.proofs.KeptPlaces.{sum_same}
-use Rattle.sim_happen_law.proofs.Spares.{spare_same, places_popped}
-use Rattle.sim_happen_law.proofs.Due.{entry_awaits, awaiting_kept, awaits_parts}
-use Rattle.sim_happen_law.proofs.PoppedEntries.{pops_entry}
-use Rattle.sim_happen_law.proofs.Soundness.{sound_popped}
+use Rattle.sim_happen_law.proofs.Shown.KeptPlaces.{sum_same}
+use Rattle.sim_happen_law.proofs.Changes.Spares.{spare_same, places_popped}
+use Rattle.sim_happen_law.proofs.Entries.Due.{entry_awaits, awaiting_kept, awaits_parts}
+use Rattle.sim_happen_law.proofs.Entries.PoppedEntries.{pops_entry}
+use Rattle.sim_happen_law.proofs.Changes.Soundness.{sound_popped}
 use Rattle.sim_happen.proofs.happen.Happen.step.Goals as goal
 
 pub begin-kind-requires-clause-kept : goal.begin-kind-requires-clause-kept

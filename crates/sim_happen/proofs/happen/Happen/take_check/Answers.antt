@@ -1,5 +1,5 @@
-use Rattle.sim_happen_law.proofs.Held.{room_by_held}
-use Rattle.sim_happen_law.proofs.TakingChecks.{check_taken}
+use Rattle.sim_happen_law.proofs.Changes.Held.{room_by_held}
+use Rattle.sim_happen_law.proofs.Conditions.TakingChecks.{check_taken}
 use Rattle.sim_happen.proofs.happen.Happen.take_check.Goals as goal
 
 pub returns-clause-follows : goal.returns-clause-follows

@@ -1,5 +1,5 @@
-use Rattle.sim_happen_law.proofs.Held.{same_room_by_held}
-use Rattle.sim_happen_law.proofs.Unholding.{room_then}
+use Rattle.sim_happen_law.proofs.Changes.Held.{same_room_by_held}
+use Rattle.sim_happen_law.proofs.Changes.Unholding.{room_then}
 use Rattle.sim_happen.proofs.happen.Happen.trigger.Goals as goal
 
 pub returns-clause-room : goal.returns-clause-room

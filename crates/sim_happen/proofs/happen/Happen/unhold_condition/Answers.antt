@@ -1,4 +1,4 @@
-use Rattle.sim_happen_law.proofs.Shutting.{own_kept}
+use Rattle.sim_happen_law.proofs.Changes.Shutting.{own_kept}
 use Rattle.sim_happen.proofs.happen.Happen.unhold_condition.Goals as goal
 
 pub depth_of-requires : goal.depth_of-requires

@@ -1,7 +1,7 @@
 use Rattle.std.proofs.Common.{refl, arith}
-use Rattle.sim_chains.specs.Callbacks.{is_same_callback}
-use Rattle.sim_happen_law.proofs.Following.{follows_unregistered}
-use Rattle.sim_happen_law.proofs.Soundness.{sound_quiet}
+use Rattle.sim_machine.specs.Callbacks.{is_same_callback}
+use Rattle.sim_happen_law.proofs.Changes.Following.{follows_unregistered}
+use Rattle.sim_happen_law.proofs.Changes.Soundness.{sound_quiet}
 use Rattle.sim_happen.proofs.happen.Happen.unregister.Goals as goal
 
 pub invariant_of-self : goal.invariant_of-self

@@ -1,5 +1,5 @@
 use Rattle.std.proofs.Common.{arith}
-use Rattle.sim_happen_law.proofs.Spares.{scheduled_sum, kept_few}
+use Rattle.sim_happen_law.proofs.Changes.Spares.{scheduled_sum, kept_few}
 use Rattle.sim_happen.proofs.happen.Happen.unscheduled.Goals as goal
 
 pub overflow_sub-result : goal.overflow_sub-result

@@ -1,4 +1,4 @@
-use Rattle.sim_happen_law.proofs.Gathering.{value_shown}
+use Rattle.sim_happen_law.proofs.Conditions.Gathering.{value_shown}
 use Rattle.sim_happen.proofs.happen.Happen.value.Goals as goal
 
 pub returns : goal.returns

@@ -1,6 +1,6 @@
 use Rattle.std.proofs.Common.{FitsSigned, w64, rules}
 use Rattle.std.proofs.lemmas.Int.{to_z-of_z}
-use Rattle.sim_steps_law.proofs.Rooms.{roomier_stands_for_some}
+use Rattle.sim_steps_law.proofs.Kernels.Rooms.{roomier_stands_for_some}
 use Rattle.sim_kernel.proofs.Arrivals.{arrival_holds, begun_is_few, makes_arrival}
 use Rattle.sim_kernel.proofs.UnitSteps.{roomier_holds}
 use Rattle.sim_kernel.proofs.kernel.Kernel.arrive.Goals as goal

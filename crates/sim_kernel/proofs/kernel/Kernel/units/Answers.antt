@@ -1,5 +1,5 @@
 -- Room is made, and then units in a row.
-use Rattle.sim_steps_law.proofs.Rooms.{roomier_stands_for_some}
+use Rattle.sim_steps_law.proofs.Kernels.Rooms.{roomier_stands_for_some}
 use Rattle.sim_kernel.proofs.QuietUnits.{after_units}
 use Rattle.sim_kernel.proofs.UnitSteps.{roomier_holds, stands_for_some}
 use Rattle.sim_kernel.proofs.kernel.Kernel.units.Goals as goal

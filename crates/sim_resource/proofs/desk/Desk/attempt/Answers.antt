@@ -1,6 +1,6 @@
 use Rattle.std.proofs.lemmas.Int.{to_z-of_z}
 use Rattle.std.proofs.Common.{◌≡◌, ℤ, FitsSigned, to_z, of_z, w64, arith, rules, sym, ◌∙◌, drop}
-use Rattle.sim_resource.proofs.Attempting.{first_is, attempt_free, attempt_preempts}
+use Rattle.sim_shared_model.proofs.Attempting.{first_is, attempt_free, attempt_preempts}
 use Rattle.sim_resource.proofs.desk.Desk.attempt.Goals as goal
 
 in_range : (time : ℤ) → FitsSigned w64 time → to_z w64 (of_z w64 time) ≡ time

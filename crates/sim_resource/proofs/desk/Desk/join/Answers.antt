@@ -1,5 +1,5 @@
 use Rattle.std.proofs.Common.{arith}
-use Rattle.sim_resource.specs.declared.queue.WaitingRequest.{WaitingRequest}
+use Rattle.sim_shared_model.specs.declared.desk.WaitingRequest.{WaitingRequest}
 use Rattle.sim_resource.proofs.MachineQueues.{joined_is}
 use Rattle.sim_resource.proofs.DeskChanges.{sound_joined}
 use Rattle.sim_resource.proofs.desk.Desk.join.Goals as goal

@@ -1,7 +1,7 @@
 use Rattle.std.proofs.Common.{arith, length, ◌≡◌, ◌≤◌, false, ◌∙◌, sym}
 use Rattle.std.specs.List.{list_any}
 use Rattle.sim_machine.specs.Events.{is_same}
-use Rattle.sim_resource.proofs.Removals.{none_any}
+use Rattle.sim_shared_model.proofs.LeftOut.{none_any}
 use Rattle.sim_resource.proofs.DeskChanges.{sound_released, fewer_users}
 use Rattle.sim_resource.proofs.desk.Desk.release.Goals as goal
 

@@ -1,6 +1,6 @@
 use Rattle.std.proofs.Common.{pos, sym, ◌∙◌}
 use Rattle.sim_types.specs.declared.setup.Resource.{Resource}
-use Rattle.sim_resource.specs.DeskOf.{resource_kind}
+use Rattle.sim_shared_model.specs.DeskOf.{resource_kind}
 use Rattle.sim_resource.proofs.MachineQueues.{victim_once_joined}
 use Rattle.sim_resource.proofs.desk.Desk.victim_with.Goals as goal
 

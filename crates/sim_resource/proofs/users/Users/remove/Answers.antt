@@ -3,7 +3,7 @@ use Rattle.sim_machine.specs.Events.{is_same}
 use Rattle.sim_resource.proofs.GrantOrders.{shown_apart, any_shown, left_shown, left_sound, length_shown}
 use Rattle.sim_resource.specs.GrantOrder.{as_granted}
 use Rattle.std.proofs.lemmas.List.Folds.{list_any_none}
-use Rattle.sim_resource.proofs.Removals.{none_left_out}
+use Rattle.sim_shared_model.proofs.LeftOut.{none_left_out}
 use Rattle.sim_resource.proofs.RememberedRequests.{none_left, not_used}
 use Rattle.sim_resource.proofs.users.Users.remove.Goals as goal
 

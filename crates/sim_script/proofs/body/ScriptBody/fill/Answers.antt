@@ -1,5 +1,5 @@
 use Rattle.std.proofs.Common.{◌≡◌, get_or}
-use Rattle.sim_script_law.proofs.Starts.{has_kind, few_arguments}
+use Rattle.sim_script_law.proofs.Scripts.Starts.{has_kind, few_arguments}
 use Rattle.sim_script.proofs.Filling.{begun}
 use Rattle.sim_script.proofs.body.ScriptBody.fill.Goals as goal
 

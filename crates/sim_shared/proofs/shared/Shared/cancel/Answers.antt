@@ -1,6 +1,6 @@
 use Rattle.std.proofs.Common.{refl, sym, ◌∙◌}
 use Rattle.std.proofs.lemmas.Bool.{false≢true}
-use Rattle.sim_shared_law.proofs.CancelledEvents.{anywhere_shown, cancelled_nowhere, nowhere_there, unopen_nowhere}
+use Rattle.sim_shared_law.proofs.Waiters.CancelledEvents.{anywhere_shown, cancelled_nowhere, nowhere_there, unopen_nowhere}
 use Rattle.sim_shared.proofs.shared.Shared.cancel.Goals as goal
 
 -- what is not open waits nowhere

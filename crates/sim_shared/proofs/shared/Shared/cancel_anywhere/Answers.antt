@@ -1,7 +1,7 @@
 use Rattle.std.proofs.Common.{rules, arith, ◌<◌, refl, sym, subst, ap, ◌∙◌, length}
 use Rattle.sim_shared_model.specs.Waiting.{waits_in}
-use Rattle.sim_shared_law.proofs.ResourcePlaces.{same_length}
-use Rattle.sim_shared_law.proofs.CancelledEvents.{anywhere_shown, found_anywhere, nowhere_seen, nowhere_there, nowhere_more, cancelled_nowhere}
+use Rattle.sim_shared_law.proofs.Shown.ResourcePlaces.{same_length}
+use Rattle.sim_shared_law.proofs.Waiters.CancelledEvents.{anywhere_shown, found_anywhere, nowhere_seen, nowhere_there, nowhere_more, cancelled_nowhere}
 use Rattle.sim_shared.proofs.shared.Shared.cancel_anywhere.Goals as goal
 
 pub loop-at-init : goal.loop-at-init

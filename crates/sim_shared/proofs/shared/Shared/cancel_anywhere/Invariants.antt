@@ -1,6 +1,6 @@
 use Rattle.std.proofs.Common.{◌≡◌, ◌<◌, ℕ, false, length}
 use Rattle.std.specs.Prelude.{slice_get, Some}
-use Rattle.sim_shared_model.specs.declared.resource.SharedResource.{SharedResource}
+use Rattle.sim_shared_model.specs.AnyShared.{SharedResource}
 use Rattle.sim_shared_model.specs.Waiting.{waits_at}
 use Rattle.sim_shared.proofs.shared.Shared.cancel_anywhere.Given as goal
 

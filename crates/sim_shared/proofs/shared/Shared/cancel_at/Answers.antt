@@ -2,10 +2,10 @@ use Rattle.std.proofs.Common.{◌<◌, sym, ap, ◌∙◌, length}
 use Rattle.sim_happen_model.specs.HappenOf.{IsOpen}
 use Rattle.sim_shared_model.specs.Resources.{waiting_at}
 use Rattle.sim_shared_model.specs.Waiting.{waits_in, besides_at}
-use Rattle.sim_shared_law.proofs.ResourcePlaces.{declared_alike, sound_set, got_is, same_length}
-use Rattle.sim_shared_law.proofs.WaitingEvents.{all_among}
-use Rattle.sim_shared_law.proofs.MadeEvents.{shut_room}
-use Rattle.sim_shared_law.proofs.CancelledEvents.{cancelled_at, declared_besides}
+use Rattle.sim_shared_law.proofs.Shown.ResourcePlaces.{declared_alike, sound_set, got_is, same_length}
+use Rattle.sim_shared_law.proofs.Waiters.WaitingEvents.{all_among}
+use Rattle.sim_shared_law.proofs.Waiters.MadeEvents.{shut_room}
+use Rattle.sim_shared_law.proofs.Waiters.CancelledEvents.{cancelled_at, declared_besides}
 use Rattle.sim_shared.proofs.shared.Shared.cancel_at.Goals as goal
 
 pub shut-requires : goal.shut-requires

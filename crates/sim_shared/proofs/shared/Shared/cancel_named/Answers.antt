@@ -1,4 +1,4 @@
-use Rattle.sim_shared_law.proofs.CancelledEvents.{waits_somewhere}
+use Rattle.sim_shared_law.proofs.Waiters.CancelledEvents.{waits_somewhere}
 use Rattle.sim_shared.proofs.shared.Shared.cancel_named.Goals as goal
 
 pub returns-clause-waited : goal.returns-clause-waited

@@ -1,6 +1,6 @@
 use Rattle.std.proofs.Common.{sym}
 use Rattle.std.proofs.lemmas.Bool.{false≢true}
-use Rattle.sim_shared_law.proofs.CancelledEvents.{nowhere_in, unopen_nowhere}
+use Rattle.sim_shared_law.proofs.Waiters.CancelledEvents.{nowhere_in, unopen_nowhere}
 use Rattle.sim_shared.proofs.shared.Shared.cancel_open_at.Goals as goal
 
 -- what is not open waits nowhere

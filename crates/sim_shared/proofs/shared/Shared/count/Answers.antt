@@ -3,8 +3,8 @@ use Rattle.std.specs.Prelude.{slice_get, Some}
 use Rattle.std.proofs.lemmas.Int.{to_z-of_z}
 use Rattle.std.proofs.lemmas.Option.{same_Some}
 use Rattle.sim_shared_model.specs.Resources.{count_at}
-use Rattle.sim_shared_law.proofs.ShownCounts.{count_shown, capacity_fits}
-use Rattle.sim_shared_law.proofs.ResourcePlaces.{got_is, same_length}
+use Rattle.sim_shared_law.proofs.Shown.ShownCounts.{count_shown, capacity_fits}
+use Rattle.sim_shared_law.proofs.Shown.ResourcePlaces.{got_is, same_length}
 use Rattle.sim_shared.proofs.shared.Shared.count.Goals as goal
 
 -- what stands at the place

@@ -1,6 +1,6 @@
 use Rattle.std.proofs.Common.{◌<◌, ◌∙◌, length}
-use Rattle.sim_shared_law.proofs.ResourcePlaces.{sound_set, got_is, same_length}
-use Rattle.sim_shared_law.proofs.ReleasedSlots.{kind_kept, end_use_follows}
+use Rattle.sim_shared_law.proofs.Shown.ResourcePlaces.{sound_set, got_is, same_length}
+use Rattle.sim_shared_law.proofs.Shown.ReleasedSlots.{kind_kept, end_use_follows}
 use Rattle.sim_shared.proofs.shared.Shared.end_use.Goals as goal
 
 pub invariant_of-self : goal.invariant_of-self

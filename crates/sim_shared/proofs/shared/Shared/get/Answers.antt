@@ -6,7 +6,7 @@ use Rattle.sim_machine.specs.State.{Take}
 use Rattle.sim_machine.specs.Trying as trying
 use Rattle.sim_machine.specs.Requests as requests
 use Rattle.sim_shared_model.specs.ShowsAll.{FollowsAll}
-use Rattle.sim_shared_law.proofs.MadeAndTried.{makes_before}
+use Rattle.sim_shared_law.proofs.Waiters.MadeAndTried.{makes_before}
 use Rattle.sim_shared.proofs.shared.Shared.get.Goals as goal
 
 pub returns-clause-ok : goal.returns-clause-ok

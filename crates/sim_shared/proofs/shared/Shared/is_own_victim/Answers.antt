@@ -3,8 +3,8 @@ use Rattle.std.proofs.lemmas.Int.{to_z-of_z}
 use Rattle.sim_types.specs.declared.setup.Resource.{Resource}
 use Rattle.sim_machine.specs.Events.{next_event}
 use Rattle.sim_machine.specs.MayAsk.{takes_requests}
-use Rattle.sim_shared_law.proofs.ResourcePlaces.{declared_at, got_is, same_length}
-use Rattle.sim_shared_law.proofs.RequestsAndAmounts.{own_victim_shown}
+use Rattle.sim_shared_law.proofs.Shown.ResourcePlaces.{declared_at, got_is, same_length}
+use Rattle.sim_shared_law.proofs.Waiters.RequestsAndAmounts.{own_victim_shown}
 use Rattle.sim_shared.proofs.shared.Shared.is_own_victim.Goals as goal
 
 pub own_victim-requires : goal.own_victim-requires

@@ -3,7 +3,7 @@ use Rattle.std.specs.Prelude.{int_lt}
 use Rattle.std.proofs.lemmas.Int.{to_z-of_z}
 use Rattle.sim_types.specs.declared.setup.Resource.{Resource}
 use Rattle.sim_machine.specs.Attempts.{is_container}
-use Rattle.sim_shared_law.proofs.ResourcePlaces.{declared_at, got_is, same_length}
+use Rattle.sim_shared_law.proofs.Shown.ResourcePlaces.{declared_at, got_is, same_length}
 use Rattle.sim_shared.proofs.shared.Shared.is_refused_amount.Goals as goal
 
 pub returns-then-is_container : goal.returns-then-is_container

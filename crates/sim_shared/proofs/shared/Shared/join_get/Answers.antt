@@ -3,8 +3,8 @@ use Rattle.std.proofs.lemmas.Int.{to_z-of_z}
 use Rattle.sim_types.specs.declared.event.EventKind.TheVariants as kind
 use Rattle.sim_types.specs.declared.event.Callback.TheVariants as callback
 use Rattle.sim_machine.specs.State.{Waiter, Take}
-use Rattle.sim_shared_law.proofs.JoinedWaiters.{turns_joined}
-use Rattle.sim_shared_law.proofs.JoinedEvents.{absent_next, all_open_joined}
+use Rattle.sim_shared_law.proofs.Waiters.JoinedWaiters.{turns_joined}
+use Rattle.sim_shared_law.proofs.Waiters.JoinedEvents.{absent_next, all_open_joined}
 use Rattle.sim_shared.proofs.shared.Shared.join_get.Goals as goal
 
 pub queue_get-requires-clause-absent : goal.queue_get-requires-clause-absent

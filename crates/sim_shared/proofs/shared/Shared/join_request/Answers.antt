@@ -3,9 +3,9 @@ use Rattle.std.proofs.lemmas.Int.{to_z-of_z}
 use Rattle.sim_types.specs.declared.event.EventKind.TheVariants as kind
 use Rattle.sim_types.specs.declared.event.Callback.TheVariants as callback
 use Rattle.sim_machine.specs.State.{Waiter, Slot}
-use Rattle.sim_shared_law.proofs.JoinedWaiters.{turns_joined}
-use Rattle.sim_shared_law.proofs.RequestsAndAmounts.{turns_requested}
-use Rattle.sim_shared_law.proofs.JoinedEvents.{absent_next, all_open_joined}
+use Rattle.sim_shared_law.proofs.Waiters.JoinedWaiters.{turns_joined}
+use Rattle.sim_shared_law.proofs.Waiters.RequestsAndAmounts.{turns_requested}
+use Rattle.sim_shared_law.proofs.Waiters.JoinedEvents.{absent_next, all_open_joined}
 use Rattle.sim_shared.proofs.shared.Shared.join_request.Goals as goal
 
 pub queue_request-requires-clause-absent : goal.queue_request-requires-clause-absent

@@ -1,9 +1,9 @@
 use Rattle.sim_machine.specs.Requests as requests
 use Rattle.sim_happen_model.specs.HappenOf.{unheld_event}
 use Rattle.sim_shared_model.specs.Waiting.{gone_if_waits, waits_anywhere}
-use Rattle.sim_shared_law.proofs.CancelledEvents.{cancelled_here}
-use Rattle.sim_shared_law.proofs.FollowingFacilities.{turns_all_then}
-use Rattle.sim_shared_law.proofs.MadeEvents.{leaves_room}
+use Rattle.sim_shared_law.proofs.Waiters.CancelledEvents.{cancelled_here}
+use Rattle.sim_shared_law.proofs.Shown.FollowingFacilities.{turns_all_then}
+use Rattle.sim_shared_law.proofs.Waiters.MadeEvents.{leaves_room}
 use Rattle.sim_shared.proofs.shared.Shared.leave.Goals as goal
 
 pub returns-clause-left : goal.returns-clause-left

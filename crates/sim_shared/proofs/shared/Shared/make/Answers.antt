@@ -1,5 +1,5 @@
-use Rattle.sim_happen_law.proofs.NewEvents.{is_new}
-use Rattle.sim_shared_law.proofs.MadeEvents.{turns_made_with, made_open}
+use Rattle.sim_happen_law.proofs.Changes.NewEvents.{is_new}
+use Rattle.sim_shared_law.proofs.Waiters.MadeEvents.{turns_made_with, made_open}
 use Rattle.sim_shared.proofs.shared.Shared.make.Goals as goal
 
 pub register-requires-clause-unprocessed : goal.register-requires-clause-unprocessed

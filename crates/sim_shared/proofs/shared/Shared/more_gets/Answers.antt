@@ -2,7 +2,7 @@ use Rattle.std.proofs.Common.{◌≡◌, ◌<◌, length, sym, ap, ◌∙◌}
 use Rattle.std.specs.Prelude.{slice_get, Some}
 use Rattle.std.proofs.lemmas.Option.{same_Some}
 use Rattle.sim_shared_model.specs.Serving.{gets_go_on}
-use Rattle.sim_shared_law.proofs.ResourcePlaces.{got_asked}
+use Rattle.sim_shared_law.proofs.Shown.ResourcePlaces.{got_asked}
 use Rattle.sim_shared.proofs.shared.Shared.more_gets.Goals as goal
 
 pub returns : goal.returns

@@ -2,8 +2,8 @@ use Rattle.std.proofs.Common.{w64, ◌<◌, refl, ap, ◌∙◌, length}
 use Rattle.std.proofs.lemmas.Int.{to_z-of_z}
 use Rattle.sim_types.specs.declared.setup.Resource.{Resource}
 use Rattle.sim_machine.specs.MayAsk.{takes_requests}
-use Rattle.sim_shared_law.proofs.ResourcePlaces.{declared_at, got_is, same_length, has_place, sound_used}
-use Rattle.sim_shared_law.proofs.RequestsAndAmounts.{positive}
+use Rattle.sim_shared_law.proofs.Shown.ResourcePlaces.{declared_at, got_is, same_length, has_place, sound_used}
+use Rattle.sim_shared_law.proofs.Waiters.RequestsAndAmounts.{positive}
 use Rattle.sim_shared.proofs.shared.Shared.queue_put.Goals as goal
 
 pub add_put-requires-clause-stock : goal.add_put-requires-clause-stock

@@ -1,7 +1,7 @@
 use Rattle.std.proofs.Common.{◌<◌, refl, ap, ◌∙◌, length}
 use Rattle.sim_types.specs.declared.setup.Resource.{Resource}
 use Rattle.sim_machine.specs.MayAsk.{takes_requests}
-use Rattle.sim_shared_law.proofs.ResourcePlaces.{declared_at, got_is, same_length, has_place, sound_used}
+use Rattle.sim_shared_law.proofs.Shown.ResourcePlaces.{declared_at, got_is, same_length, has_place, sound_used}
 use Rattle.sim_shared.proofs.shared.Shared.queue_request.Goals as goal
 
 pub add_request-requires-clause-slots : goal.add_request-requires-clause-slots

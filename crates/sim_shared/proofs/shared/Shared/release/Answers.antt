@@ -1,4 +1,4 @@
-use Rattle.sim_shared_law.proofs.MadeEvents.{release_made}
+use Rattle.sim_shared_law.proofs.Waiters.MadeEvents.{release_made}
 use Rattle.sim_shared.proofs.shared.Shared.release.Goals as goal
 
 pub returns-clause-released : goal.returns-clause-released

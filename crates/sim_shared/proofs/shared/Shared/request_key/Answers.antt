@@ -3,8 +3,8 @@ use Rattle.std.proofs.lemmas.Int.{to_z-of_z}
 use Rattle.sim_types.specs.declared.setup.Resource.{Resource}
 use Rattle.sim_machine.specs.Requests.{is_preemptive}
 use Rattle.sim_machine.specs.Users.{resource_at}
-use Rattle.sim_shared_law.proofs.ResourcePlaces.{declared_at, got_is, same_length}
-use Rattle.sim_shared_law.proofs.RequestsAndAmounts.{key_shown}
+use Rattle.sim_shared_law.proofs.Shown.ResourcePlaces.{declared_at, got_is, same_length}
+use Rattle.sim_shared_law.proofs.Waiters.RequestsAndAmounts.{key_shown}
 use Rattle.sim_shared.proofs.shared.Shared.request_key.Goals as goal
 
 pub returns-then-is_preemptive : goal.returns-then-is_preemptive

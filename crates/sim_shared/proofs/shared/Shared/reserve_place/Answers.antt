@@ -1,6 +1,6 @@
 use Rattle.std.proofs.Common.{◌≡◌, ◌<◌, refl, length, subst}
 use Rattle.std.specs.Prelude.{slice_get, Some, IfSome}
-use Rattle.sim_shared_law.proofs.ResourcePlaces.{declared_alike, sound_set, sound_ready, same_but_room, got_is}
+use Rattle.sim_shared_law.proofs.Shown.ResourcePlaces.{declared_alike, sound_set, sound_ready, same_but_room, got_is}
 use Rattle.sim_shared.proofs.shared.Shared.reserve_place.Goals as goal
 
 pub invariant_of-self : goal.invariant_of-self

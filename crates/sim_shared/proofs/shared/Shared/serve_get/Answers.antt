@@ -1,6 +1,6 @@
 use Rattle.std.proofs.Common.{◌<◌, length, refl}
-use Rattle.sim_shared_law.proofs.ResourcePlaces.{got_asked}
-use Rattle.sim_shared_law.proofs.ServingTries.{get_sound}
+use Rattle.sim_shared_law.proofs.Shown.ResourcePlaces.{got_asked}
+use Rattle.sim_shared_law.proofs.Stocks.ServingTries.{get_sound}
 use Rattle.sim_shared.proofs.shared.Shared.serve_get.Goals as goal
 
 pub invariant_of-self : goal.invariant_of-self

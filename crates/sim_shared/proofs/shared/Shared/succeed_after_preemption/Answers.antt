@@ -5,7 +5,7 @@ use Rattle.sim_machine.specs.Trying.{on_calendar}
 use Rattle.sim_happen_model.specs.HappenOf.{unheld_event}
 use Rattle.sim_shared_model.specs.Granting.{preempted_since}
 use Rattle.sim_shared_model.specs.ShowsAll.{TurnsAll}
-use Rattle.sim_shared_law.proofs.PreemptedSlots.{interrupted_follows}
+use Rattle.sim_shared_law.proofs.Desks.PreemptedSlots.{interrupted_follows}
 use Rattle.sim_shared.proofs.shared.Shared.succeed_after_preemption.Goals as goal
 
 pub returns-clause-follows : goal.returns-clause-follows

@@ -1,6 +1,6 @@
 use Rattle.std.proofs.Common.{rules, w64, FitsSigned}
 use Rattle.std.proofs.lemmas.Int.{to_z-of_z}
-use Rattle.sim_shared_law.proofs.PreemptedSlots.{open_interrupted, told_follows}
+use Rattle.sim_shared_law.proofs.Desks.PreemptedSlots.{open_interrupted, told_follows}
 use Rattle.sim_shared.proofs.shared.Shared.tell_preempted.Goals as goal
 
 pub returns-clause-told : goal.returns-clause-told

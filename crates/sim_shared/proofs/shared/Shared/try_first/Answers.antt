@@ -2,8 +2,8 @@ use Rattle.std.proofs.Common.{rules, ap, ◌∙◌, w64, FitsSigned}
 use Rattle.std.specs.Prelude.{Some}
 use Rattle.std.proofs.lemmas.Int.{to_z-of_z}
 use Rattle.sim_machine.specs.MayAsk.{takes_requests}
-use Rattle.sim_shared_law.proofs.ResourcePlaces.{sound_set, got_asked, declared_at}
-use Rattle.sim_shared_law.proofs.TriedDesks.{no_other, tried_declared, tries_desk}
+use Rattle.sim_shared_law.proofs.Shown.ResourcePlaces.{sound_set, got_asked, declared_at}
+use Rattle.sim_shared_law.proofs.Desks.TriedDesks.{no_other, tried_declared, tries_desk}
 use Rattle.sim_shared.proofs.shared.Shared.try_first.Goals as goal
 
 pub invariant_of-self : goal.invariant_of-self

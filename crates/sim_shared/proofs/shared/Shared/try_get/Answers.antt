@@ -2,7 +2,7 @@ use Rattle.std.proofs.Common.{true, false, refl, subst, ◌∙◌}
 use Rattle.sim_machine.specs.Trying as trying
 use Rattle.sim_shared_model.specs.ShowsAll.{FollowsAll}
 use Rattle.sim_shared_model.specs.Serving.{DoesPart}
-use Rattle.sim_shared_law.proofs.ServingTries.{no_part, part_then}
+use Rattle.sim_shared_law.proofs.Stocks.ServingTries.{no_part, part_then}
 use Rattle.sim_shared.proofs.shared.Shared.try_get.Goals as goal
 
 pub gets-init : goal.gets-init

@@ -1,6 +1,6 @@
 use Rattle.std.proofs.Common.{rules, w64, FitsSigned}
 use Rattle.std.proofs.lemmas.Int.{to_z-of_z}
-use Rattle.sim_shared_law.proofs.ServingTries.{get_may, get_served, get_open, get_fewer, no_get}
+use Rattle.sim_shared_law.proofs.Stocks.ServingTries.{get_may, get_served, get_open, get_fewer, no_get}
 use Rattle.sim_shared.proofs.shared.Shared.try_one_get.Goals as goal
 
 pub succeed-requires : goal.succeed-requires

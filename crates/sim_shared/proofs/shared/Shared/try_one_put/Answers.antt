@@ -1,6 +1,6 @@
 use Rattle.std.proofs.Common.{rules, w64, FitsSigned}
 use Rattle.std.proofs.lemmas.Int.{to_z-of_z}
-use Rattle.sim_shared_law.proofs.ServingTries.{put_may, put_served, put_open, put_fewer, no_put}
+use Rattle.sim_shared_law.proofs.Stocks.ServingTries.{put_may, put_served, put_open, put_fewer, no_put}
 use Rattle.sim_shared.proofs.shared.Shared.try_one_put.Goals as goal
 
 pub succeed-requires : goal.succeed-requires

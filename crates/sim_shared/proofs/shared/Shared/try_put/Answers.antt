@@ -1,5 +1,5 @@
 use Rattle.sim_machine.specs.Trying as trying
-use Rattle.sim_shared_law.proofs.MadeEvents.{makes_none}
+use Rattle.sim_shared_law.proofs.Waiters.MadeEvents.{makes_none}
 use Rattle.sim_shared.proofs.shared.Shared.try_put.Goals as goal
 
 pub returns-else-has_slots-clause-tried : goal.returns-else-has_slots-clause-tried

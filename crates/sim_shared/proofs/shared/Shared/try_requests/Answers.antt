@@ -5,10 +5,10 @@ use Rattle.sim_machine.specs.Trying.{on_calendar}
 use Rattle.sim_happen_model.specs.HappenOf.{unheld_event}
 use Rattle.sim_shared_model.specs.Granting.{interrupted_for}
 use Rattle.sim_shared_model.specs.ShowsAll.{TurnsAll}
-use Rattle.sim_shared_law.proofs.GrantedSlots.{granted_open, granted_follows}
-use Rattle.sim_shared_law.proofs.MadeEvents.{makes_none, makes_one}
-use Rattle.sim_shared_law.proofs.PreemptedSlots.{preempted_open, preempted_follows}
-use Rattle.sim_shared_law.proofs.TriedDesks.{none_follows}
+use Rattle.sim_shared_law.proofs.Desks.GrantedSlots.{granted_open, granted_follows}
+use Rattle.sim_shared_law.proofs.Waiters.MadeEvents.{makes_none, makes_one}
+use Rattle.sim_shared_law.proofs.Desks.PreemptedSlots.{preempted_open, preempted_follows}
+use Rattle.sim_shared_law.proofs.Desks.TriedDesks.{none_follows}
 use Rattle.sim_shared.proofs.shared.Shared.try_requests.Goals as goal
 
 pub succeed-requires : goal.succeed-requires

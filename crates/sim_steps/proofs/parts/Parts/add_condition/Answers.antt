@@ -1,5 +1,5 @@
 use Rattle.std.proofs.Common.{◌^◌, arith}
-use Rattle.sim_steps_law.proofs.Keeping.{held_by_few}
+use Rattle.sim_steps_law.proofs.Kernels.Keeping.{held_by_few}
 use Rattle.sim_steps.proofs.parts.Parts.add_condition.Goals as goal
 
 pub all_of-requires-clause-few : goal.all_of-requires-clause-few

@@ -1,9 +1,9 @@
 use Rattle.std.proofs.Common.{subst}
 use Rattle.std.specs.Prelude.{All}
-use Rattle.sim_events.specs.TableOf.{IsKept}
+use Rattle.sim_happen_model.specs.TableOf.{IsKept}
 use Rattle.sim_procs.specs.RecordOf.{record_of}
 use Rattle.sim_steps_model.specs.Calling.{events_left}
-use Rattle.sim_steps_law.proofs.Naming.{left_kept}
+use Rattle.sim_steps_law.proofs.Polls.Naming.{left_kept}
 use Rattle.sim_steps.proofs.parts.Parts.answer.Goals as goal
 
 pub strike-requires-clause-target : goal.strike-requires-clause-target

@@ -2,8 +2,8 @@ use Rattle.std.proofs.Common.{◌≡◌, ◌∙◌, ap, slice_index_or, FitsSign
 use Rattle.std.proofs.lemmas.Int.{to_z-of_z}
 use Rattle.std.proofs.lemmas.List.{get_or_default}
 use Rattle.sim_steps_model.specs.PartsOf.{PartsOf}
-use Rattle.sim_steps_law.proofs.Arrivals.{arrived_becomes, port_kept, zero_kept}
-use Rattle.sim_steps_law.proofs.SpawnedProcesses.{next_is_none}
+use Rattle.sim_steps_law.proofs.Starts.Arrivals.{arrived_becomes, port_kept, zero_kept}
+use Rattle.sim_steps_law.proofs.Starts.SpawnedProcesses.{next_is_none}
 use Rattle.sim_steps.proofs.parts.Parts.arrive.Goals as goal
 
 pub begin-process-requires-clause-not_alive : goal.begin-process-requires-clause-not_alive

@@ -1,13 +1,13 @@
 use Rattle.std.proofs.Common.{arith, ◌^◌, ◌+◌}
 use Rattle.sim_steps_model.specs.QuietUnits.{with_live}
-use Rattle.sim_steps_law.proofs.AskedPlaces.{asked_owing_some, asked_running, place_within}
-use Rattle.sim_steps_law.proofs.AskedResources.{polled_ready}
-use Rattle.sim_steps_law.proofs.DroppableProcesses.{polled_can}
-use Rattle.sim_steps_law.proofs.Ending.{polled_alive}
-use Rattle.sim_steps_law.proofs.Keeping.{are_few, few_weaker, held_by_few}
-use Rattle.sim_steps_law.proofs.Naming.{asked_names}
-use Rattle.sim_steps_law.proofs.Polls.{ReadsPlaces}
-use Rattle.sim_steps_law.proofs.QuietPolls.{kept_at_last, owing_at_last, room_there}
+use Rattle.sim_steps_law.proofs.Polls.AskedPlaces.{asked_owing_some, asked_running, place_within}
+use Rattle.sim_steps_law.proofs.Resources.AskedResources.{polled_ready}
+use Rattle.sim_steps_law.proofs.Ends.DroppableProcesses.{polled_can}
+use Rattle.sim_steps_law.proofs.Ends.Ending.{polled_alive}
+use Rattle.sim_steps_law.proofs.Kernels.Keeping.{are_few, few_weaker, held_by_few}
+use Rattle.sim_steps_law.proofs.Polls.Naming.{asked_names}
+use Rattle.sim_steps_law.proofs.Polls.Polls.{ReadsPlaces}
+use Rattle.sim_steps_law.proofs.Polls.QuietPolls.{kept_at_last, owing_at_last, room_there}
 use Rattle.sim_steps.proofs.parts.Parts.ask.Goals as goal
 
 pub event_in-now-requires-clause-within : goal.event_in-now-requires-clause-within

@@ -2,14 +2,14 @@ use Rattle.std.proofs.Common.{◌≡◌, ◌+◌, ◌^◌, ◌∷◌, ◌∙◌,
 use Rattle.std.specs.Prelude.{is_some}
 use Rattle.std.specs.List.Sorted.{IsPermutation}
 use Rattle.sim_types.specs.declared.event.EventId.{EventId}
-use Rattle.sim_events.specs.TableOf.{IsKept}
+use Rattle.sim_happen_model.specs.TableOf.{IsKept}
 use Rattle.sim_happen_model.specs.HappenOf.{held}
 use Rattle.sim_procs.specs.RecordOf.{begun_record}
 use Rattle.sim_machine.specs.Bodies.{start_of}
 use Rattle.sim_steps_model.specs.Becoming.{AreFew}
 use Rattle.sim_steps_model.specs.Opening.{next_init, next_process}
-use Rattle.sim_steps_law.proofs.Beginning.{arguments_still, begun_becomes, begun_few, begun_kept, begun_stand, kept_still}
-use Rattle.sim_steps_law.proofs.Keeping.{few_weaker, held_by_few}
+use Rattle.sim_steps_law.proofs.Starts.Beginning.{arguments_still, begun_becomes, begun_few, begun_kept, begun_stand, kept_still}
+use Rattle.sim_steps_law.proofs.Kernels.Keeping.{few_weaker, held_by_few}
 use Rattle.sim_steps.proofs.parts.Parts.begin.Goals as goal
 
 pub hold-requires-clause-few : goal.hold-requires-clause-few

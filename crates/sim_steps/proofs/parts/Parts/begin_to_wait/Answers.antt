@@ -1,6 +1,6 @@
 use Rattle.std.proofs.Common.{◌∙◌, refl}
-use Rattle.sim_steps_law.proofs.Running.{mapped_is}
-use Rattle.sim_steps_law.proofs.Waiting.{waited_owes}
+use Rattle.sim_steps_law.proofs.Kernels.Running.{mapped_is}
+use Rattle.sim_steps_law.proofs.Polls.Waiting.{waited_owes}
 use Rattle.sim_steps.proofs.parts.Parts.begin_to_wait.Goals as goal
 
 pub returns : goal.returns

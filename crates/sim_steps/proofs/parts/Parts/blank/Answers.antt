@@ -3,10 +3,10 @@ use Rattle.sim_machine.specs.Runs.{first_calendar}
 use Rattle.sim_happen_model.specs.HappenOf.{held}
 use Rattle.sim_happen_model.specs.Shows.{Shows}
 use Rattle.sim_shared_model.specs.Resources.{without_room}
-use Rattle.sim_steps_law.proofs.Made.{named_all}
-use Rattle.sim_steps_law.proofs.NamedHolders.{blank_balances, once_few}
-use Rattle.sim_steps_law.proofs.Rooms.{roomier_all, roomier_shows}
-use Rattle.sim_steps_law.proofs.Starting.{blank_stands}
+use Rattle.sim_steps_law.proofs.Kernels.Made.{named_all}
+use Rattle.sim_steps_law.proofs.Holders.NamedHolders.{blank_balances, once_few}
+use Rattle.sim_steps_law.proofs.Kernels.Rooms.{roomier_all, roomier_shows}
+use Rattle.sim_steps_law.proofs.Starts.Starting.{blank_stands}
 use Rattle.sim_steps.proofs.parts.Parts.blank.Goals as goal
 
 pub returns-clause-stands : goal.returns-clause-stands

@@ -1,12 +1,12 @@
 use Rattle.std.proofs.Common.{[], arith}
-use Rattle.sim_steps_law.proofs.Accounting.{owing_after}
-use Rattle.sim_steps_law.proofs.Becoming.{some_owing}
-use Rattle.sim_steps_law.proofs.KeptNames.{calling_kept}
-use Rattle.sim_steps_law.proofs.Keeping.{none_is_few}
-use Rattle.sim_steps_law.proofs.Calls.{becomes_taken, called_moves, taken_moves, taken_names}
-use Rattle.sim_steps_law.proofs.CalledConditions.{condition_known, condition_taken}
-use Rattle.sim_steps_law.proofs.Naming.{called_names}
-use Rattle.sim_steps_law.proofs.AskedResources.{taken_ready, taken_tries, taken_waiting}
+use Rattle.sim_steps_law.proofs.Kernels.Accounting.{owing_after}
+use Rattle.sim_steps_law.proofs.Kernels.Becoming.{some_owing}
+use Rattle.sim_steps_law.proofs.Kernels.KeptNames.{calling_kept}
+use Rattle.sim_steps_law.proofs.Kernels.Keeping.{none_is_few}
+use Rattle.sim_steps_law.proofs.Callbacks.Calls.{becomes_taken, called_moves, taken_moves, taken_names}
+use Rattle.sim_steps_law.proofs.Callbacks.CalledConditions.{condition_known, condition_taken}
+use Rattle.sim_steps_law.proofs.Polls.Naming.{called_names}
+use Rattle.sim_steps_law.proofs.Resources.AskedResources.{taken_ready, taken_tries, taken_waiting}
 use Rattle.sim_steps.proofs.parts.Parts.call.Goals as goal
 
 pub settle-requires-clause-kept : goal.settle-requires-clause-kept

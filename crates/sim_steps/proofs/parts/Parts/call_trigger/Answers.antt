@@ -1,7 +1,7 @@
 use Rattle.std.proofs.Common.{refl}
 use Rattle.sim_steps_model.specs.PartsOf.{plan_of}
-use Rattle.sim_steps_law.proofs.Accounting.{owing_holder}
-use Rattle.sim_steps_law.proofs.Calls.{trigger_called}
+use Rattle.sim_steps_law.proofs.Kernels.Accounting.{owing_holder}
+use Rattle.sim_steps_law.proofs.Callbacks.Calls.{trigger_called}
 use Rattle.sim_steps.proofs.parts.Parts.call_trigger.Goals as goal
 
 pub trigger-requires-clause-held : goal.trigger-requires-clause-held

@@ -1,5 +1,5 @@
 use Rattle.std.proofs.Common.{refl}
-use Rattle.sim_steps_law.proofs.Moves.{try_put_called}
+use Rattle.sim_steps_law.proofs.Resources.Moves.{try_put_called}
 use Rattle.sim_steps.proofs.parts.Parts.call_try_put.Goals as goal
 
 pub returns : goal.returns

@@ -1,5 +1,5 @@
 use Rattle.std.proofs.Common.{◌∙◌, refl}
-use Rattle.sim_steps_law.proofs.Moves.{cancelled_becomes}
+use Rattle.sim_steps_law.proofs.Resources.Moves.{cancelled_becomes}
 use Rattle.sim_steps.proofs.parts.Parts.cancel.Goals as goal
 
 pub returns : goal.returns

@@ -1,5 +1,5 @@
 use Rattle.std.proofs.Common.{◌∙◌, refl}
-use Rattle.sim_steps_law.proofs.Events.{chain_becomes}
+use Rattle.sim_steps_law.proofs.Polls.Events.{chain_becomes}
 use Rattle.sim_steps.proofs.parts.Parts.chain.Goals as goal
 
 pub returns-in-Ok : goal.returns-in-Ok

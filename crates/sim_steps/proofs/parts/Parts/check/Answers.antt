@@ -1,6 +1,6 @@
 use Rattle.std.proofs.Common.{refl}
 use Rattle.sim_accounts.proofs.CalendarChanges.{plainly_checked}
-use Rattle.sim_steps_law.proofs.CalledConditions.{followed_becomes}
+use Rattle.sim_steps_law.proofs.Callbacks.CalledConditions.{followed_becomes}
 use Rattle.sim_steps.proofs.parts.Parts.check.Goals as goal
 
 pub returns : goal.returns

@@ -6,17 +6,17 @@ use Rattle.sim_steps_model.specs.declared.mode.Unit.TheVariants as unit
 use Rattle.sim_steps_model.specs.Opening.{most_begun}
 use Rattle.sim_steps_model.specs.PartsOf.{PartsOf}
 use Rattle.sim_steps_model.specs.QuietUnits.{with_live}
-use Rattle.sim_steps_law.proofs.AskedPlaces.{all_stand}
-use Rattle.sim_steps_law.proofs.Becoming.{becomes_told}
-use Rattle.sim_steps_law.proofs.DroppableProcesses.{polled_droppable}
-use Rattle.sim_steps_law.proofs.EndedProcesses.{ended_scopes, polled_open}
-use Rattle.sim_steps_law.proofs.HeldScopes.{releases_at}
-use Rattle.sim_steps_law.proofs.Polls.{ReadsPlaces}
-use Rattle.sim_steps_law.proofs.QuietPolls.{does_at_last, logs_at_last}
-use Rattle.sim_steps_law.proofs.Naming.{first_cancelled, first_named, second_named, first_triggered}
-use Rattle.sim_steps_law.proofs.SpawnedProcesses.{polled_time, spawned_can_begin, spawned_kept, spawned_none}
-use Rattle.sim_steps_law.proofs.AskedResources.{polled_may, polled_moves_at, polled_requests_at, polled_within}
-use Rattle.sim_steps_law.proofs.AskedScopes.{entered_at, found_now, has_scope, polled_scopes}
+use Rattle.sim_steps_law.proofs.Polls.AskedPlaces.{all_stand}
+use Rattle.sim_steps_law.proofs.Kernels.Becoming.{becomes_told}
+use Rattle.sim_steps_law.proofs.Ends.DroppableProcesses.{polled_droppable}
+use Rattle.sim_steps_law.proofs.Ends.EndedProcesses.{ended_scopes, polled_open}
+use Rattle.sim_steps_law.proofs.Scopes.HeldScopes.{releases_at}
+use Rattle.sim_steps_law.proofs.Polls.Polls.{ReadsPlaces}
+use Rattle.sim_steps_law.proofs.Polls.QuietPolls.{does_at_last, logs_at_last}
+use Rattle.sim_steps_law.proofs.Polls.Naming.{first_cancelled, first_named, second_named, first_triggered}
+use Rattle.sim_steps_law.proofs.Starts.SpawnedProcesses.{polled_time, spawned_can_begin, spawned_kept, spawned_none}
+use Rattle.sim_steps_law.proofs.Resources.AskedResources.{polled_may, polled_moves_at, polled_requests_at, polled_within}
+use Rattle.sim_steps_law.proofs.Scopes.AskedScopes.{entered_at, found_now, has_scope, polled_scopes}
 use Rattle.sim_steps.proofs.parts.Parts.do_asked.Goals as goal
 
 pub wait-requires-clause-kept : goal.wait-requires-clause-kept

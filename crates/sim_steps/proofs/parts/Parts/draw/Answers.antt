@@ -1,7 +1,7 @@
 use Rattle.std.proofs.Common.{rules, w64, FitsSigned, ◌∙◌}
 use Rattle.std.proofs.lemmas.Int.{to_z-of_z}
 use Rattle.sim_steps_model.specs.PartsOf.{plan_of}
-use Rattle.sim_steps_law.proofs.Polls.{drawn_becomes, empty_becomes}
+use Rattle.sim_steps_law.proofs.Polls.Polls.{drawn_becomes, empty_becomes}
 use Rattle.sim_steps.proofs.parts.Parts.draw.Goals as goal
 
 pub returns-else-hi-lo : goal.returns-else-hi-lo

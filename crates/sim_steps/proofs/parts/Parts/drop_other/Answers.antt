@@ -4,7 +4,7 @@ use Rattle.std.proofs.lemmas.Int.{to_z-of_z}
 use Rattle.sim_procs.specs.RecordOf.{record_of}
 use Rattle.sim_steps_model.specs.PartsOf.{control_of}
 use Rattle.sim_steps_model.specs.Dropping.{StopsWaiting}
-use Rattle.sim_steps_law.proofs.DroppedProcesses.{drops_then, ends_well_then, scopes_few, stand_then, stops_well, stripped_is}
+use Rattle.sim_steps_law.proofs.Ends.DroppedProcesses.{drops_then, ends_well_then, scopes_few, stand_then, stops_well, stripped_is}
 use Rattle.sim_steps.proofs.parts.Parts.drop_other.Goals as goal
 
 pub leave_scopes-requires-clause-scopes : goal.leave_scopes-requires-clause-scopes

@@ -1,8 +1,8 @@
 use Rattle.std.proofs.Common.{rules, sym, ◌∙◌, w64, FitsSigned, eq-eqb}
 use Rattle.std.proofs.lemmas.Int.{to_z-of_z}
-use Rattle.sim_machine_law.proofs.KeptProcessesParts.{is_process-no}
-use Rattle.sim_steps_law.proofs.Interruptions.{another_ended, another_itself}
-use Rattle.sim_steps_law.proofs.DroppedProcesses.{another_done}
+use Rattle.sim_machine_law.proofs.KeptParts.KeptProcessesParts.{is_process-no}
+use Rattle.sim_steps_law.proofs.Polls.Interruptions.{another_ended, another_itself}
+use Rattle.sim_steps_law.proofs.Ends.DroppedProcesses.{another_done}
 use Rattle.sim_steps.proofs.parts.Parts.drop_process.Goals as goal
 
 pub returns-then-not-is_alive : goal.returns-then-not-is_alive

@@ -1,4 +1,4 @@
-use Rattle.sim_steps_law.proofs.EndedProcesses.{ended_rests}
+use Rattle.sim_steps_law.proofs.Ends.EndedProcesses.{ended_rests}
 use Rattle.sim_steps.proofs.parts.Parts.end.Goals as goal
 
 pub returns : goal.returns

@@ -1,7 +1,7 @@
 use Rattle.std.proofs.Common.{◌≡◌, [], refl, sym, subst}
 use Rattle.std.specs.Prelude.{IfSome, IsSomeAnd}
 use Rattle.sim_steps_model.specs.Holding.{StandInPlaces}
-use Rattle.sim_steps_law.proofs.EndedProcesses.{ended_owing, ended_becomes, owes_places, owes_target}
+use Rattle.sim_steps_law.proofs.Ends.EndedProcesses.{ended_owing, ended_becomes, owes_places, owes_target}
 use Rattle.sim_steps.proofs.parts.Parts.end_process.Goals as goal
 
 pub unhold-requires : goal.unhold-requires

@@ -1,6 +1,6 @@
 use Rattle.std.proofs.Common.{rules, w64, FitsSigned, ◌∙◌, refl}
 use Rattle.std.proofs.lemmas.Int.{to_z-of_z}
-use Rattle.sim_steps_law.proofs.EnteringScopes.{enters, request_few, request_kept, victim_becomes}
+use Rattle.sim_steps_law.proofs.Scopes.EnteringScopes.{enters, request_few, request_kept, victim_becomes}
 use Rattle.sim_steps.proofs.parts.Parts.enter.Goals as goal
 
 pub hold-requires-clause-kept : goal.hold-requires-clause-kept

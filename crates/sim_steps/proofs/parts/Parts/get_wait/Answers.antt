@@ -1,9 +1,9 @@
 use Rattle.std.proofs.Common.{rules, w64, arith, ◌^◌, ◌+◌, FitsSigned}
 use Rattle.std.proofs.lemmas.Int.{to_z-of_z}
 use Rattle.sim_machine.specs.Processes.{wait}
-use Rattle.sim_steps_law.proofs.Accounting.{owing_after}
-use Rattle.sim_steps_law.proofs.Becoming.{becomes_within}
-use Rattle.sim_steps_law.proofs.Keeping.{held_by_few}
+use Rattle.sim_steps_law.proofs.Kernels.Accounting.{owing_after}
+use Rattle.sim_steps_law.proofs.Kernels.Becoming.{becomes_within}
+use Rattle.sim_steps_law.proofs.Kernels.Keeping.{held_by_few}
 use Rattle.sim_steps.proofs.parts.Parts.get_wait.Goals as goal
 
 pub wait-requires-clause-few : goal.wait-requires-clause-few

@@ -1,5 +1,5 @@
 use Rattle.std.proofs.Common.{◌∙◌, refl}
-use Rattle.sim_steps_law.proofs.Waiting.{told_at_once}
+use Rattle.sim_steps_law.proofs.Polls.Waiting.{told_at_once}
 use Rattle.sim_steps.proofs.parts.Parts.go_on.Goals as goal
 
 pub returns : goal.returns

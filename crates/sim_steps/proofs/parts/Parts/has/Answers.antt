@@ -2,7 +2,7 @@ use Rattle.std.proofs.Common.{rules, ◌∙◌, ap, w64, FitsSigned}
 use Rattle.std.proofs.lemmas.Int.{to_z-of_z}
 use Rattle.sim_types.specs.declared.event.Signal.TheVariants as signal
 use Rattle.sim_steps_model.specs.PartsOf.{plan_of}
-use Rattle.sim_steps_law.proofs.AskedConditions.{has_becomes}
+use Rattle.sim_steps_law.proofs.Polls.AskedConditions.{has_becomes}
 use Rattle.sim_steps.proofs.parts.Parts.has.Goals as goal
 
 pub returns : goal.returns

@@ -1,6 +1,6 @@
 use Rattle.std.proofs.Common.{refl}
-use Rattle.sim_steps_law.proofs.HeldPlaces.{holds_more}
-use Rattle.sim_steps_law.proofs.Holding.{holds_owes, takes_holder}
+use Rattle.sim_steps_law.proofs.Holders.HeldPlaces.{holds_more}
+use Rattle.sim_steps_law.proofs.Holders.Holding.{holds_owes, takes_holder}
 use Rattle.sim_steps.proofs.parts.Parts.hold.Goals as goal
 
 pub returns-then-event-ne0-clause-owes : goal.returns-then-event-ne0-clause-owes

@@ -1,8 +1,8 @@
 use Rattle.std.proofs.Common.{◌≡◌, ◌+◌, ◌^◌, subst, ◌∙◌, refl, ap, arith}
 use Rattle.sim_steps_model.specs.PartsOf.{with_happen}
-use Rattle.sim_steps_law.proofs.Becoming.{becomes_none}
-use Rattle.sim_steps_law.proofs.HeldPlaces.{HoldsBefore, held_all, held_next}
-use Rattle.sim_steps_law.proofs.Keeping.{held_by_few}
+use Rattle.sim_steps_law.proofs.Kernels.Becoming.{becomes_none}
+use Rattle.sim_steps_law.proofs.Holders.HeldPlaces.{HoldsBefore, held_all, held_next}
+use Rattle.sim_steps_law.proofs.Kernels.Keeping.{held_by_few}
 use Rattle.sim_steps.proofs.parts.Parts.hold_places.Goals as goal
 
 pub loop-at-init : goal.loop-at-init

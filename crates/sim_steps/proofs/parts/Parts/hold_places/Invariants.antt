@@ -1,8 +1,8 @@
 use Rattle.std.proofs.Common.{ℕ}
-use Rattle.sim_events.specs.TableOf.{IsKept}
+use Rattle.sim_happen_model.specs.TableOf.{IsKept}
 use Rattle.sim_accounts.proofs.ChangedPlaces.{in_place}
 use Rattle.sim_steps_model.specs.PartsOf.{KeepsButHappen}
-use Rattle.sim_steps_law.proofs.HeldPlaces.{HoldsBefore}
+use Rattle.sim_steps_law.proofs.Holders.HeldPlaces.{HoldsBefore}
 use Rattle.sim_steps.proofs.parts.Parts.hold_places.Given as goal
 
 -- what stands in the places so far is held, and what stands in any is kept

@@ -1,5 +1,5 @@
 use Rattle.std.proofs.Common.{refl}
-use Rattle.sim_steps_law.proofs.Waiting.{registered_held_owes, registered_zero_owes}
+use Rattle.sim_steps_law.proofs.Polls.Waiting.{registered_held_owes, registered_zero_owes}
 use Rattle.sim_steps.proofs.parts.Parts.hold_to_resume.Goals as goal
 use Rattle.sim_steps.proofs.parts.Parts.hold_to_resume.Goals.{then-on-ne0, else-on-ne0}
 

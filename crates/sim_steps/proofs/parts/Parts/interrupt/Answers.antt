@@ -1,9 +1,9 @@
 use Rattle.std.proofs.Common.{rules, refl, sym, ◌∙◌, w64, FitsSigned, eq-eqb}
 use Rattle.std.proofs.lemmas.Int.{to_z-of_z}
-use Rattle.sim_machine_law.proofs.KeptProcessesParts.{is_process-no}
+use Rattle.sim_machine_law.proofs.KeptParts.KeptProcessesParts.{is_process-no}
 use Rattle.sim_types.specs.Throws.{interrupt}
 use Rattle.sim_types.specs.declared.event.Throw.{Throw}
-use Rattle.sim_steps_law.proofs.Interruptions.{another_ended, another_itself, interrupted_becomes}
+use Rattle.sim_steps_law.proofs.Polls.Interruptions.{another_ended, another_itself, interrupted_becomes}
 use Rattle.sim_steps.proofs.parts.Parts.interrupt.Goals as goal
 
 pub returns-then-not-is_alive : goal.returns-then-not-is_alive

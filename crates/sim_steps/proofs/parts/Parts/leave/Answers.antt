@@ -1,4 +1,4 @@
-use Rattle.sim_steps_law.proofs.LeavingInnermost.{left_told}
+use Rattle.sim_steps_law.proofs.Scopes.LeavingInnermost.{left_told}
 use Rattle.sim_steps.proofs.parts.Parts.leave.Goals as goal
 
 pub returns : goal.returns

@@ -1,5 +1,5 @@
 use Rattle.std.proofs.Common.{refl}
-use Rattle.sim_steps_law.proofs.LeavingInnermost.{left_none, left_owed, left_scope, may_leave}
+use Rattle.sim_steps_law.proofs.Scopes.LeavingInnermost.{left_none, left_owed, left_scope, may_leave}
 use Rattle.sim_steps.proofs.parts.Parts.leave_scope.Goals as goal
 
 pub leave-requires-clause-res : goal.leave-requires-clause-res

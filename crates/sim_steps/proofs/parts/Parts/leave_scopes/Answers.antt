@@ -1,5 +1,5 @@
 use Rattle.std.proofs.Common.{sym, arith}
-use Rattle.sim_steps_law.proofs.LeavingEach.{gone_few, leaves_start, some_fewer, some_last, some_next}
+use Rattle.sim_steps_law.proofs.Scopes.LeavingEach.{gone_few, leaves_start, some_fewer, some_last, some_next}
 use Rattle.sim_steps.proofs.parts.Parts.leave_scopes.Goals as goal
 
 pub loop-process-init : goal.loop-process-init

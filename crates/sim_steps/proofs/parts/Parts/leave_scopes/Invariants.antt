@@ -1,5 +1,5 @@
 use Rattle.sim_procs.specs.RecordOf.{record_of}
-use Rattle.sim_steps_law.proofs.LeavingEach.{LeavesSome, scope_count}
+use Rattle.sim_steps_law.proofs.Scopes.LeavingEach.{LeavesSome, scope_count}
 use Rattle.sim_steps.proofs.parts.Parts.leave_scopes.Given as goal
 
 -- some scopes of the process were left

@@ -1,6 +1,6 @@
 use Rattle.std.proofs.Common.{◌∙◌, refl}
 use Rattle.std.proofs.lemmas.Bool.{false≢true, false_from_ne_true}
-use Rattle.sim_steps_law.proofs.AskedConditions.{condition_becomes, wide_becomes}
+use Rattle.sim_steps_law.proofs.Polls.AskedConditions.{condition_becomes, wide_becomes}
 use Rattle.sim_steps.proofs.parts.Parts.make_condition.Goals as goal
 
 pub returns-in-Ok : goal.returns-in-Ok

@@ -1,6 +1,6 @@
 use Rattle.std.proofs.Common.{rules, w64, FitsSigned, ◌∙◌, refl}
 use Rattle.std.proofs.lemmas.Int.{to_z-of_z}
-use Rattle.sim_steps_law.proofs.Moves.{put_makes, move_refused}
+use Rattle.sim_steps_law.proofs.Resources.Moves.{put_makes, move_refused}
 use Rattle.sim_steps.proofs.parts.Parts.make_put.Goals as goal
 
 pub returns-in-Ok-clause-made : goal.returns-in-Ok-clause-made

@@ -1,7 +1,7 @@
 use Rattle.std.proofs.Common.{rules, ◌∙◌, ap, refl, Err, w64, FitsSigned}
 use Rattle.std.proofs.lemmas.Int.{to_z-of_z}
-use Rattle.sim_steps_law.proofs.Signed.{is_below, not_below, no_error, not_late, late_is}
-use Rattle.sim_steps_law.proofs.Waiting.{timeout_makes, negative_refuses, late_refuses}
+use Rattle.sim_steps_law.proofs.Polls.Signed.{is_below, not_below, no_error, not_late, late_is}
+use Rattle.sim_steps_law.proofs.Polls.Waiting.{timeout_makes, negative_refuses, late_refuses}
 use Rattle.sim_steps.proofs.parts.Parts.make_timeout.Goals as goal
 
 pub returns-in-Ok-clause-made : goal.returns-in-Ok-clause-made

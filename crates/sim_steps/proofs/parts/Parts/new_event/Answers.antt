@@ -1,6 +1,6 @@
 use Rattle.std.proofs.Common.{◌∙◌, refl}
 use Rattle.sim_steps_model.specs.PartsOf.{plan_of}
-use Rattle.sim_steps_law.proofs.Events.{made_becomes}
+use Rattle.sim_steps_law.proofs.Polls.Events.{made_becomes}
 use Rattle.sim_steps.proofs.parts.Parts.new_event.Goals as goal
 
 pub returns : goal.returns

@@ -1,7 +1,7 @@
 use Rattle.std.proofs.Common.{arith}
-use Rattle.sim_steps_law.proofs.AskedPlaces.{place_within}
-use Rattle.sim_steps_law.proofs.QuietPolls.{moves_at_last, owes_at_last}
-use Rattle.sim_steps_law.proofs.Running.{running_alive}
+use Rattle.sim_steps_law.proofs.Polls.AskedPlaces.{place_within}
+use Rattle.sim_steps_law.proofs.Polls.QuietPolls.{moves_at_last, owes_at_last}
+use Rattle.sim_steps_law.proofs.Kernels.Running.{running_alive}
 use Rattle.sim_steps.proofs.parts.Parts.poll.Goals as goal
 
 pub place_told-place-requires : goal.place_told-place-requires

@@ -1,5 +1,5 @@
-use Rattle.sim_steps_law.proofs.Ending.{room_stays}
-use Rattle.sim_steps_law.proofs.Running.{running_alive, running_can_be_told}
+use Rattle.sim_steps_law.proofs.Ends.Ending.{room_stays}
+use Rattle.sim_steps_law.proofs.Kernels.Running.{running_alive, running_can_be_told}
 use Rattle.sim_steps.proofs.parts.Parts.poll_body.Goals as goal
 
 pub body_mut-body-requires : goal.body_mut-body-requires

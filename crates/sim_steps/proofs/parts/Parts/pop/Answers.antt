@@ -1,8 +1,8 @@
 use Rattle.std.proofs.Common.{refl}
 use Rattle.sim_happen_model.specs.Seen.{seen}
-use Rattle.sim_happen_law.proofs.SeenShown.{shows_seen}
-use Rattle.sim_steps_law.proofs.Keeping.{are_few}
-use Rattle.sim_steps_law.proofs.Calls.{popped_moves, told_of}
+use Rattle.sim_happen_law.proofs.Shown.SeenShown.{shows_seen}
+use Rattle.sim_steps_law.proofs.Kernels.Keeping.{are_few}
+use Rattle.sim_steps_law.proofs.Callbacks.Calls.{popped_moves, told_of}
 use Rattle.sim_steps.proofs.parts.Parts.pop.Goals as goal
 
 pub step-requires-clause-few : goal.step-requires-clause-few

@@ -2,7 +2,7 @@ use Rattle.std.proofs.Common.{rules, w64, FitsSigned}
 use Rattle.std.proofs.lemmas.Int.{to_z-of_z}
 use Rattle.sim_types.specs.declared.event.Signal.TheVariants as signal
 use Rattle.sim_machine.specs.Effect.{tell_made}
-use Rattle.sim_steps_law.proofs.Becoming.{becomes_told}
+use Rattle.sim_steps_law.proofs.Kernels.Becoming.{becomes_told}
 use Rattle.sim_steps.proofs.parts.Parts.put.Goals as goal
 
 pub returns-in-Some : goal.returns-in-Some

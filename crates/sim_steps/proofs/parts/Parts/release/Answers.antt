@@ -1,6 +1,6 @@
 use Rattle.std.proofs.Common.{◌∙◌, refl}
 use Rattle.sim_procs.specs.RecordOf.{record_of, scope_of}
-use Rattle.sim_steps_law.proofs.HeldScopes.{found_scope, released_becomes}
+use Rattle.sim_steps_law.proofs.Scopes.HeldScopes.{found_scope, released_becomes}
 use Rattle.sim_steps.proofs.parts.Parts.release.Goals as goal
 
 pub release-requires-clause-res : goal.release-requires-clause-res

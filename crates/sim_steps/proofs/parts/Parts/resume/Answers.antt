@@ -1,6 +1,6 @@
 use Rattle.std.proofs.Common.{◌∙◌, refl}
 use Rattle.sim_steps_model.specs.PartsOf.{plan_of}
-use Rattle.sim_steps_law.proofs.Calls.{resumed_becomes}
+use Rattle.sim_steps_law.proofs.Callbacks.Calls.{resumed_becomes}
 use Rattle.sim_steps.proofs.parts.Parts.resume.Goals as goal
 
 pub returns : goal.returns

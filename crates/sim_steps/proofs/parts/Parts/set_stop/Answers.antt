@@ -1,4 +1,4 @@
-use Rattle.sim_steps_law.proofs.Rooms.{sets_stop_then}
+use Rattle.sim_steps_law.proofs.Kernels.Rooms.{sets_stop_then}
 use Rattle.sim_steps.proofs.parts.Parts.set_stop.Goals as goal
 
 pub returns-clause-sets : goal.returns-clause-sets

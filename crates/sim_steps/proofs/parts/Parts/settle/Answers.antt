@@ -2,7 +2,7 @@ use Rattle.std.proofs.Common.{◌≡◌, [], true, false, sym, refl, ap, ◌∙�
 use Rattle.sim_machine.specs.State.{Calling, Over}
 use Rattle.sim_machine.specs.Standing.{left_of}
 use Rattle.sim_types.specs.declared.line.End.TheVariants as end
-use Rattle.sim_steps_law.proofs.Calls.{settled_held, settled_becomes}
+use Rattle.sim_steps_law.proofs.Callbacks.Calls.{settled_held, settled_becomes}
 use Rattle.sim_steps.proofs.parts.Parts.settle.Goals as goal
 
 pub unhold_settled-requires-clause-held : goal.unhold_settled-requires-clause-held

@@ -1,6 +1,6 @@
 use Rattle.std.proofs.Common.{ap}
 use Rattle.sim_types.specs.declared.event.ProcId.{ProcId}
-use Rattle.sim_steps_law.proofs.SpawnedProcesses.{spawned_becomes}
+use Rattle.sim_steps_law.proofs.Starts.SpawnedProcesses.{spawned_becomes}
 use Rattle.sim_steps.proofs.parts.Parts.spawn.Goals as goal
 
 pub returns : goal.returns

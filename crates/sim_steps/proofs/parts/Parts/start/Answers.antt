@@ -1,8 +1,8 @@
 use Rattle.std.proofs.Common.{refl}
 use Rattle.sim_steps_model.specs.PartsOf.{plan_of}
-use Rattle.sim_steps_law.proofs.Starting.{next_not_alive, start_can_begin, start_kept}
-use Rattle.sim_steps_law.proofs.Beginning.{begun_starts, begun_opening}
-use Rattle.sim_steps_law.proofs.Rooms.{roomier_opening}
+use Rattle.sim_steps_law.proofs.Starts.Starting.{next_not_alive, start_can_begin, start_kept}
+use Rattle.sim_steps_law.proofs.Starts.Beginning.{begun_starts, begun_opening}
+use Rattle.sim_steps_law.proofs.Kernels.Rooms.{roomier_opening}
 use Rattle.sim_steps.proofs.parts.Parts.start.Goals as goal
 
 pub begin-requires-clause-can : goal.begin-requires-clause-can

@@ -1,7 +1,7 @@
 use Rattle.sim_types.specs.declared.event.Callback.TheVariants as callback
 use Rattle.sim_steps_model.specs.Calling.{called}
 use Rattle.sim_steps_model.specs.PartsOf.{plan_of}
-use Rattle.sim_steps_law.proofs.Becoming.{becomes_then}
+use Rattle.sim_steps_law.proofs.Kernels.Becoming.{becomes_then}
 use Rattle.sim_steps.proofs.parts.Parts.stop.Goals as goal
 
 pub returns : goal.returns

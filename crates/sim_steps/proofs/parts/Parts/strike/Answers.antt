@@ -2,10 +2,10 @@ use Rattle.std.proofs.Common.{refl, sym, ◌∙◌, ap, subst}
 use Rattle.std.specs.Prelude.{is_some}
 use Rattle.sim_machine.specs.Events.{unregister, is_resume_of}
 use Rattle.sim_happen_model.specs.Shows.{Follows}
-use Rattle.sim_happen_law.proofs.TakenResumptions.{resume_taken}
+use Rattle.sim_happen_law.proofs.Changes.TakenResumptions.{resume_taken}
 use Rattle.sim_steps_model.specs.PartsOf.{plan_of}
-use Rattle.sim_steps_law.proofs.Running.{mapped_is}
-use Rattle.sim_steps_law.proofs.Interruptions.{left_calling, some_mapped_is, struck_becomes, not_struck}
+use Rattle.sim_steps_law.proofs.Kernels.Running.{mapped_is}
+use Rattle.sim_steps_law.proofs.Polls.Interruptions.{left_calling, some_mapped_is, struck_becomes, not_struck}
 use Rattle.sim_steps.proofs.parts.Parts.strike.Goals as goal
 
 pub returns-in-Some : goal.returns-in-Some

@@ -1,5 +1,5 @@
 use Rattle.std.proofs.Common.{◌∙◌, refl}
-use Rattle.sim_steps_law.proofs.Events.{unrefused, triggered_becomes}
+use Rattle.sim_steps_law.proofs.Polls.Events.{unrefused, triggered_becomes}
 use Rattle.sim_steps.proofs.parts.Parts.trigger_by.Goals as goal
 
 pub returns-in-Ok : goal.returns-in-Ok

@@ -1,5 +1,5 @@
 use Rattle.std.proofs.Common.{refl}
-use Rattle.sim_steps_law.proofs.Holding.{returns_holder, returns_owes}
+use Rattle.sim_steps_law.proofs.Holders.Holding.{returns_holder, returns_owes}
 use Rattle.sim_steps.proofs.parts.Parts.unhold.Goals as goal
 
 pub returns-then-event-ne0-clause-owes : goal.returns-then-event-ne0-clause-owes

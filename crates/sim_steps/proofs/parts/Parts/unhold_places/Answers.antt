@@ -1,6 +1,6 @@
 use Rattle.std.proofs.Common.{◌≡◌, ◌∙◌, refl, ap, subst, arith}
 use Rattle.sim_steps_model.specs.PartsOf.{with_happen}
-use Rattle.sim_steps_law.proofs.HeldPlaces.{OwesBehind, given_all, given_next, given_none, owed_next}
+use Rattle.sim_steps_law.proofs.Holders.HeldPlaces.{OwesBehind, given_all, given_next, given_none, owed_next}
 use Rattle.sim_steps.proofs.parts.Parts.unhold_places.Goals as goal
 
 pub loop-at-init : goal.loop-at-init

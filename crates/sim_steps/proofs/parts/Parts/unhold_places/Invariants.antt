@@ -1,5 +1,5 @@
 use Rattle.sim_steps_model.specs.PartsOf.{KeepsButHappen}
-use Rattle.sim_steps_law.proofs.HeldPlaces.{OwesBehind}
+use Rattle.sim_steps_law.proofs.Holders.HeldPlaces.{OwesBehind}
 use Rattle.sim_steps.proofs.parts.Parts.unhold_places.Given as goal
 
 -- what stands in the places from here on is to be given back

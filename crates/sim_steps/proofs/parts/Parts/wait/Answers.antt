@@ -1,6 +1,6 @@
 use Rattle.std.proofs.Common.{arith}
 use Rattle.sim_machine.specs.Processes.{wait}
-use Rattle.sim_steps_law.proofs.Becoming.{becomes_within}
+use Rattle.sim_steps_law.proofs.Kernels.Becoming.{becomes_within}
 use Rattle.sim_steps.proofs.parts.Parts.wait.Goals as goal
 
 pub returns-then-is_processed : goal.returns-then-is_processed

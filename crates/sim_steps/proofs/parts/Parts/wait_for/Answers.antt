@@ -1,6 +1,6 @@
 use Rattle.sim_machine.specs.Processes.{wait}
-use Rattle.sim_steps_law.proofs.Accounting.{owing_after}
-use Rattle.sim_steps_law.proofs.Becoming.{becomes_then}
+use Rattle.sim_steps_law.proofs.Kernels.Accounting.{owing_after}
+use Rattle.sim_steps_law.proofs.Kernels.Becoming.{becomes_then}
 use Rattle.sim_steps.proofs.parts.Parts.wait_for.Goals as goal
 
 pub unhold-requires : goal.unhold-requires

@@ -1,6 +1,6 @@
 use Rattle.std.proofs.Common.{map, sym, arith}
 use Rattle.sim_stores.proofs.Storing.{sound_cancel}
-use Rattle.sim_stores.proofs.Apart.{differ_left, differ_right}
+use Rattle.sim_shared_model.proofs.Apart.{differ_left, differ_right}
 use Rattle.sim_stores.proofs.Leaving.{among_both}
 use Rattle.sim_stores.proofs.shelf.Shelf.cancel.Goals as goal
 

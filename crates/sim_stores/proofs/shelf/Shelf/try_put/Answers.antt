@@ -1,7 +1,7 @@
 use Rattle.std.proofs.Common.{◌≡◌, ◌∷◌, ◌++◌, [], ◌<◌, ◌∙◌, length, rules, arith, w64, FitsSigned, ap}
 use Rattle.std.proofs.lemmas.Int.{to_z-of_z}
 use Rattle.sim_stores.specs.Stocks.{items_of_stock}
-use Rattle.sim_stores.specs.Shelves.{brought_by}
+use Rattle.sim_shared_model.specs.Shelves.{brought_by}
 use Rattle.sim_stores.specs.contracts.shelf.Shelf.{the_view}
 use Rattle.sim_stores.proofs.Storing.{sound_deposit, deposits}
 use Rattle.sim_stores.proofs.shelf.Shelf.try_put.Goals as goal

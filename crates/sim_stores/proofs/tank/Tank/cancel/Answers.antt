@@ -1,6 +1,6 @@
 use Rattle.std.proofs.Common.{map, sym}
 use Rattle.sim_stores.proofs.Amounts.{sound_besides}
-use Rattle.sim_stores.proofs.Apart.{differ_left, differ_right}
+use Rattle.sim_shared_model.proofs.Apart.{differ_left, differ_right}
 use Rattle.sim_stores.proofs.Leaving.{among_both}
 use Rattle.sim_stores.proofs.tank.Tank.cancel.Goals as goal
 

@@ -1,6 +1,0 @@
--- what contracts see
-pub mod Callbacks
-pub mod Chains
-pub mod Keeping
--- a search
-pub mod Places

@@ -1,0 +1,3 @@
+-- The entry that is due.
+pub mod Due
+pub mod PoppedEntries

@@ -1,0 +1,3 @@
+-- Other facilities in the place of a state's.
+pub mod ChangedFacilities
+pub mod ChangedQueues

@@ -1,0 +1,5 @@
+-- The facts beside, from change to change.
+pub mod FollowingCalendars
+pub mod FollowingFacilities
+pub mod FollowingStates
+pub mod FollowingSteps

@@ -1,0 +1,4 @@
+-- Events that are kept.
+pub mod KeptReasons
+pub mod KeptReached
+pub mod KeptAsked

@@ -1,0 +1,4 @@
+-- Scopes that are opened and left.
+pub mod PolledEnter
+pub mod PolledLeave
+pub mod ClosedScopes

@@ -1,0 +1,4 @@
+-- Lawful states: steps and runs.
+pub mod MadeEvents
+pub mod WholeSteps
+pub mod WholeRuns

@@ -1,0 +1,2 @@
+pub mod LawfulRuns
+pub mod ReachedEvents

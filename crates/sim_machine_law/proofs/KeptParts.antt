@@ -1,0 +1,24 @@
+-- What most changes keep at once, part by part.
+pub mod LawfulBasis
+pub mod KeptTimesCases
+pub mod KeptTimes
+pub mod KeptRegistrationsCalendar
+pub mod KeptRegistrations
+pub mod KeptProcessesParts
+pub mod KeptProcesses
+pub mod KeptProcessesChanges
+pub mod KeptInterruptionsParts
+pub mod KeptInterruptions
+pub mod KeptInterruptionsChanges
+pub mod KeptWaiting
+pub mod KeptWaitingPolls
+pub mod KeptWaitingUnits
+pub mod KeptCapacities
+pub mod KeptConditions
+pub mod KeptConditionsEvents
+pub mod KeptConditionsPop
+pub mod KeptBodiesEvents
+pub mod KeptBodies
+pub mod KeptBodiesPolls
+pub mod KeptBodiesUnits
+pub mod KeptChains

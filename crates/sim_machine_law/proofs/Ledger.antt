@@ -1,0 +1,4 @@
+-- The ledger of the resources.
+pub mod TriedQueues
+pub mod LedgerSteps
+pub mod UsersOfDeeds

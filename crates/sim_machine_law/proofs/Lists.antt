@@ -1,0 +1,2 @@
+-- Lists.
+pub mod BestElements

@@ -1,7 +1,0 @@
-use Rattle.sim_machine_law.proofs.WholeRuns.{run_stays_lawful}
-use Rattle.sim_machine_law.proofs.runs.lawful_run.Goals as goal
-
-pub returns : goal.returns
-returns g c =
-    let b = g.B.LawfulBody in
-    record { run = λ code r h. run_stays_lawful b.body code (b.lawful code) r h }

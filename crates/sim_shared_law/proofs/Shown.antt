@@ -1,0 +1,5 @@
+-- Resources in their places, and what is shown.
+pub mod ResourcePlaces
+pub mod ReleasedSlots
+pub mod ShownCounts
+pub mod FollowingFacilities

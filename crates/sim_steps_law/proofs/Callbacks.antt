@@ -1,0 +1,3 @@
+-- Callbacks that are called.
+pub mod Calls
+pub mod CalledConditions

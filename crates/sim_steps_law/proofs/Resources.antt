@@ -1,0 +1,5 @@
+-- Operations on resources.
+pub mod CancelledEvents
+pub mod WaitingRequests
+pub mod Moves
+pub mod AskedResources
