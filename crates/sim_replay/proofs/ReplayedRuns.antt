@@ -4,7 +4,7 @@ use Rattle.sim_types.specs.Scenarios.{ScenarioOf}
 use Rattle.sim_types.specs.declared.setup.Arrival.{Arrival}
 use Rattle.sim_machine.specs.RandomWords.{word_of}
 use Rattle.sim_machine.specs.Runs.{run, summary_of, trace_of}
-use Rattle.sim_language_law.specs.Sections.{with_journal}
+use Rattle.sim_replay.specs.Sections.{with_journal}
 use Rattle.sim_script_model.specs.Polls.{script_turn}
 use Rattle.sim_script_model.specs.Scenarios.{plan_with, summary, trace}
 use Rattle.sim_replay.proofs.OverOperations.{run_over, summary_over, trace_over}

@@ -9,11 +9,11 @@ use Rattle.sim_language.specs.AnywhereInText.{ProcessLines}
 use Rattle.sim_language.specs.Sayings.{TextLine, Saying, Blank, Wrong, Says}
 use Rattle.sim_language.specs.Places.{LineInText, places}
 use Rattle.sim_language.specs.Reads.{add_said, with_lines}
-use Rattle.sim_language_law.specs.Sections.{with_journal}
+use Rattle.sim_replay.specs.Sections.{with_journal}
 use Rattle.sim_language_law.proofs.Walking.{place_at}
 use Rattle.sim_language_law.proofs.SaidAnywhere.{said_in, head_said, heads_said, declaration_said, declarations_said}
-use Rattle.sim_language_law.proofs.SaidForms.{passes, all_pass}
-use Rattle.sim_language_law.proofs.SectionLines.{is_of_section}
+use Rattle.sim_replay.proofs.SaidForms.{passes, all_pass}
+use Rattle.sim_replay.proofs.SectionLines.{is_of_section}
 
 -- ---- declarations
 

@@ -13,10 +13,10 @@ use Rattle.sim_language.specs.Lines.{Word, same, cut, words}
 use Rattle.sim_language.specs.Forms.{begins}
 use Rattle.sim_language.specs.AnywhereInText.{WholeText}
 use Rattle.sim_language.specs.Sayings.{Saying, Blank, Wrong, Says, Setting, form_in, begins_with, section_behind, saying, setting_behind, lines_from}
-use Rattle.sim_language_law.specs.Sections.{begins_section}
+use Rattle.sim_replay.specs.Sections.{begins_section}
 use Rattle.sim_language_law.proofs.NamedLists.{same_is}
-use Rattle.sim_language_law.proofs.SaidForms.{passes, passes_found, all_pass, passes_saying}
-use Rattle.sim_language_law.proofs.PlainLines.{in_plain}
+use Rattle.sim_replay.proofs.SaidForms.{passes, passes_found, all_pass, passes_saying}
+use Rattle.sim_replay.proofs.PlainLines.{in_plain}
 
 -- ---- in a section
 

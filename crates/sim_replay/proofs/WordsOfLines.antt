@@ -7,7 +7,7 @@ use Rattle.std.proofs.lemmas.Bool.{false≢true, false_from_ne_true, and_parts, 
 use Rattle.std.proofs.lemmas.List.{length-append}
 use Rattle.std.proofs.lemmas.List.Folds.{list_all-append}
 use Rattle.sim_language.specs.Lines.{Word, pieces, is_line_feed, up_to, without_return, is_hash, cut, is_text, is_blank, is_empty, words}
-use Rattle.sim_language_law.proofs.EndedLines.{is_whole}
+use Rattle.sim_replay.proofs.EndedLines.{is_whole}
 
 -- ---- bytes
 

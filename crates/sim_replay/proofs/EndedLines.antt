@@ -9,7 +9,7 @@ use Rattle.std.proofs.lemmas.Bool.{and_parts, and_from, or_parts, or_from, not-t
 use Rattle.std.proofs.lemmas.List.{append_assoc}
 use Rattle.std.proofs.lemmas.List.Concat.{flat_map-cons}
 use Rattle.sim_language.specs.Lines.{Word, onto_first, is_line_feed, lines, up_to}
-use Rattle.sim_language_law.specs.Sections.{with_line_feed}
+use Rattle.sim_replay.specs.Sections.{with_line_feed}
 
 abbrev pub is_whole : Word → Bool
 is_whole line = not (list_any is_line_feed line)

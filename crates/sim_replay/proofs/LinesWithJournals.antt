@@ -19,13 +19,13 @@ use Rattle.sim_language.specs.Numbers.{least, greatest}
 use Rattle.sim_language.specs.Named.{Named}
 use Rattle.sim_language.specs.Sayings.{Setting, setting_behind, lines_from}
 use Rattle.sim_language.specs.WellFormed.{arrival_fits}
-use Rattle.sim_language_law.specs.Sections.{begins_section, lines_before, with_line_feed, text_with_journal}
+use Rattle.sim_replay.specs.Sections.{begins_section, lines_before, with_line_feed, text_with_journal}
 use Rattle.sim_trace.specs.Texts.{port_word, journal_text}
-use Rattle.sim_language_law.proofs.EndedLines.{is_whole, lines_ended, lines_whole, all_up_to}
-use Rattle.sim_language_law.proofs.WordsOfLines.{whole_joined}
-use Rattle.sim_language_law.proofs.NamedPorts.{PortsNamed}
-use Rattle.sim_language_law.proofs.EntryLines.{GoodEntry, words_behind, entry_written, entry_plain}
-use Rattle.sim_language_law.proofs.CleanEntries.{FittingEntry, Follows}
+use Rattle.sim_replay.proofs.EndedLines.{is_whole, lines_ended, lines_whole, all_up_to}
+use Rattle.sim_replay.proofs.WordsOfLines.{whole_joined}
+use Rattle.sim_replay.proofs.NamedPorts.{PortsNamed}
+use Rattle.sim_replay.proofs.EntryLines.{GoodEntry, words_behind, entry_written, entry_plain}
+use Rattle.sim_replay.proofs.CleanEntries.{FittingEntry, Follows}
 
 -- ---- lists
 

@@ -16,23 +16,23 @@ use Rattle.sim_language.specs.Places.{places}
 use Rattle.sim_language.specs.Faults.{first_fault, end_fault}
 use Rattle.sim_language.specs.Links.{linked}
 use Rattle.sim_language.specs.Reads.{with_lines, nothing_said, unless_faulty, reads_lines, reads_text, is_too_long, reads}
-use Rattle.sim_language_law.specs.Sections.{begins_section, lines_before, text_with_journal, CanBeJournal, IsWithinLimits, with_journal}
+use Rattle.sim_replay.specs.Sections.{begins_section, lines_before, text_with_journal, CanBeJournal, IsWithinLimits, with_journal}
 use Rattle.sim_language_law.proofs.Walking.{passed}
 use Rattle.sim_language_law.proofs.LinesSoFar.{SoFar, so_far}
 use Rattle.sim_language_law.proofs.TextsAmong.{all_among}
 use Rattle.sim_language_law.proofs.ReadTexts.{read_is}
-use Rattle.sim_language_law.proofs.LinesBehind.{places_appended, faults_appended, lines_appended, faultless_parts, faultless_whole}
-use Rattle.sim_language_law.proofs.EndedLines.{from_first, up_to_from, none_up_to, FirstPasses, first_passes}
-use Rattle.sim_language_law.proofs.SaidForms.{all_pass}
-use Rattle.sim_language_law.proofs.SectionLines.{is_of_section, said_behind}
-use Rattle.sim_language_law.proofs.PlainLines.{in_plain, lines_in_front}
-use Rattle.sim_language_law.proofs.SectionAdditions.{section_adds}
-use Rattle.sim_language_law.proofs.NamedPorts.{PortsNamed, ports_named}
-use Rattle.sim_language_law.proofs.EntryLines.{GoodEntry, entry_written, journal_lines, all_said}
-use Rattle.sim_language_law.proofs.CleanEntries.{Ready, AtEnd, FittingEntry, journal_clean, journal_adds, journal_ends}
-use Rattle.sim_language_law.proofs.FrontOfSections.{NoEntries, front_plain, front_ends, end_clean}
-use Rattle.sim_language_law.proofs.WholeOfFront.{has_words, words_there, version_front, Silent, whole_front, section_silent}
-use Rattle.sim_language_law.proofs.LinesWithJournals.{no_more, long, all_fit, follows_none, all_good, written_lines, lines_are}
+use Rattle.sim_replay.proofs.LinesBehind.{places_appended, faults_appended, lines_appended, faultless_parts, faultless_whole}
+use Rattle.sim_replay.proofs.EndedLines.{from_first, up_to_from, none_up_to, FirstPasses, first_passes}
+use Rattle.sim_replay.proofs.SaidForms.{all_pass}
+use Rattle.sim_replay.proofs.SectionLines.{is_of_section, said_behind}
+use Rattle.sim_replay.proofs.PlainLines.{in_plain, lines_in_front}
+use Rattle.sim_replay.proofs.SectionAdditions.{section_adds}
+use Rattle.sim_replay.proofs.NamedPorts.{PortsNamed, ports_named}
+use Rattle.sim_replay.proofs.EntryLines.{GoodEntry, entry_written, journal_lines, all_said}
+use Rattle.sim_replay.proofs.CleanEntries.{Ready, AtEnd, FittingEntry, journal_clean, journal_adds, journal_ends}
+use Rattle.sim_replay.proofs.FrontOfSections.{NoEntries, front_plain, front_ends, end_clean}
+use Rattle.sim_replay.proofs.WholeOfFront.{has_words, words_there, version_front, Silent, whole_front, section_silent}
+use Rattle.sim_replay.proofs.LinesWithJournals.{no_more, long, all_fit, follows_none, all_good, written_lines, lines_are}
 
 passed_appended : (xs ys above : List TextLine) → passed above (xs ++ ys) ≡ passed (passed above xs) ys
 passed_appended [] ys above = refl

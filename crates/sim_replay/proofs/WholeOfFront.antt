@@ -20,10 +20,10 @@ use Rattle.sim_language_law.proofs.Walking.{passed}
 use Rattle.sim_language_law.proofs.SaidAnywhere.{head_said, declaration_said}
 use Rattle.sim_language_law.proofs.DeclaringLines.{line_declares, line_head}
 use Rattle.sim_language_law.proofs.TakenFromTexts.{taken_from}
-use Rattle.sim_language_law.proofs.SaidForms.{all_pass}
-use Rattle.sim_language_law.proofs.SectionLines.{is_of_section}
-use Rattle.sim_language_law.proofs.PlainLines.{in_plain}
-use Rattle.sim_language_law.proofs.SectionAdditions.{none_headed, none_declared}
+use Rattle.sim_replay.proofs.SaidForms.{all_pass}
+use Rattle.sim_replay.proofs.SectionLines.{is_of_section}
+use Rattle.sim_replay.proofs.PlainLines.{in_plain}
+use Rattle.sim_replay.proofs.SectionAdditions.{none_headed, none_declared}
 use Rattle.sim_types.specs.declared.setup.Class.{Class}
 
 -- ---- the version

@@ -30,8 +30,8 @@ use Rattle.sim_language.specs.WellFormed.{never_falls}
 use Rattle.sim_trace.specs.Texts.{port_word}
 use Rattle.sim_language_law.proofs.Walking.{place_at, passed}
 use Rattle.sim_language_law.proofs.LineByLine.{line}
-use Rattle.sim_language_law.proofs.NamedPorts.{port_meaning}
-use Rattle.sim_language_law.proofs.EntryLines.{GoodEntry, entry_slots, entry_line, journal_lines, after_literal, poster_literal, serial_literal, value_read}
+use Rattle.sim_replay.proofs.NamedPorts.{port_meaning}
+use Rattle.sim_replay.proofs.EntryLines.{GoodEntry, entry_slots, entry_line, journal_lines, after_literal, poster_literal, serial_literal, value_read}
 
 -- ---- nothing is found
 

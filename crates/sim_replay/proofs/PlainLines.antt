@@ -14,9 +14,9 @@ use Rattle.sim_language.specs.Lines.{Word, same, cut, words}
 use Rattle.sim_language.specs.Forms.{first_words, made_words, form_at, told_by, made_form, begins}
 use Rattle.sim_language.specs.AnywhereInText.{WholeText}
 use Rattle.sim_language.specs.Sayings.{Setting, begins_with, saying, setting_behind, lines_from}
-use Rattle.sim_language_law.specs.Sections.{begins_section}
+use Rattle.sim_replay.specs.Sections.{begins_section}
 use Rattle.sim_language_law.proofs.FirstWords.{row_all}
-use Rattle.sim_language_law.proofs.SaidForms.{passes, passes_found, all_pass, passes_saying}
+use Rattle.sim_replay.proofs.SaidForms.{passes, passes_found, all_pass, passes_saying}
 
 -- ---- in front of the sections
 

@@ -27,9 +27,9 @@ use Rattle.sim_language.specs.AnywhereInText.{WholeText}
 use Rattle.sim_language.specs.Sayings.{TextLine, Saying, Says, Setting, saying, line_of, setting_behind, lines_from}
 use Rattle.sim_trace.specs.Texts.{port_word}
 use Rattle.sim_language_law.proofs.LineByLine.{line}
-use Rattle.sim_language_law.proofs.WrittenNumbers.{digits_written, literal_written}
-use Rattle.sim_language_law.proofs.WordsOfLines.{is_plain, all_more, is_plain_word, words_joined, text_joined, cut_joined, length_joined}
-use Rattle.sim_language_law.proofs.PlainLines.{in_plain}
+use Rattle.sim_replay.proofs.WrittenNumbers.{digits_written, literal_written}
+use Rattle.sim_replay.proofs.WordsOfLines.{is_plain, all_more, is_plain_word, words_joined, text_joined, cut_joined, length_joined}
+use Rattle.sim_replay.proofs.PlainLines.{in_plain}
 use Rattle.sim_language_law.proofs.PostsOfScenarios.{spelled_short}
 
 -- ---- plain words

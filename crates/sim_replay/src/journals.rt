@@ -1,6 +1,6 @@
 ghost use Rattle.std.specs.Prelude.{◌≡◌, Ok};
 ghost use Rattle.sim_language.specs.Reads.{reads};
-ghost use Rattle.sim_language_law.specs.Sections.{text_with_journal, with_journal, CanBeJournal, IsWithinLimits};
+ghost use Rattle.sim_replay.specs.Sections.{text_with_journal, with_journal, CanBeJournal, IsWithinLimits};
 
 /// A text's lines in front of its journal or posters, with a journal printed behind them, say what the text says, with that
 /// journal and without posters.

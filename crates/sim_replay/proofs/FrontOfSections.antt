@@ -20,18 +20,18 @@ use Rattle.sim_language.specs.Blocks.{open_blocks, says}
 use Rattle.sim_language.specs.Places.{above_of, places, is_entry, is_poster, count_above, worded_above, journal_above, after_above}
 use Rattle.sim_language.specs.OrderFaults.{is_header, bad_header_at}
 use Rattle.sim_language.specs.Faults.{fault_at, fault_past, at_line, first_fault, end_fault}
-use Rattle.sim_language_law.specs.Sections.{begins_section}
+use Rattle.sim_replay.specs.Sections.{begins_section}
 use Rattle.sim_language_law.proofs.Walking.{place_at, passed}
 use Rattle.sim_language_law.proofs.Faultless.{Faultless, faultless}
 use Rattle.sim_language_law.proofs.NamedLists.{same_is}
 use Rattle.sim_language_law.proofs.LineByLine.{line, first_faultless, others_clean}
 use Rattle.sim_language_law.proofs.RightLines.{IsRightLine, is_right, right_line}
 use Rattle.sim_language_law.proofs.ClosedTexts.{nothing_at_line, no_blocks}
-use Rattle.sim_language_law.proofs.SaidForms.{passes, all_pass}
-use Rattle.sim_language_law.proofs.PlainLines.{is_in_front, in_plain, words_in_front, said_in_front}
-use Rattle.sim_language_law.proofs.SectionLines.{opens_section, said_first}
-use Rattle.sim_language_law.proofs.EndedLines.{FirstPasses}
-use Rattle.sim_language_law.proofs.CleanEntries.{AtEnd}
+use Rattle.sim_replay.proofs.SaidForms.{passes, all_pass}
+use Rattle.sim_replay.proofs.PlainLines.{is_in_front, in_plain, words_in_front, said_in_front}
+use Rattle.sim_replay.proofs.SectionLines.{opens_section, said_first}
+use Rattle.sim_replay.proofs.EndedLines.{FirstPasses}
+use Rattle.sim_replay.proofs.CleanEntries.{AtEnd}
 
 -- ---- the end of a text
 
