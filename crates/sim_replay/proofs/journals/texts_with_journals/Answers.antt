@@ -1,4 +1,4 @@
-use Rattle.sim_replay.proofs.TextsWithJournals.{reads_with_journal}
+use Rattle.sim_replay.proofs.Texts.TextsWithJournals.{reads_with_journal}
 use Rattle.sim_replay.proofs.journals.texts_with_journals.Goals as goal
 
 pub returns : goal.returns
