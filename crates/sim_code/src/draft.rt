@@ -20,12 +20,12 @@ use crate::statement::{kind_number, literal_of, number_declared, statement};
 use sim_faults::LineInText;
 use sim_language::{Ahead, Form, Role};
 use sim_lines::{Operand, ProcessLines, Saying, capacity};
-use sim_names::Names;
 use sim_scenario::Scenario;
 use sim_types::{
     Arrival, Class, Classes, EventId, Kind, List, MOST_ITEMS, MOST_LEVEL, Name, Post, Resource,
     ResourceKind, Setup, Start, Stmt, Until,
 };
+use sim_words::Names;
 use std::alloc::{AllocError, Global};
 use std::marker::Model;
 

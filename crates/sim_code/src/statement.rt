@@ -6,8 +6,9 @@ ghost use Rattle.sim_language.specs.Statements.{argument_of, arguments, event_of
 
 use sim_faults::{LineInText, variable};
 use sim_language::{Form, Role};
-use sim_lines::{Operand, ProcessLines, literal};
+use sim_lines::{Operand, ProcessLines};
 use sim_types::{Arith, Num, Ref, Refs, SpawnArg, SpawnArgs, Stmt};
+use sim_words::literal;
 
 /// What stands for a number that the form has not.
 const NOTHING: Num = Num::Lit(0);

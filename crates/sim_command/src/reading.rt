@@ -5,7 +5,7 @@ ghost use Rattle.sim_language.specs.Numbers.{decimal_within};
 
 use crate::commands::Command;
 use crate::word::Word;
-use sim_lines::decimal_within;
+use sim_words::decimal_within;
 
 /// How many runs a batch may have, at most.
 const MOST_RUNS: u32 = 10_000;

@@ -2,7 +2,7 @@
 use Rattle.std.specs.Prelude.{IsTrue}
 use Rattle.sim_types.specs.Scenarios.{ScenarioOf}
 use Rattle.sim_language.specs.WellFormed.{is_well_formed}
-use Rattle.sim_language_law.proofs.PostsOfScenarios.{posts_of_scenario}
+use Rattle.sim_language_law.proofs.Scenarios.PostsOfScenarios.{posts_of_scenario}
 use Rattle.sim_engine.specs.Rounds.{HavePorts}
 
 pub has_ports : (s : ScenarioOf) → IsTrue (is_well_formed s) → HavePorts s s.journal

@@ -16,7 +16,7 @@ use Rattle.sim_shop.specs.Shop.{shop_text}
 use Rattle.sim_shop.proofs.ShopIsRead.{shop_is_read}
 use Rattle.sim_outside.specs.Reads.{TakesFirst}
 use Rattle.sim_outside.specs.Writes.{AppendsPrefix, SinkOf}
-use Rattle.sim_language_law.proofs.WellFormedTexts.{read_well_formed}
+use Rattle.sim_language_law.proofs.Scenarios.WellFormedTexts.{read_well_formed}
 use Rattle.sim_engine.specs.Throughout.{IsInOrderThroughout}
 use Rattle.sim_engine.proofs.InOrder.{in_order}
 use Rattle.sim_answers.specs.Endings.{is_whole}

@@ -8,7 +8,8 @@ ghost use Rattle.sim_faults.specs.AboveOf.{IsBelow, above_behind};
 use crate::blocks::{Blocks, first_word};
 use crate::declared::Declared;
 use sim_language::Form;
-use sim_lines::{Operand, Saying, TextLine, literal};
+use sim_lines::{Operand, Saying, TextLine};
+use sim_words::literal;
 use std::alloc::{AllocError, Global};
 use std::marker::Model;
 

@@ -6,7 +6,7 @@ ghost use Rattle.sim_language.specs.Named.{is_named, value_of};
 
 use sim_language::{Form, Meaning, Sort};
 use sim_lines::{Operand, ProcessLines};
-use sim_names::Names;
+use sim_words::Names;
 use std::alloc::{AllocError, Global};
 use std::marker::Model;
 

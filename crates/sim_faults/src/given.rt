@@ -3,8 +3,9 @@ ghost use Rattle.std.specs.Prelude.{◌≡◌};
 ghost use Rattle.sim_language.specs.Variables.{given_by_slot};
 
 use sim_language::Role;
-use sim_lines::{Operand, parameter_class, parameter_name};
+use sim_lines::Operand;
 use sim_types::Class;
+use sim_words::{parameter_class, parameter_name};
 use std::marker::Model;
 
 /// A variable that a line gives, or a parameter of a process.

@@ -7,9 +7,9 @@ use crate::above::Above;
 use crate::line_in_text::LineInText;
 use crate::variables::variable_number;
 use sim_language::{Form, Role};
-use sim_lines::{Operand, parameter_name};
-use sim_names::Names;
+use sim_lines::Operand;
 use sim_types::Class;
+use sim_words::{Names, parameter_name};
 
 /// Whether the line passes a limit.
 pub fn too_many(place: &LineInText<'_, '_>, form: Form, slots: &[Operand<'_>]) -> bool

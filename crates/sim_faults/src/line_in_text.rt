@@ -3,8 +3,8 @@ ghost use Rattle.std.specs.Prelude.{◌≡◌};
 
 use crate::above::Above;
 use sim_lines::TextLine;
-use sim_names::Names;
 use sim_types::Class;
+use sim_words::Names;
 use std::marker::Model;
 
 /// A line in its text, with all that its faults and its statement depend on.

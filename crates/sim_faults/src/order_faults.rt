@@ -5,7 +5,8 @@ ghost use Rattle.sim_language.specs.OrderFaults.{bad_header, bad_order, misplace
 use crate::above::Above;
 use crate::blocks::first_word;
 use sim_language::Form;
-use sim_lines::{Operand, Saying, TextLine, literal};
+use sim_lines::{Operand, Saying, TextLine};
+use sim_words::literal;
 
 /// Whether the line should be one of the two header lines, and is not.
 pub fn bad_header(above: &Above<'_>, line: &TextLine<'_>) -> bool

@@ -7,8 +7,8 @@ use crate::above::Above;
 use crate::line_in_text::LineInText;
 use sim_language::Role;
 use sim_lines::Operand;
-use sim_names::Names;
 use sim_types::Class;
+use sim_words::Names;
 
 /// Whether the line gives or uses a variable with another class than its own.
 pub fn class_clash(place: &LineInText<'_, '_>, slots: &[Operand<'_>]) -> bool

@@ -8,8 +8,8 @@ ghost use Rattle.sim_language.specs.Variables.{deep_behind, ends_process, given_
 use crate::given::Given;
 use sim_language::Form;
 use sim_lines::{Lines, Operand, Saying, TextLine};
-use sim_names::Names;
 use sim_types::Class;
+use sim_words::Names;
 use std::alloc::{AllocError, Global};
 
 /// The parameters of a process and what the lines below give up to its end, each once, in order.

@@ -1,7 +1,6 @@
-//! The laws of the scenario language: what is read is well-formed, and a text with another journal says the same with that
-//! journal. Nothing of it runs.
+//! The law of the scenario language: what is read is well-formed. Nothing of it runs.
 #![tactic(auto)]
 
-mod journals;
+mod well_formed;
 
-pub use journals::texts_with_journals;
+pub use well_formed::well_formed_scenarios;

@@ -1,12 +1,7 @@
-mod ByLetter
 mod CountsOfLines
 mod Cuts
-mod Digits
 mod FirstLines
-mod FirstWords
 mod HeadsOfLines
 mod NamesSoFar
-mod Pieces
 mod SaidByLines
-mod SameWords
 mod SlotsOfWords

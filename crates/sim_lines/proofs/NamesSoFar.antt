@@ -17,7 +17,7 @@ use Rattle.sim_language.specs.Forms.{same_sort}
 use Rattle.sim_language.specs.AnywhereInText.{ahead, ahead_behind, ahead_here, declaration, declarations, head_of, sort_begun}
 use Rattle.sim_language.specs.Names.{is_name}
 use Rattle.sim_lines.specs.Spans.{head_by}
-use Rattle.sim_lines.proofs.SameWords.{same_is}
+use Rattle.sim_words.proofs.SameWords.{same_is}
 
 -- ---- what a line declares
 

@@ -1,4 +1,3 @@
-pub mod Letters
 pub mod LineOf
 pub mod OneWord
 pub mod Spans

@@ -1,7 +1,9 @@
 //! Cuts a text into lines, and a line off its comment.
-ghost use Rattle.std.specs.Prelude.{◌==◌, ◌≡◌, ◌<◌, [], ◌∷◌, length, position, MatchOption};
+ghost use Rattle.std.specs.Prelude.{◌≡◌, ◌<◌, [], ◌∷◌, length, position, MatchOption};
 ghost use Rattle.std.specs.List.{list_all};
-ghost use Rattle.sim_language.specs.Lines.{cut, is_line_feed, is_text, lines, up_to, without_return};
+ghost use Rattle.sim_language.specs.Lines.{cut, is_line_feed, is_text, lines, without_return};
+
+use sim_words::up_to;
 
 /// The first line and what stands behind its line feed, or nothing where the text is empty.
 pub fn first_line(text: &[u8]) -> Option<(&[u8], &[u8])>
@@ -32,22 +34,6 @@ pub fn cut(line: &[u8]) -> &[u8]
     ensures { result.now ≡ cut line.now }
 {
     up_to(b'#', without_return(line))
-}
-
-/// What stands in front of the first such byte, or all where there is none.
-pub fn up_to(mark: u8, bytes: &[u8]) -> &[u8]
-    ensures { result.now ≡ up_to (λ c. c == mark) bytes.now }
-{
-    match first_mark(mark, bytes) {
-        Some(at) => &bytes[..at],
-        None => bytes,
-    }
-}
-
-fn first_mark(mark: u8, bytes: &[u8]) -> Option<usize>
-    ensures { result ≡ position (λ c. c == mark) bytes.now }
-{
-    bytes.iter().position(|byte| *byte == mark)
 }
 
 fn without_return(line: &[u8]) -> &[u8]

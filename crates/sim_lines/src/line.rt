@@ -9,9 +9,9 @@ use crate::cutting::cut;
 use crate::operand::Operand;
 use crate::say::{begins_with, say};
 use crate::setting::Setting;
-use crate::words::Words;
 use sim_language::Form;
 use sim_types::FaultKind;
+use sim_words::Words;
 use std::alloc::{AllocError, Global};
 use std::marker::Model;
 

@@ -3,10 +3,8 @@ ghost use Rattle.std.specs.Prelude.{◌≡◌};
 ghost use Rattle.sim_language.specs.Sayings.{is_bad_name, is_bad_number, is_me, is_now_or_val};
 ghost use Rattle.sim_language.specs.Shapes.{Operand, capacity, slot_of};
 
-use crate::name::is_name;
-use crate::number::{literal_within, looks_numeric};
-use crate::parameter::is_parameter;
 use sim_language::{Role, Version};
+use sim_words::{is_name, is_parameter, literal_within, looks_numeric};
 use std::marker::Model;
 
 /// An operand: a word of a line, and what it is there for.

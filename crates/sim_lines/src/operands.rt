@@ -6,9 +6,9 @@ ghost use Rattle.sim_lines.specs.OneWord.{at_item, behind_all};
 
 use crate::operand::{Operand, capacity};
 use crate::setting::Setting;
-use crate::words::Words;
 use sim_language::{Item, Role};
 use sim_types::{Class, MOST_LEVEL};
+use sim_words::Words;
 use std::alloc::AllocError;
 
 /// Fills the slots by the words, where they have this shape; else answers false.

@@ -6,12 +6,9 @@ ghost use Rattle.sim_lines.specs.Spans.{head_by};
 ghost use Rattle.sim_language.specs.AnywhereInText.{head_of, parameters};
 ghost use Rattle.sim_types.specs.Limits.{most_bytes};
 
-use crate::name::is_name;
-use crate::parameter::parameter_class;
-use crate::words::Words;
 use sim_language::Version;
-use sim_names::Names;
 use sim_types::Class;
+use sim_words::{Names, Words, is_name, parameter_class};
 use std::alloc::{AllocError, Global};
 use std::marker::Model;
 

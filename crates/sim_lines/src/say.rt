@@ -4,15 +4,14 @@ ghost use Rattle.std.specs.List.{list_any};
 ghost use Rattle.sim_language.specs.Sayings.{begins_with, context_of, form_in, is_bad_name, is_bad_number, said_by_form, said_by_slots, saying};
 ghost use Rattle.sim_lines.specs.LineOf.{saying_of};
 
-use crate::beginning::{begins, operands};
 use crate::cutting::is_text;
 use crate::line::Saying;
 use crate::operand::Operand;
 use crate::operands::fit;
 use crate::setting::Setting;
-use crate::words::Words;
 use sim_language::{Form, Section, Version};
 use sim_types::FaultKind;
+use sim_words::{Words, begins, operands};
 use std::alloc::AllocError;
 
 /// How many bytes a cut line has, at most.

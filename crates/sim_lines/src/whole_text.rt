@@ -7,12 +7,10 @@ ghost use Rattle.sim_language.specs.Lines.{lines};
 ghost use Rattle.sim_types.specs.Limits.{most_bytes};
 ghost use Rattle.sim_lines.specs.NamesAhead.{AreAhead};
 
-use crate::beginning::sort_begun;
 use crate::cutting::{cut, first_line};
 use crate::process_lines::ProcessLines;
-use crate::words::Words;
 use sim_language::{Ahead, Sort, Version};
-use sim_names::Names;
+use sim_words::{Names, Words, sort_begun};
 use std::alloc::{AllocError, Global};
 use std::marker::Model;
 

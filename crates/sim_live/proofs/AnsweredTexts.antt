@@ -13,7 +13,7 @@ use Rattle.sim_types.specs.declared.fault.Fault.{Fault}
 use Rattle.sim_types.specs.declared.setup.Arrival.{Arrival}
 use Rattle.sim_command.specs.declared.status.Status.{Status}
 use Rattle.sim_language.specs.WellFormed.{is_well_formed}
-use Rattle.sim_language_law.proofs.WellFormedTexts.{read_well_formed}
+use Rattle.sim_language_law.proofs.Scenarios.WellFormedTexts.{read_well_formed}
 use Rattle.sim_outside.specs.declared.fault.Failed.{Failed}
 use Rattle.sim_outside.specs.Causes.{HasCause}
 use Rattle.sim_outside.specs.Reads.{TakesFirst}

@@ -11,7 +11,7 @@ use Rattle.sim_types.specs.declared.line.Summary.{Summary}
 use Rattle.sim_types.specs.declared.setup.Arrival.{Arrival}
 use Rattle.sim_outside.specs.Writes.{SinkOf, Writes}
 use Rattle.sim_outside.proofs.Written.{as_failed, as_well, both_written, cut_behind, none_to_write, none_written, told_err}
-use Rattle.sim_language_law.specs.Sections.{CanBeJournal}
+use Rattle.sim_replay.specs.Sections.{CanBeJournal}
 use Rattle.sim_trace.specs.Texts.{journal_text, trace_text}
 use Rattle.sim_script_model.specs.Scenarios.{summary}
 use Rattle.sim_engine.specs.declared.fault.EngineFault.{EngineFault}

@@ -13,7 +13,7 @@ use Rattle.sim_types.specs.declared.line.Line.TheVariants as line
 use Rattle.sim_outside.specs.Writes.{SinkOf, Writes}
 use Rattle.sim_language.specs.Numbers.{least, greatest}
 use Rattle.sim_language.specs.WellFormed.{never_falls}
-use Rattle.sim_language_law.proofs.FittingSetup.{list_all_push}
+use Rattle.sim_language_law.proofs.Setups.FittingSetup.{list_all_push}
 use Rattle.sim_trace.specs.Texts.{line_text}
 use Rattle.sim_machine.specs.State.{State}
 use Rattle.sim_machine.specs.Runs.{opening}

@@ -14,9 +14,9 @@ use Rattle.sim_types.specs.Scenarios.{ScenarioOf}
 use Rattle.sim_types.specs.declared.setup.Arrival.{Arrival}
 use Rattle.sim_language.specs.Reads.{reads}
 use Rattle.sim_language.specs.WellFormed.{arrival_fits, is_well_formed}
-use Rattle.sim_language_law.specs.Sections.{CanBeJournal, IsWithinLimits, text_with_journal}
-use Rattle.sim_language_law.proofs.TextsWithJournals.{reads_with_journal}
-use Rattle.sim_replay.proofs.ReplayedRuns.{same_summary, same_trace}
+use Rattle.sim_replay.specs.Sections.{CanBeJournal, IsWithinLimits, text_with_journal}
+use Rattle.sim_replay.proofs.Texts.TextsWithJournals.{reads_with_journal}
+use Rattle.sim_replay.proofs.Runs.ReplayedRuns.{same_summary, same_trace}
 use Rattle.sim_trace.specs.Texts.{trace_text}
 use Rattle.sim_live.specs.Journals.{KeepsSections, post_of, section}
 use Rattle.sim_live.specs.LiveRuns.{LiveOf, IsLive}

@@ -8,7 +8,7 @@ use Rattle.std.proofs.lemmas.Option.{get_or_from_slice_get, slice_get_within}
 use Rattle.sim_types.specs.Scenarios.{ScenarioOf}
 use Rattle.sim_types.specs.declared.setup.Post.{Post}
 use Rattle.sim_language.specs.WellFormed.{is_well_formed}
-use Rattle.sim_language_law.proofs.PostsOfScenarios.{posters_of_scenario}
+use Rattle.sim_language_law.proofs.Scenarios.PostsOfScenarios.{posters_of_scenario}
 use Rattle.sim_live.specs.Journals.{section}
 
 pub port_of_section : (s : ScenarioOf) (p i : ℕ) (x : Post) → All (All (λ post. post.port < length s.setup.ports)) s.posters

@@ -8,7 +8,7 @@ use Rattle.sim_types.specs.declared.line.End.{End}
 use Rattle.sim_command.specs.declared.status.Status.{Status}
 use Rattle.sim_command.specs.declared.status.Status.TheVariants as status
 use Rattle.sim_outside.specs.Writes.{AppendsPrefix, SinkOf, Writes}
-use Rattle.sim_language_law.specs.Sections.{CanBeJournal, IsWithinLimits, text_with_journal}
+use Rattle.sim_replay.specs.Sections.{CanBeJournal, IsWithinLimits, text_with_journal}
 use Rattle.sim_trace.specs.Texts.{fault_text}
 use Rattle.sim_engine.specs.declared.fault.EngineFault.{EngineFault}
 use Rattle.sim_engine.specs.EngineFaults.{is_write}

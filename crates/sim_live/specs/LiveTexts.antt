@@ -6,7 +6,7 @@ use Rattle.sim_types.specs.declared.setup.Arrival.{Arrival}
 use Rattle.sim_script_model.specs.Scenarios.{summary}
 use Rattle.sim_trace.specs.Texts.{journal_text}
 use Rattle.sim_language.specs.Reads.{reads}
-use Rattle.sim_language_law.specs.Sections.{with_journal}
+use Rattle.sim_replay.specs.Sections.{with_journal}
 use Rattle.sim_engine.specs.RunOfScenario.{end_of_scenario, printed_run, printed_trace}
 
 -- the trace of the machine on this journal, and then the journal

@@ -1,4 +1,4 @@
-pub mod OverBodies
-pub mod OverOperations
-pub mod OverScripts
-pub mod ReplayedRuns
+pub mod Sections
+pub mod Entries
+pub mod Texts
+pub mod Runs

@@ -1,5 +1,5 @@
 ghost use Rattle.std.specs.Prelude.{◌≡◌};
-ghost use Rattle.sim_language_law.specs.Sections.{with_journal};
+ghost use Rattle.sim_replay.specs.Sections.{with_journal};
 ghost use Rattle.sim_script_model.specs.Scenarios.{summary, trace};
 
 /// A run of a scenario on a journal has the lines, and comes to what, the same run has of the scenario with that journal.

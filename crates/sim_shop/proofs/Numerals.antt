@@ -9,8 +9,8 @@ use Rattle.std.proofs.lemmas.Bool.Decides.{nat_tests}
 use Rattle.std.proofs.lemmas.Fmt.{decimal_by_steps, decimal_nonempty, length-decimal-le}
 use Rattle.sim_language.specs.Lines.{Word, is_line_feed, is_hash, is_text, is_blank}
 use Rattle.sim_language.specs.Numbers.{is_digit, number, number_after, signed, literal, literal_within, looks_numeric}
-use Rattle.sim_language_law.proofs.CodeOfKinds.{list_all_both}
-use Rattle.sim_language_law.proofs.FittingSetup.{list_all_push}
+use Rattle.sim_language_law.proofs.Processes.CodeOfKinds.{list_all_both}
+use Rattle.sim_language_law.proofs.Setups.FittingSetup.{list_all_push}
 use Rattle.sim_shop.proofs.Pieces.{is_one_piece, is_return}
 
 pub record IsNumeral (w : Word) (n : ℕ) : Type 0 where

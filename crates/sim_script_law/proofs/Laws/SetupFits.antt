@@ -9,7 +9,7 @@ use Rattle.sim_types.specs.Setups.{until_fits, resource_fits, port_fits, start_f
 use Rattle.sim_machine.specs.Setups.{FitsCode}
 use Rattle.sim_language.specs.WellFormed.{setup_fits, is_well_formed}
 use Rattle.sim_script_law.specs.ScriptMembers.{script_facts}
-use Rattle.sim_language_law.proofs.WellFormedParts.{fits_well}
+use Rattle.sim_language_law.proofs.Scenarios.WellFormedParts.{fits_well}
 use Rattle.sim_script_law.proofs.Scripts.Starts.{facts_are}
 
 -- ---- the parts of a setup that fits

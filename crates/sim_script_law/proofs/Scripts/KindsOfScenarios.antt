@@ -14,7 +14,7 @@ use Rattle.sim_types.specs.declared.script.Stmt.TheVariants as stmt
 use Rattle.sim_language.specs.FittingBlocks.{Open, OpenIf, open_then, stands_within, is_end_process, stand_well, code_fits, firsts, firsts_after}
 use Rattle.sim_language.specs.FittingStatements.{script_fits}
 use Rattle.sim_language.specs.WellFormed.{kind_fits, is_well_formed}
-use Rattle.sim_language_law.proofs.WellFormedParts.{fits_well}
+use Rattle.sim_language_law.proofs.Scenarios.WellFormedParts.{fits_well}
 use Rattle.sim_script_law.specs.Walks.{Walks}
 use Rattle.sim_script_law.specs.SoundScripts.{begins_with_number}
 

@@ -19,7 +19,7 @@ use Rattle.sim_machine.specs.MayAsk.{may_ask}
 use Rattle.sim_machine.specs.BodyLaw.{scopes_asked}
 use Rattle.sim_language.specs.FittingBlocks.{Open, OpenWith, OpenLoop, OpenRepeat, OpenIf, OpenElse, OpenTry, OpenCatch, is_open_loop}
 use Rattle.sim_language.specs.FittingStatements.{gives, number_fits, statement_fits}
-use Rattle.sim_language_law.proofs.ClosedBlocks.{break_within, release_within, with_within}
+use Rattle.sim_language_law.proofs.Blocks.ClosedBlocks.{break_within, release_within, with_within}
 use Rattle.sim_script_model.specs.Arithmetic.{Answer, Number, Error, compute, is_equal}
 use Rattle.sim_script_model.specs.Scripts.{Mode, Running, Throwing, Breaking, Finishing, Frame, InScope, InTry, InLoop, InRepeat, Script, set_place, set_mode, set_frames, push_frame, tail_of, event_in, event_of_ref, process_of_ref, value_of_arg, places_of, requests_in, stmt_at, value_of_num}
 use Rattle.sim_script_model.specs.Polls.{do_stmt, answer_to, last_stmt, end_repeat}

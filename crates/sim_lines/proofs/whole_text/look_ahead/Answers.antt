@@ -1,8 +1,6 @@
 use Rattle.std.proofs.Common.{sym, ap, ◌∙◌, arith}
-use Rattle.std.specs.Prelude.{option_to_list}
 use Rattle.sim_language.specs.Lines.{lines, words}
-use Rattle.sim_language.specs.Named.{with_all}
-use Rattle.sim_language.specs.AnywhereInText.{declaration, declarations, head_of, heads_of}
+use Rattle.sim_language.specs.AnywhereInText.{declaration, declarations, heads_of}
 use Rattle.sim_lines.proofs.HeadsOfLines.{heads_through}
 use Rattle.sim_lines.proofs.NamesSoFar.{event_line, other_line}
 use Rattle.sim_lines.proofs.whole_text.look_ahead.Goals as goal

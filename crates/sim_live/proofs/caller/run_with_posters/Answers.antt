@@ -1,5 +1,5 @@
 use Rattle.std.proofs.Common.{◌<◌, ◌≤◌, ◌^◌, ap, ◌∙◌, arith, rules}
-use Rattle.sim_language_law.proofs.PostsOfScenarios.{posts_of_scenario}
+use Rattle.sim_language_law.proofs.Scenarios.PostsOfScenarios.{posts_of_scenario}
 use Rattle.sim_live.specs.LiveRuns.{text_so_far}
 use Rattle.sim_live.proofs.JournalTexts.{journal_entries}
 use Rattle.sim_live.proofs.LiveEnds.{end_over, lines_written, nothing_written, runs_cut, runs_cut_at_end, runs_cut_at_journal, runs_none, runs_whole, text_begins}

@@ -1,4 +1,4 @@
-use Rattle.sim_replay.proofs.ReplayedRuns.{same_summary, same_trace}
+use Rattle.sim_replay.proofs.Runs.ReplayedRuns.{same_summary, same_trace}
 use Rattle.sim_replay.proofs.replays.replayed_runs.Goals as goal
 
 pub returns : goal.returns

@@ -1,6 +1,6 @@
 use Rattle.std.proofs.Common.{◌<◌, FitsSigned, Fits, w32, w64, refl, sym, subst, rules, add-zero}
 use Rattle.std.proofs.Math.IntN.{+ℤ_idr}
-use Rattle.sim_language_law.proofs.PostsOfScenarios.{posts_of_scenario}
+use Rattle.sim_language_law.proofs.Scenarios.PostsOfScenarios.{posts_of_scenario}
 use Rattle.sim_engine.proofs.SessionLaws.{none_logged, counted, sum_is}
 use Rattle.sim_engine.proofs.session.Session.tell.Goals as goal
 use Rattle.sim_engine.proofs.session.Session.tell.Goals.{in-Log, in_default}

@@ -1,5 +1,0 @@
-use Rattle.sim_language_law.proofs.TextsWithJournals.{reads_with_journal}
-use Rattle.sim_language_law.proofs.journals.texts_with_journals.Goals as goal
-
-pub returns : goal.returns
-returns c = λ text s entries says can few. reads_with_journal text s says entries can few
