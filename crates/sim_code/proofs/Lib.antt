@@ -8,3 +8,4 @@ pub mod JournalNumbers
 pub mod KeptClasses
 pub mod LastPoster
 pub mod Linking
+pub mod TakenTexts

@@ -1,3 +1,4 @@
 pub mod Readings
 pub mod StatementGroups
 pub mod LineGroups
+pub mod TakenTexts

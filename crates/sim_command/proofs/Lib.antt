@@ -1,1 +1,2 @@
 mod CommandWords
+pub mod Endings

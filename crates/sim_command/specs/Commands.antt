@@ -41,8 +41,10 @@ command words = None
 
 -- whether a text is read for it
 abbrev pub is_on_text : Command → Bool
+is_on_text Check = true
+is_on_text (Run limit) = true
+is_on_text (Batch count limit) = true
 is_on_text (Load size) = false
-is_on_text _ = true
 
 -- `live LIMIT`, which is no command: a call of its own carries it out
 abbrev pub live_limit : List Word → Option ℕ

@@ -1,2 +1,4 @@
 pub mod Commands
 pub mod Statuses
+pub mod Endings
+pub mod Exits

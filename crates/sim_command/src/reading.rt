@@ -61,7 +61,10 @@ impl Command {
     pub fn is_on_text(&self) -> bool
         ensures { result ≡ is_on_text self.now }
     {
-        !matches!(self, Command::Load(_))
+        match self {
+            Command::Check | Command::Run(_) | Command::Batch { .. } => true,
+            Command::Load(_) => false,
+        }
     }
 }
 

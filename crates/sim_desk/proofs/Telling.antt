@@ -6,12 +6,16 @@ use Rattle.std.proofs.KnownBytes.{Appends-nil}
 use Rattle.std.proofs.lemmas.Bool.{false≢true}
 use Rattle.sim_types.specs.Limits.{most_bytes}
 use Rattle.sim_types.specs.Scenarios.{ScenarioOf}
+use Rattle.sim_language.specs.Reads.{reads}
+use Rattle.sim_code.proofs.TakenTexts.{text_of, text_told, same_reading}
 use Rattle.sim_command.specs.declared.commands.Command.{Command}
 use Rattle.sim_command.specs.declared.commands.Command.TheVariants as command
 use Rattle.sim_command.specs.Commands.{most_units, is_on_text}
 use Rattle.sim_types.specs.declared.fault.Fault.{Fault}
 use Rattle.sim_command.specs.declared.status.Status.{Status}
 use Rattle.sim_command.specs.declared.status.Status.TheVariants as status
+use Rattle.sim_command.specs.Endings.{is_whole}
+use Rattle.sim_command.proofs.Endings.{end_whole}
 use Rattle.sim_shop.specs.Shop.{shop_text}
 use Rattle.sim_shop.proofs.ShopIsRead.{shop_is_read}
 use Rattle.sim_outside.specs.Reads.{TakesFirst}
@@ -19,10 +23,6 @@ use Rattle.sim_outside.specs.Writes.{AppendsPrefix, SinkOf}
 use Rattle.sim_language_law.proofs.Scenarios.WellFormedTexts.{read_well_formed}
 use Rattle.sim_engine.specs.Throughout.{IsInOrderThroughout}
 use Rattle.sim_engine.proofs.InOrder.{in_order}
-use Rattle.sim_answers.specs.Endings.{is_whole}
-use Rattle.sim_answers.specs.Readings.{read_of}
-use Rattle.sim_answers.proofs.Endings.{end_whole}
-use Rattle.sim_answers.proofs.TakenTexts.{text_of, text_told, same_reading}
 use Rattle.sim_desk.specs.Answers.{IsInOrderFor, AnswersWhole, AnswersPrefix}
 use Rattle.sim_engine.specs.RunOfScenario.{end_of_scenario}
 use Rattle.sim_desk.specs.Headline.{text_for, answer_to, answer_of, status_to, status_of}
@@ -32,14 +32,14 @@ use Rattle.sim_desk.proofs.Arriving.{has_ports}
 
 -- the text that a command is on says as much by the bytes taken as by the text
 same_for : (asked : Command) (left rest : Option (List ℕ)) (text bytes : List ℕ) → TakesFirst (most_bytes + 1) left rest bytes → text ≡ bytes
-    → read_of (text_for asked text) ≡ read_of (text_for asked (text_of left bytes))
-same_for command.Check left rest text bytes takes held = ap read_of held ∙ same_reading left rest bytes takes
-same_for (command.Run limit) left rest text bytes takes held = ap read_of held ∙ same_reading left rest bytes takes
-same_for (command.Batch count limit) left rest text bytes takes held = ap read_of held ∙ same_reading left rest bytes takes
+    → reads (text_for asked text) ≡ reads (text_for asked (text_of left bytes))
+same_for command.Check left rest text bytes takes held = ap reads held ∙ same_reading left rest bytes takes
+same_for (command.Run limit) left rest text bytes takes held = ap reads held ∙ same_reading left rest bytes takes
+same_for (command.Batch count limit) left rest text bytes takes held = ap reads held ∙ same_reading left rest bytes takes
 same_for (command.Load size) left rest text bytes takes held = refl
 
 -- a command that is on no text is on the same whatever is read
-unread_for : (asked : Command) (text other : List ℕ) → is_on_text asked ≡ false → read_of (text_for asked text) ≡ read_of (text_for asked other)
+unread_for : (asked : Command) (text other : List ℕ) → is_on_text asked ≡ false → reads (text_for asked text) ≡ reads (text_for asked other)
 unread_for command.Check text other unread = absurd (false≢true (sym unread))
 unread_for (command.Run limit) text other unread = absurd (false≢true (sym unread))
 unread_for (command.Batch count limit) text other unread = absurd (false≢true (sym unread))
@@ -47,29 +47,27 @@ unread_for (command.Load size) text other unread = refl
 
 -- `load` is on the text of the machine shop
 module _ (asked : Command) (size : ℕ) (shop text : List ℕ) (is : asked ≡ command.Load size) (same : shop ≡ shop_text size) where
-  pub shop_answer : answer_to (command.Load size) (read_of shop) ≡ answer_of asked text
+  pub shop_answer : answer_to (command.Load size) (reads shop) ≡ answer_of asked text
   shop_answer = rw (is, same) refl
 
-  pub shop_status : status_to (command.Load size) (read_of shop) ≡ status_of asked text
+  pub shop_status : status_to (command.Load size) (reads shop) ≡ status_of asked text
   shop_status = rw (is, same) refl
 
 -- ---- what was written
 
 -- every state of the run of a text is in order
-in_order_of : (s : ScenarioOf) (seed limit : ℕ) (text : List ℕ) → read_of text ≡ Ok s → IsInOrderThroughout s seed s.journal limit
+in_order_of : (s : ScenarioOf) (seed limit : ℕ) (text : List ℕ) → reads text ≡ Ok s → IsInOrderThroughout s seed s.journal limit
 in_order_of s seed limit text is = let well = read_well_formed text s is in in_order s seed s.journal limit well (has_ports s well)
 
-in_order_for : (asked : Command) (text : List ℕ) (read : Result ScenarioOf Fault) → read_of text ≡ read → IsInOrderFor asked read
-in_order_for command.Check text read is = tt
-in_order_for (command.Run limit) text (Err fault) is = tt
+in_order_for : (asked : Command) (text : List ℕ) (read : Result ScenarioOf Fault) → reads text ≡ read → IsInOrderFor asked read
+in_order_for asked text (Err fault) is = tt
+in_order_for command.Check text (Ok s) is = tt
 in_order_for (command.Run limit) text (Ok s) is = in_order_of s s.seed limit text is
-in_order_for (command.Batch count limit) text (Err fault) is = tt
 in_order_for (command.Batch count limit) text (Ok s) is = λ seed. in_order_of s seed limit text is
-in_order_for (command.Load size) text (Err fault) is = tt
 in_order_for (command.Load size) text (Ok s) is = in_order_of s s.seed most_units text is
 
 module _ (asked : Command) (left : Option (List ℕ)) (text bytes : List ℕ) (old new : SinkOf)
-    (same : read_of (text_for asked text) ≡ read_of (text_for asked (text_of left bytes))) where
+    (same : reads (text_for asked text) ≡ reads (text_for asked (text_of left bytes))) where
   -- the answer to a text that says the same
   answer_by : (answer : Status) → Appends old.taken new.taken (answer_of asked text) → answer ≡ status_of asked text
       → AnswersWhole asked left old new answer
@@ -79,7 +77,7 @@ module _ (asked : Command) (left : Option (List ℕ)) (text bytes : List ℕ) (o
         told = text_told left bytes;
         written = subst (λ r. Appends old.taken new.taken (answer_to asked r)) same written;
         status = is ∙ ap (λ r. status_to asked r) same;
-        throughout = in_order_for asked (text_for asked (text_of left bytes)) (read_of (text_for asked (text_of left bytes))) refl;
+        throughout = in_order_for asked (text_for asked (text_of left bytes)) (reads (text_for asked (text_of left bytes))) refl;
       }
 
   prefix_by : AppendsPrefix old.taken new.taken (answer_of asked text) → AnswersPrefix asked left old new
@@ -138,11 +136,11 @@ reading_whole (command.Load size) (Ok s) = refl
 
 -- where nothing fails, the answer is whole
 pub status_whole : (asked : Command) (text : List ℕ) → IsTrue (is_whole (status_of asked text))
-status_whole asked text = reading_whole asked (read_of (text_for asked text))
+status_whole asked text = reading_whole asked (reads (text_for asked text))
 
 -- the text of each machine shop says a scenario
 pub load_ended : (asked : Command) (size : ℕ) (text : List ℕ) → asked ≡ command.Load size → size < 2 ^ 32 → status_of asked text ≡ status.Ended
-load_ended asked size text is small = rw is (by (read_of (shop_text size)) (shop_is_read size small))
+load_ended asked size text is small = rw is (by (reads (shop_text size)) (shop_is_read size small))
   where
     by : (read : Result ScenarioOf Fault) → IsOk read → status_to (command.Load size) read ≡ status.Ended
     by (Ok s) accepted = refl

@@ -2,23 +2,25 @@
 use Rattle.std.specs.Prelude.{ℕ, List, Result, Ok, Err}
 use Rattle.sim_types.specs.Scenarios.{ScenarioOf}
 use Rattle.sim_types.specs.declared.fault.Fault.{Fault}
+use Rattle.sim_language.specs.Reads.{reads}
 use Rattle.sim_command.specs.declared.commands.Command.{Command}
 use Rattle.sim_command.specs.declared.commands.Command.TheVariants.{Check, Run, Batch, Load}
 use Rattle.sim_command.specs.Commands.{most_units}
 use Rattle.sim_command.specs.declared.status.Status.{Status}
 use Rattle.sim_command.specs.declared.status.Status.TheVariants as status
+use Rattle.sim_command.specs.Endings.{status_of_end}
 use Rattle.sim_script_model.specs.Scenarios.{summary, replications}
 use Rattle.sim_shop.specs.Shop.{shop_text}
 use Rattle.sim_trace.specs.Texts.{fault_text, ok_text}
 use Rattle.sim_trace.specs.SummaryTexts.{load_text, batch_answer}
 use Rattle.sim_engine.specs.RunOfScenario.{printed_trace, end_of_scenario}
-use Rattle.sim_answers.specs.Endings.{status_of_end}
-use Rattle.sim_answers.specs.Readings.{read_of}
 
 -- the text that a command is on: the one that is read, or for `load` that of the machine shop
 abbrev pub text_for : Command → List ℕ → List ℕ
+text_for Check text = text
+text_for (Run limit) text = text
+text_for (Batch count limit) text = text
 text_for (Load size) text = shop_text size
-text_for command text = text
 
 -- ---- what is written
 
@@ -32,16 +34,18 @@ answer_to (Load size) (Ok s) = load_text size (summary s s.seed s.journal most_u
 
 -- where these bytes are read
 abbrev pub answer_of : Command → List ℕ → List ℕ
-answer_of command text = answer_to command (read_of (text_for command text))
+answer_of command text = answer_to command (reads (text_for command text))
 
 -- ---- how a call ends
 
 -- on a text that says so; how the runs of a batch or of a machine shop end is told in what is written
 abbrev pub status_to : Command → Result ScenarioOf Fault → Status
 status_to command (Err fault) = status.Refused
+status_to Check (Ok s) = status.Ended
 status_to (Run limit) (Ok s) = status_of_end (end_of_scenario s limit)
-status_to command (Ok s) = status.Ended
+status_to (Batch count limit) (Ok s) = status.Ended
+status_to (Load size) (Ok s) = status.Ended
 
 -- where these bytes are read, if nothing fails
 abbrev pub status_of : Command → List ℕ → Status
-status_of command text = status_to command (read_of (text_for command text))
+status_of command text = status_to command (reads (text_for command text))

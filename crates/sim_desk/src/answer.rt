@@ -1,20 +1,19 @@
 //! The answer to a command on a text.
 ghost use Rattle.std.specs.Prelude.{◌≡◌, Ok, true, IfOk, OnOk, OnErr};
+ghost use Rattle.sim_language.specs.Reads.{reads};
 ghost use Rattle.sim_outside.specs.Writes.{IsUnflushed, IsFlushedOnce, Writes};
 ghost use Rattle.sim_command.specs.Commands.{most_units};
 ghost use Rattle.sim_script_model.specs.Scenarios.{summary};
 ghost use Rattle.sim_trace.specs.SummaryTexts.{load_text};
 ghost use Rattle.sim_engine.specs.EngineFaults.{is_write};
 ghost use Rattle.sim_engine.specs.RunOfScenario.{end_of_scenario, printed_trace};
-ghost use Rattle.sim_answers.specs.Readings.{read_of};
 ghost use Rattle.sim_desk.specs.Headline.{answer_to, answer_of, status_to, status_of};
 
 use crate::replications::write_batch;
-use sim_answers::{refuse, status_of_end};
 use sim_batch::Gate;
 use sim_code::{ReadError, read};
-use sim_command::{Command, Status, most_units};
-use sim_engine::{EngineFault, replicate, run};
+use sim_command::{Command, Status, most_units, status_of_end};
+use sim_engine::{EngineFault, refuse, replicate, run};
 use sim_outside::{Sink, write_all};
 use sim_scenario::Scenario;
 use sim_shop::shop_text;
@@ -63,7 +62,9 @@ fn answer_for<K: Sink, R: Threads + Sync, G: Gate + Sync>(
             let shop = shop_text(alloc, size)?;
             answer_on(rt, alloc, gate, asked, shop.as_slice(), out)
         }
-        _ => answer_on(rt, alloc, gate, asked, text, out),
+        Command::Check | Command::Run(_) | Command::Batch { .. } => {
+            answer_on(rt, alloc, gate, asked, text, out)
+        }
     }
 }
 
@@ -76,15 +77,15 @@ fn answer_on<K: Sink, R: Threads + Sync, G: Gate + Sync>(
     text: &[u8],
     out: &mut K,
 ) -> Result<Status, EngineFault>
-    ensures status { IfOk result (λ status. status ≡ status_to asked (read_of text.now)) }
+    ensures status { IfOk result (λ status. status ≡ status_to asked (reads text.now)) }
     ensures writes { Writes is_write (K.tells out.old) (K.tells out.new) result
-        (answer_to asked (read_of text.now)) }
+        (answer_to asked (reads text.now)) }
     ensures unflushed { IsUnflushed (K.tells out.old) (K.tells out.new) }
 {
     match read(alloc, text) {
         Ok(scenario) => carry_out(rt, alloc, gate, asked, &scenario, out),
         Err(ReadError::Fault(fault)) => {
-            refuse(alloc, &fault, out)?;
+            refuse(&fault, out)?;
             Ok(Status::Refused)
         }
         Err(ReadError::Memory) => Err(EngineFault::Memory),

@@ -1,11 +1,11 @@
 //! The top call.
 ghost use Rattle.std.specs.Prelude.{◌≡◌, ◌≢◌, ◌↔◌, ℕ, None, Some, true, false, IsTrue, IfSome};
+ghost use Rattle.sim_code.specs.TakenTexts.{ReadsWhole};
 ghost use Rattle.sim_outside.specs.Causes.{Rose};
 ghost use Rattle.sim_outside.specs.Writes.{IsUnflushed, IsFlushedOnce};
 ghost use Rattle.sim_command.specs.declared.commands.Command.TheVariants.{Load};
 ghost use Rattle.sim_command.specs.Commands.{command, is_on_text};
-ghost use Rattle.sim_answers.specs.Endings.{is_whole, IsWholeOrWanting};
-ghost use Rattle.sim_answers.specs.Readings.{ReadsWhole};
+ghost use Rattle.sim_command.specs.Endings.{is_whole, IsWholeOrWanting};
 ghost use Rattle.sim_desk.specs.Answers.{AnswersWhole, AnswersPrefix};
 
 use crate::gathered::answer_gathered;

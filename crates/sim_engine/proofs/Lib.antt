@@ -12,3 +12,4 @@ pub mod StepTexts
 pub mod StepUnits
 pub mod TurnSteps
 pub mod Unheard
+pub mod Wanting

@@ -2,11 +2,13 @@
 #![tactic(auto)]
 
 mod fault;
+mod refusal;
 mod report;
 mod runs;
 mod session;
 
 pub use fault::EngineFault;
+pub use refusal::refuse;
 pub use report::Report;
 pub use runs::{replicate, run, write_end};
 pub use session::{Session, Turn};

@@ -11,8 +11,12 @@ use Rattle.sim_types.specs.Limits.{most_bytes}
 use Rattle.sim_types.specs.Scenarios.{ScenarioOf}
 use Rattle.sim_types.specs.declared.fault.Fault.{Fault}
 use Rattle.sim_types.specs.declared.setup.Arrival.{Arrival}
+use Rattle.sim_code.proofs.TakenTexts.{text_of, text_told, same_reading}
 use Rattle.sim_command.specs.declared.status.Status.{Status}
+use Rattle.sim_command.specs.Endings.{is_whole}
+use Rattle.sim_command.proofs.Endings.{end_whole}
 use Rattle.sim_language.specs.WellFormed.{is_well_formed}
+use Rattle.sim_language.specs.Reads.{reads}
 use Rattle.sim_language_law.proofs.Scenarios.WellFormedTexts.{read_well_formed}
 use Rattle.sim_outside.specs.declared.fault.Failed.{Failed}
 use Rattle.sim_outside.specs.Causes.{HasCause}
@@ -25,10 +29,6 @@ use Rattle.sim_engine.specs.declared.fault.EngineFault.TheVariants as fault
 use Rattle.sim_engine.specs.EngineFaults.{is_write}
 use Rattle.sim_engine.specs.Rounds.{HavePorts}
 use Rattle.sim_engine.proofs.InOrder.{in_order}
-use Rattle.sim_answers.specs.Endings.{is_whole}
-use Rattle.sim_answers.specs.Readings.{read_of}
-use Rattle.sim_answers.proofs.Endings.{end_whole}
-use Rattle.sim_answers.proofs.TakenTexts.{text_of, text_told, same_reading}
 use Rattle.sim_live.specs.Journals.{KeepsFronts, KeepsSections, post_of}
 use Rattle.sim_live.specs.LiveAnswers.{Answers, AnswersPrefix, AnswersText, AnswersWhole, BeginsText}
 use Rattle.sim_live.specs.LiveTexts.{live_text, end_on}
@@ -95,7 +95,7 @@ ports_of s journal well h =
     none : Arrival
     none = record { after = 0; poster = 0; serial = 0; port = 0; value = pos 0 }
 
-whole_by : (text : List ℕ) (read : Result ScenarioOf Fault) (limit : ℕ) (a b : SinkOf) (told : Status) → read_of text ≡ read → Answers read limit a b (Ok told)
+whole_by : (text : List ℕ) (read : Result ScenarioOf Fault) (limit : ℕ) (a b : SinkOf) (told : Status) → reads text ≡ read → Answers read limit a b (Ok told)
     → AnswersText text read limit a b told
 whole_by text (Ok s) limit a b told is h =
     let well = read_well_formed text s is in
@@ -115,23 +115,23 @@ begun_by (Ok s) limit a b answer h = record { journal = h.journal; fronts = h.fr
 begun_by (Err fault) limit a b answer h = h.writes.prefix
 
 module _ (limit : ℕ) (left rest : Option (List ℕ)) (text bytes : List ℕ) (a b : SinkOf) (takes : TakesFirst (most_bytes + 1) left rest bytes) (held : text ≡ bytes) where
-  same : read_of text ≡ read_of (text_of left bytes)
-  same = ap read_of held ∙ same_reading left rest bytes takes
+  same : reads text ≡ reads (text_of left bytes)
+  same = ap reads held ∙ same_reading left rest bytes takes
 
-  pub whole_answer : (told : Status) → Answers (read_of text) limit a b (Ok told) → AnswersWhole limit left a b told
+  pub whole_answer : (told : Status) → Answers (reads text) limit a b (Ok told) → AnswersWhole limit left a b told
   whole_answer told h =
       record {
         text = text_of left bytes;
         told = text_told left bytes;
-        answered = whole_by (text_of left bytes) (read_of (text_of left bytes)) limit a b told refl (subst (λ r. Answers r limit a b (Ok told)) same h);
+        answered = whole_by (text_of left bytes) (reads (text_of left bytes)) limit a b told refl (subst (λ r. Answers r limit a b (Ok told)) same h);
       }
 
-  pub prefix_answer : (answer : Result Status EngineFault) → Answers (read_of text) limit a b answer → AnswersPrefix limit left a b
+  pub prefix_answer : (answer : Result Status EngineFault) → Answers (reads text) limit a b answer → AnswersPrefix limit left a b
   prefix_answer answer h =
       record {
         text = text_of left bytes;
         told = text_told left bytes;
-        begun = begun_by (read_of (text_of left bytes)) limit a b answer (subst (λ r. Answers r limit a b answer) same h);
+        begun = begun_by (reads (text_of left bytes)) limit a b answer (subst (λ r. Answers r limit a b answer) same h);
       }
 
 -- nothing written begins each answer
@@ -140,7 +140,7 @@ none_begun limit left a =
     record {
       text = text_of left [];
       told = text_told left [];
-      begun = begun_by (read_of (text_of left [])) limit a a (Err fault.Memory) (answers_none (read_of (text_of left [])) limit a fault.Memory refl);
+      begun = begun_by (reads (text_of left [])) limit a a (Err fault.Memory) (answers_none (reads (text_of left [])) limit a fault.Memory refl);
     }
 
 -- ---- the status

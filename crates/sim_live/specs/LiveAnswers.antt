@@ -5,16 +5,16 @@ use Rattle.sim_types.specs.Scenarios.{ScenarioOf}
 use Rattle.sim_types.specs.declared.fault.Fault.{Fault}
 use Rattle.sim_types.specs.declared.setup.Arrival.{Arrival}
 use Rattle.sim_types.specs.declared.line.End.{End}
+use Rattle.sim_language.specs.Reads.{reads}
 use Rattle.sim_command.specs.declared.status.Status.{Status}
 use Rattle.sim_command.specs.declared.status.Status.TheVariants as status
+use Rattle.sim_command.specs.Endings.{status_of_end}
 use Rattle.sim_outside.specs.Writes.{AppendsPrefix, SinkOf, Writes}
 use Rattle.sim_replay.specs.Sections.{CanBeJournal, IsWithinLimits, text_with_journal}
 use Rattle.sim_trace.specs.Texts.{fault_text}
 use Rattle.sim_engine.specs.declared.fault.EngineFault.{EngineFault}
 use Rattle.sim_engine.specs.EngineFaults.{is_write}
 use Rattle.sim_engine.specs.Throughout.{IsInOrderThroughout}
-use Rattle.sim_answers.specs.Endings.{status_of_end}
-use Rattle.sim_answers.specs.Readings.{read_of}
 use Rattle.sim_live.specs.Journals.{KeepsSections, KeepsFronts}
 use Rattle.sim_live.specs.LiveTexts.{SaysAgain, end_on, live_text}
 
@@ -71,7 +71,7 @@ AnswersText text (Err fault) limit old new answer = Appends old.taken new.taken 
 pub record AnswersWhole (limit : ℕ) (left : Option (List ℕ)) (old new : SinkOf) (answer : Status) : Type 0 where
   pub text : List ℕ
   pub told : IfSome left (λ bytes. text ≡ bytes)
-  pub answered : AnswersText text (read_of text) limit old new answer
+  pub answered : AnswersText text (reads text) limit old new answer
 
 -- ---- a prefix of one
 
@@ -88,4 +88,4 @@ BeginsText (Err fault) limit old new = AppendsPrefix old.taken new.taken (fault_
 pub record AnswersPrefix (limit : ℕ) (left : Option (List ℕ)) (old new : SinkOf) : Type 0 where
   pub text : List ℕ
   pub told : IfSome left (λ bytes. text ≡ bytes)
-  pub begun : BeginsText (read_of text) limit old new
+  pub begun : BeginsText (reads text) limit old new

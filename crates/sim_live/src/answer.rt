@@ -1,15 +1,14 @@
 //! The answer to a text whose posters post while it runs.
 ghost use Rattle.std.specs.Prelude.{OnErr, OnOk};
+ghost use Rattle.sim_language.specs.Reads.{reads};
 ghost use Rattle.sim_outside.specs.Writes.{IsFlushedOnce, IsUnflushed};
-ghost use Rattle.sim_answers.specs.Readings.{read_of};
 ghost use Rattle.sim_live.specs.LiveAnswers.{Answers};
 
 use crate::caller::write_live;
-use sim_answers::{refuse, status_of_end};
 use sim_batch::Gate;
 use sim_code::{ReadError, read};
-use sim_command::Status;
-use sim_engine::EngineFault;
+use sim_command::{Status, status_of_end};
+use sim_engine::{EngineFault, refuse};
 use sim_inbox::Inbox;
 use sim_outside::Sink;
 use std::alloc::Global;
@@ -26,7 +25,7 @@ pub(crate) fn answer<K: Sink, R: Threads + Wait + Sync, G: Gate + Sync, I: Inbox
     text: &[u8],
     out: &mut K,
 ) -> Result<Status, EngineFault>
-    ensures answers { Answers (read_of text.now) limit
+    ensures answers { Answers (reads text.now) limit
         (K.tells out.old) (K.tells out.new) result }
     ensures flushed { OnOk result (IsFlushedOnce (K.tells out.old) (K.tells out.new)) }
     ensures unflushed { OnErr result (IsUnflushed (K.tells out.old) (K.tells out.new)) }
@@ -46,7 +45,7 @@ fn answer_on<K: Sink, R: Threads + Wait + Sync, G: Gate + Sync, I: Inbox>(
     text: &[u8],
     out: &mut K,
 ) -> Result<Status, EngineFault>
-    ensures answers { Answers (read_of text.now) limit
+    ensures answers { Answers (reads text.now) limit
         (K.tells out.old) (K.tells out.new) result }
     ensures unflushed { IsUnflushed (K.tells out.old) (K.tells out.new) }
 {
@@ -56,7 +55,7 @@ fn answer_on<K: Sink, R: Threads + Wait + Sync, G: Gate + Sync, I: Inbox>(
             Ok(status_of_end(end))
         }
         Err(ReadError::Fault(fault)) => {
-            refuse(alloc, &fault, out)?;
+            refuse(&fault, out)?;
             Ok(Status::Refused)
         }
         Err(ReadError::Memory) => Err(EngineFault::Memory),

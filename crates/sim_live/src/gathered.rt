@@ -1,7 +1,7 @@
 //! An answer whose lines are gathered.
 ghost use Rattle.std.specs.Prelude.{◌≡◌, OnErr, OnOk};
+ghost use Rattle.sim_language.specs.Reads.{reads};
 ghost use Rattle.sim_outside.specs.Writes.{IsFlushedOnce, IsUnflushed};
-ghost use Rattle.sim_answers.specs.Readings.{read_of};
 ghost use Rattle.sim_live.specs.LiveAnswers.{Answers};
 
 use crate::answer::answer;
@@ -26,7 +26,7 @@ pub(crate) fn answer_gathered<K: Sink, R: Threads + Wait + Sync, G: Gate + Sync,
     text: &[u8],
     out: &mut K,
 ) -> Result<Status, EngineFault>
-    ensures answers { Answers (read_of text.now) limit
+    ensures answers { Answers (reads text.now) limit
         (K.tells out.old) (K.tells out.new) result }
     ensures flushed { OnOk result (IsFlushedOnce (K.tells out.old) (K.tells out.new)) }
     ensures unflushed { OnErr result (IsUnflushed (K.tells out.old) (K.tells out.new)) }
@@ -60,7 +60,7 @@ fn answer_on_loan<'a, K: Sink, L: Loan, R: Threads + Wait + Sync, G: Gate + Sync
     requires same_reference { lent.sink.ghost_name ≡ L.name }
     requires taken { (K.tells lent.sink.now).taken ≡ L.taken }
     ensures same_reference { result.sink.ghost_name ≡ lent.entry.sink.ghost_name }
-    ensures answers { Answers (read_of text.now) limit
+    ensures answers { Answers (reads text.now) limit
         (K.tells lent.entry.sink.now) (K.tells result.sink.now) answered.new }
     ensures flushed { OnOk answered.new
         (IsFlushedOnce (K.tells lent.entry.sink.now) (K.tells result.sink.now)) }

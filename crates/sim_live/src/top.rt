@@ -1,10 +1,10 @@
 //! The top call of a live run.
 ghost use Rattle.std.specs.Prelude.{◌≡◌, ◌≢◌, ◌↔◌, None, false, IsTrue, IfSome};
+ghost use Rattle.sim_code.specs.TakenTexts.{ReadsWhole};
 ghost use Rattle.sim_outside.specs.Causes.{Rose};
 ghost use Rattle.sim_outside.specs.Writes.{IsUnflushed, IsFlushedOnce};
 ghost use Rattle.sim_command.specs.Commands.{live_limit};
-ghost use Rattle.sim_answers.specs.Endings.{is_whole, IsWholeOrWanting};
-ghost use Rattle.sim_answers.specs.Readings.{ReadsWhole};
+ghost use Rattle.sim_command.specs.Endings.{is_whole, IsWholeOrWanting};
 ghost use Rattle.sim_live.specs.LiveAnswers.{AnswersWhole, AnswersPrefix};
 
 use crate::gathered::answer_gathered;

@@ -4,7 +4,7 @@ use Rattle.std.specs.Str.{IsUtf8}
 use Rattle.std.specs.Borrow.{Bor}
 use Rattle.std.specs.Fn.{Once, FnOnceReturnsAt}
 use Rattle.sim_command.specs.declared.status.Status.{Status}
-use Rattle.sim_program.specs.Endings.{exit_after}
+use Rattle.sim_command.specs.Exits.{exit_after}
 
 -- an answer that the call may give with some words, each of them UTF-8
 pub record IsAnswer {F : Type 0} (g : Once F (Bor (List (List ℕ)) × Unit {0}) Status) (call : F) (answer : Status) : Type 0 where

@@ -1,3 +1,3 @@
 pub mod Shown
-pub mod Endings
 pub mod Calls
+pub mod Answers

@@ -3,9 +3,8 @@ ghost use Rattle.std.specs.Prelude.{IfSome};
 ghost use Rattle.std.specs.Process.{exit_status};
 ghost use Rattle.sim_program.specs.Calls.{IsAnswer, EndsAs};
 
-use crate::ending::{exit_of, usage_of};
 use crate::words::words_of;
-use sim_command::{Status, Word};
+use sim_command::{Status, Word, exit_of, usage_of};
 use std::alloc::Global;
 use std::env::Env;
 use std::process::ExitCode;

@@ -1,10 +1,10 @@
-//! What the program does around its top call: it reads its words, and tells its exit status and its usage.
+//! The program: the words that it is called with, its top call, its exit status and its usage.
 #![tactic(auto)]
 
 mod call;
-mod ending;
+mod program;
 mod words;
 
 pub use call::run;
-pub use ending::{exit_of, usage_of};
+pub use program::{carry_out, simulate};
 pub use words::words_of;

@@ -4,8 +4,8 @@ use Rattle.std.specs.Prelude.{IfSome, IsTrue}
 use Rattle.std.specs.Io.KnownBytes.{Appends}
 use Rattle.sim_command.specs.declared.commands.Command.{Command}
 use Rattle.sim_command.specs.declared.status.Status.{Status}
+use Rattle.sim_command.specs.Endings.{is_whole}
 use Rattle.sim_outside.specs.Writes.{SinkOf}
-use Rattle.sim_answers.specs.Endings.{is_whole}
 use Rattle.sim_desk.specs.Answers.{AnswersWhole}
 use Rattle.sim_desk.specs.Headline.{answer_of, status_of}
 use Rattle.sim_rows.specs.Meant.{IsMeant}

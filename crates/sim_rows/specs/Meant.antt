@@ -2,7 +2,7 @@
 use Rattle.std.specs.Prelude.{ℕ, ◌≡◌, ◌-◌, List, [], ◌∷◌, ◌++◌, length, drop, Option, Some, Contains, IfSome, IsTrue}
 use Rattle.sim_command.specs.declared.commands.Command.{Command}
 use Rattle.sim_command.specs.declared.status.Status.{Status}
-use Rattle.sim_answers.specs.Endings.{is_whole}
+use Rattle.sim_command.specs.Endings.{is_whole}
 use Rattle.sim_desk.specs.Headline.{answer_of, status_of}
 use Rattle.sim_rows.specs.declared.row.Tells.{Tells}
 use Rattle.sim_rows.specs.declared.row.Tells.TheVariants.{Whole, End}

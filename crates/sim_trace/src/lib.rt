@@ -1,14 +1,16 @@
-//! The written texts: lines of a trace and of a journal, and what runs come to.
+//! The written texts: lines of a trace and of a journal, what runs come to, and why a text is refused.
 #![tactic(auto)]
 
 mod buffer;
 mod digits;
+mod fault;
 mod journal;
 mod summary;
 mod text;
 mod words;
 
 pub use buffer::LineBuf;
+pub use fault::render_fault;
 pub use journal::render_arrival;
 pub use summary::{render_batch, render_load, render_summary};
 pub use text::render;

@@ -2,8 +2,8 @@ use Rattle.std.proofs.Common.{◌≡◌, subst, ◌∙◌}
 use Rattle.std.specs.Prelude.{IfOk}
 use Rattle.sim_outside.specs.Writes.{Writes}
 use Rattle.sim_engine.specs.EngineFaults.{is_write}
+use Rattle.sim_engine.proofs.Wanting.{wanting}
 use Rattle.sim_desk.proofs.Telling.{shop_answer, shop_status}
-use Rattle.sim_answers.proofs.Wanting.{wanting}
 use Rattle.sim_desk.proofs.answer.answer_for.Goals as goal
 
 pub returns-in_err-shop-in-Load-clause-writes : goal.returns-in_err-shop-in-Load-clause-writes

@@ -1,7 +1,7 @@
 use Rattle.std.proofs.Common.{rules, ◌≡◌, inl, ap, sym, ◌∙◌, Fits, w32}
 use Rattle.std.proofs.lemmas.Bool.{false≢true}
 use Rattle.sim_command.specs.declared.commands.Command.TheVariants.{Load}
-use Rattle.sim_answers.specs.Endings.{is_whole}
+use Rattle.sim_command.specs.Endings.{is_whole}
 use Rattle.sim_desk.proofs.Telling.{if_some, whole_answer, unread_answer, status_whole, load_ended}
 use Rattle.sim_desk.proofs.top.desk.Goals as goal
 use Rattle.sim_desk.proofs.top.desk.Goals.{then-is_on_text+in-Ok, else-is_on_text}

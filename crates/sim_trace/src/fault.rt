@@ -1,27 +1,25 @@
 //! The line that tells why a text is refused.
-ghost use Rattle.std.specs.Prelude.{◌≡◌, IfOk};
+ghost use Rattle.std.specs.Prelude.{◌≡◌, ◌≤◌, length};
 ghost use Rattle.sim_trace.specs.Texts.{fault_word, fault_text};
 
-use itoa::Buffer;
+use crate::buffer::LineBuf;
+use crate::words::{append_number, append_word};
 use sim_types::{Fault, FaultKind};
-use std::alloc::{AllocError, Global};
 
-/// The line of a fault.
-pub(crate) fn fault_line(alloc: Global, fault: &Fault) -> Result<Vec<u8>, AllocError>
-    ensures { IfOk result (λ line. line.items ≡ fault_text fault.now) }
+/// Puts the line of a fault into the buffer, as `render` does a line of a trace.
+pub fn render_fault(fault: &Fault, out: &mut LineBuf)
+    ensures { out.new ≡ fault_text fault.now }
 {
-    let mut digits = Buffer::new();
-    let mut line = Vec::new(alloc);
-    line.extend_from_slice(b"fault ")?;
-    line.extend_from_slice(digits.format(fault.line).as_bytes())?;
-    line.extend_from_slice(b" ")?;
-    line.extend_from_slice(fault_word(fault.kind))?;
-    line.extend_from_slice(b"\n")?;
-    Ok(line)
+    out.begin(b"fault");
+    append_number(u64::from(fault.line), out);
+    append_word(fault_word(fault.kind), out);
+    out.push(b'\n');
 }
 
+/// What the kind of a fault is called.
 fn fault_word(kind: FaultKind) -> &'static [u8]
-    ensures { result.now ≡ fault_word kind }
+    ensures word { result.now ≡ fault_word kind }
+    ensures short { length result.now ≤ 11 }
 {
     match kind {
         FaultKind::TooLong => b"TooLong",

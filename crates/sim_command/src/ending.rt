@@ -1,8 +1,8 @@
 //! How a call ends.
 ghost use Rattle.std.specs.Prelude.{◌≡◌};
-ghost use Rattle.sim_answers.specs.Endings.{status_of_end};
+ghost use Rattle.sim_command.specs.Endings.{status_of_end};
 
-use sim_command::Status;
+use crate::status::Status;
 use sim_types::End;
 
 /// How a call ends whose run ended so.

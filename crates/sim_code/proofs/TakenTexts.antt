@@ -11,9 +11,8 @@ use Rattle.sim_types.specs.declared.fault.Fault.{Fault}
 use Rattle.sim_types.specs.declared.fault.FaultKind.TheVariants as fault
 use Rattle.sim_language.specs.Lines.{lines}
 use Rattle.sim_language.specs.AnywhereInText.{whole_text}
-use Rattle.sim_language.specs.Reads.{is_too_long, reads_text}
+use Rattle.sim_language.specs.Reads.{is_too_long, reads_text, reads}
 use Rattle.sim_outside.specs.Reads.{TakesFirst}
-use Rattle.sim_answers.specs.Readings.{read_of}
 
 -- ---- a text that is too long
 
@@ -21,7 +20,7 @@ abbrev too_long : Fault
 too_long = record { line = 0; kind = fault.TooLong }
 
 -- its first fault is its length
-long_refused : (text : List ℕ) → most_bytes < length text → read_of text ≡ Err too_long
+long_refused : (text : List ℕ) → most_bytes < length text → reads text ≡ Err too_long
 long_refused text long = by (is_too_long text) (grind (arith, nat_tests))
   where
     by : (b : Bool) → b ≡ true → (if b then Err too_long else reads_text (whole_text (lines text)) (lines text)) ≡ Err too_long
@@ -29,11 +28,11 @@ long_refused text long = by (is_too_long text) (grind (arith, nat_tests))
     by false e = absurd (false≢true e)
 
 -- so one byte more than is allowed says as much as the whole text
-read_of_front : (text : List ℕ) → read_of (take (most_bytes + 1) text) ≡ read_of text
-read_of_front text = by (nat_le (length text) (most_bytes + 1)) refl
+reads_front : (text : List ℕ) → reads (take (most_bytes + 1) text) ≡ reads text
+reads_front text = by (nat_le (length text) (most_bytes + 1)) refl
   where
-    by : (b : Bool) → nat_le (length text) (most_bytes + 1) ≡ b → read_of (take (most_bytes + 1) text) ≡ read_of text
-    by true short = ap read_of (take_all (most_bytes + 1) text (grind (arith, nat_tests)))
+    by : (b : Bool) → nat_le (length text) (most_bytes + 1) ≡ b → reads (take (most_bytes + 1) text) ≡ reads text
+    by true short = ap reads (take_all (most_bytes + 1) text (grind (arith, nat_tests)))
     by false long =
         long_refused (take (most_bytes + 1) text) (grind (arith, nat_tests, length-take-le (most_bytes + 1) text (grind (arith, nat_tests))))
         ∙ sym (long_refused text (grind (arith, nat_tests)))
@@ -49,7 +48,7 @@ unfolding text_of
 text_told None bytes = tt
 text_told (Some left) bytes = refl
 
-pub same_reading : (left rest : Option (List ℕ)) (bytes : List ℕ) → TakesFirst (most_bytes + 1) left rest bytes → read_of bytes ≡ read_of (text_of left bytes)
+pub same_reading : (left rest : Option (List ℕ)) (bytes : List ℕ) → TakesFirst (most_bytes + 1) left rest bytes → reads bytes ≡ reads (text_of left bytes)
 unfolding text_of
 same_reading None rest bytes takes = refl
-same_reading (Some left) rest bytes takes = ap read_of takes.0 ∙ read_of_front left
+same_reading (Some left) rest bytes takes = ap reads takes.0 ∙ reads_front left

@@ -10,5 +10,12 @@ exit_after answer = status_code (unwrap_or answer status.Memory)
 
 -- what is told on standard error: the commands, where the words were none, and else nothing
 abbrev pub usage_after : Option Status → List ℕ
+usage_after None = []
+usage_after (Some status.Ended) = []
 usage_after (Some status.Usage) = codes "usage: simq check | run LIMIT | batch COUNT LIMIT | load SIZE | live LIMIT"
-usage_after answer = []
+usage_after (Some status.Refused) = []
+usage_after (Some status.Crash) = []
+usage_after (Some status.Limit) = []
+usage_after (Some status.ReadFault) = []
+usage_after (Some status.WriteFault) = []
+usage_after (Some status.Memory) = []

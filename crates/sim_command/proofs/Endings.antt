@@ -2,7 +2,7 @@
 use Rattle.std.proofs.Common.{◌≡◌, true, refl}
 use Rattle.sim_types.specs.declared.line.End.{End}
 use Rattle.sim_types.specs.declared.line.End.TheVariants as end
-use Rattle.sim_answers.specs.Endings.{status_of_end, is_whole}
+use Rattle.sim_command.specs.Endings.{status_of_end, is_whole}
 
 pub end_whole : (how : End) → is_whole (status_of_end how) ≡ true
 end_whole end.Empty = refl

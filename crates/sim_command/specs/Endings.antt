@@ -16,10 +16,13 @@ status_of_end end.Limit = status.Limit
 -- whether it is a status that comes after the whole answer was written
 abbrev pub is_whole : Status → Bool
 is_whole status.Ended = true
+is_whole status.Usage = false
 is_whole status.Refused = true
 is_whole status.Crash = true
 is_whole status.Limit = true
-is_whole _ = false
+is_whole status.ReadFault = false
+is_whole status.WriteFault = false
+is_whole status.Memory = false
 
 -- whole, unless memory was wanting
 abbrev pub IsWholeOrWanting : Status → Type 0

@@ -1,8 +1,8 @@
 //! How the program ends.
 ghost use Rattle.std.specs.Prelude.{◌≡◌};
-ghost use Rattle.sim_program.specs.Endings.{exit_after, usage_after};
+ghost use Rattle.sim_command.specs.Exits.{exit_after, usage_after};
 
-use sim_command::Status;
+use crate::status::Status;
 
 /// The exit status of the program after this answer, or after want of memory for its words.
 pub fn exit_of(answer: Option<Status>) -> u8
@@ -18,6 +18,15 @@ pub fn usage_of(answer: Option<Status>) -> &'static str
     match answer {
         Some(Status::Usage) =>
             "usage: simq check | run LIMIT | batch COUNT LIMIT | load SIZE | live LIMIT",
-        _ => "",
+        Some(
+            Status::Ended
+            | Status::Refused
+            | Status::Crash
+            | Status::Limit
+            | Status::ReadFault
+            | Status::WriteFault
+            | Status::Memory,
+        )
+        | None => "",
     }
 }

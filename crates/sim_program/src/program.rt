@@ -1,0 +1,52 @@
+//! The whole program: its words and its devices.
+ghost use Rattle.std.specs.Prelude.{◌≡◌, ◌↔◌, IsTrue};
+ghost use Rattle.sim_outside.specs.Causes.{Rose};
+ghost use Rattle.sim_command.specs.Endings.{is_whole, IsWholeOrWanting};
+ghost use Rattle.sim_program.specs.Answers.{AnswersWhole, AnswersPrefix, AskForNothing};
+
+use crate::call::run;
+use sim_batch::FreeGate;
+use sim_command::{Status, Word, live_limit};
+use sim_desk::desk;
+use sim_lanes::LaneInbox;
+use sim_live::live_desk;
+use sim_outside::{Sink, Source, StdSink, StdSource};
+use std::process::ExitCode;
+use std::sync::Wait;
+use std::thread::Threads;
+
+/// Carries out what the words of the program ask for, on standard input and output, and ends as `run` does. That these are
+/// the devices, and that it is `carry_out` that answers, is told by these few lines and by no contract.
+pub fn simulate(rt: HostRuntime) -> ExitCode {
+    let mut source = StdSource::new(rt.stdin());
+    let mut out = StdSink::new(rt.stdout());
+    run(&rt, |words| carry_out(&rt, words, &mut source, &mut out))
+}
+
+/// Carries out what the words ask for: a live run over lanes, or a command. The answer says how it ended.
+pub fn carry_out<R: AllocGlobal + Threads + Wait + Sync, S: Source, K: Sink>(
+    rt: &R,
+    words: &[Word],
+    source: &mut S,
+    out: &mut K,
+) -> Status
+    // What is printed is the answer to the words and the text, and the status is that of it.
+    ensures headline { IsTrue (is_whole result)
+        → AnswersWhole words.now (S.left source.old) (K.tells out.old) (K.tells out.new) result }
+
+    // Whatever the status, what was written is a prefix of that.
+    ensures prefix { AnswersPrefix words.now (S.left source.old) (K.tells out.old) (K.tells out.new) }
+
+    // Usage: exactly where the words ask for nothing.
+    ensures usage { result ≡ Status.Usage ↔ AskForNothing words.now }
+
+    // Where they ask for something and no device fails, the whole answer is written, unless memory is wanting.
+    ensures complete { ¬ AskForNothing words.now → ¬ Rose (S.faults source.old) (S.faults source.new)
+        → ¬ Rose (K.tells out.old).faults (K.tells out.new).faults → IsWholeOrWanting result }
+{
+    let alloc = rt.alloc();
+    match live_limit(words) {
+        Some(_) => live_desk(rt, alloc, &FreeGate, &LaneInbox, words, source, out),
+        None => desk(rt, alloc, &FreeGate, words, source, out),
+    }
+}
