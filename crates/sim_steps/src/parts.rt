@@ -10,13 +10,13 @@ ghost use Rattle.sim_steps_model.specs.StandsFor.{StandsForSome};
 
 use crate::ready::Ready;
 use rand_pcg::Pcg64;
-use sim_memo::Memo;
 use sim_procs::{Body, Procs};
 use sim_shared::Shared;
 use sim_steps_model::{Mode, Rest, Unit, Units};
 use sim_types::{Callback, EventId, ProcId, Setup, Signal};
 use std::alloc::{AllocError, Global};
 use std::marker::Model;
+use std::snapshot::Snapshot;
 
 /// Time, what happens in it and the resources, the live processes and the numbers of a kernel, and what it was opened with.
 pub struct Parts<B: Body> {
@@ -29,9 +29,9 @@ pub struct Parts<B: Body> {
     pub(crate) mode: Mode,
     /// The process kind that each port starts.
     pub(crate) ports: Vec<u32>,
-    pub(crate) code: Memo<B::Code>,
-    pub(crate) setup: Memo<Setup>,
-    pub(crate) seed: Memo<u64>,
+    pub(crate) code: Snapshot<B::Code>,
+    pub(crate) setup: Snapshot<Setup>,
+    pub(crate) seed: Snapshot<u64>,
     pub(crate) alloc: Global,
 }
 
