@@ -23,8 +23,8 @@ invariant_of-self-2 c =
     let asked : c.args.at < length c.self.inside.setup.value = rw (← c.self.view_is) at c.requires.at in
     let within : c.args.at < length c.self.inside.resources.items = rw (same_length c.self.inside.resources.items c.self.inside.setup.value c.self.invariant.opened) asked in
     let there = got_is c.self.inside.resources.items c.args.at x within c.index_mut.ensures.value in
-    let kind = declared_alike (besides_at c.args.event x) c.cancel.new.self c.cancel.ensures.besides ∙ declared_besides c.args.event x in
-    sound_set c.self.inside.used c.self.inside.resources.items c.self.inside.setup.value c.args.at x c.cancel.new.self there kind c.cancel.ensures.place c.self.invariant
+    let kind = declared_alike (besides_at c.args.event x) c.cancel.new.resource c.cancel.ensures.besides ∙ declared_besides c.args.event x in
+    sound_set c.self.inside.used c.self.inside.resources.items c.self.inside.setup.value c.args.at x c.cancel.new.resource there kind c.cancel.ensures.place c.self.invariant
 
 pub returns-clause-waited : goal.returns-clause-waited
 returns-clause-waited c =
@@ -43,4 +43,4 @@ returns-clause-cancelled c found =
     let asked : c.args.at < length c.self.inside.setup.value = rw (← c.self.view_is) at c.requires.at in
     let within : c.args.at < length c.self.inside.resources.items = rw (same_length c.self.inside.resources.items c.self.inside.setup.value c.self.invariant.opened) asked in
     let there = got_is c.self.inside.resources.items c.args.at x within c.index_mut.ensures.value in
-    rw (← c.self.view_is) (cancelled_at _ c.shut.new.self c.args.at x c.cancel.new.self c.args.event there (sym c.if-not-cancel.ensures.waited) c.cancel.ensures.besides c.shut.ensures.cancelled)
+    rw (← c.self.view_is) (cancelled_at _ c.shut.new.self c.args.at x c.cancel.new.resource c.args.event there (sym c.if-not-cancel.ensures.waited) c.cancel.ensures.besides c.shut.ensures.cancelled)

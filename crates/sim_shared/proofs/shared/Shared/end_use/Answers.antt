@@ -9,8 +9,8 @@ invariant_of-self c =
     let asked : c.args.res < length c.self.inside.setup.value = rw (← c.self.view_is) at c.requires.res in
     let within : c.args.res < length c.self.inside.resources.items = rw (same_length c.self.inside.resources.items c.self.inside.setup.value c.self.invariant.opened) asked in
     let there = got_is c.self.inside.resources.items c.args.res x within c.index_mut.ensures.value in
-    sound_set c.self.inside.used c.self.inside.resources.items c.self.inside.setup.value c.args.res x c.release.new.self there
-    (kind_kept c.args.request x c.release.new.self c.release.ensures.released) c.release.ensures.place c.self.invariant
+    sound_set c.self.inside.used c.self.inside.resources.items c.self.inside.setup.value c.args.res x c.release.new.resource there
+    (kind_kept c.args.request x c.release.new.resource c.release.ensures.released) c.release.ensures.place c.self.invariant
 
 pub returns-clause-follows : goal.returns-clause-follows
 returns-clause-follows c =
@@ -19,5 +19,5 @@ returns-clause-follows c =
     let within : c.args.res < length c.self.inside.resources.items = rw (same_length c.self.inside.resources.items c.self.inside.setup.value c.self.invariant.opened) asked in
     let there = got_is c.self.inside.resources.items c.args.res x within c.index_mut.ensures.value in
     let slots = rw (← c.self.view_is) at c.requires.slots in
-    rw (← c.self.view_is) (end_use_follows _ c.args.res x c.release.new.self c.args.request there slots
+    rw (← c.self.view_is) (end_use_follows _ c.args.res x c.release.new.resource c.args.request there slots
     (λ unused. c.release.ensures.same (c.release.ensures.used ∙ unused)) c.release.ensures.released)
