@@ -11,16 +11,23 @@ use sim_desk::desk;
 use sim_lanes::LaneInbox;
 use sim_live::live_desk;
 use sim_outside::{Sink, Source, StdSink, StdSource};
+use std::env::Env;
+use std::io::{Read, Write};
 use std::process::ExitCode;
 use std::sync::Wait;
 use std::thread::Threads;
 
-/// Carries out what the words of the program ask for, on standard input and output, and ends as `run` does. That these are
-/// the devices, and that it is `carry_out` that answers, is told by these few lines and by no contract.
-pub fn simulate(rt: HostRuntime) -> ExitCode {
-    let mut source = StdSource::new(rt.stdin());
-    let mut out = StdSink::new(rt.stdout());
-    run(&rt, |words| carry_out(&rt, words, &mut source, &mut out))
+/// Carries out what the words of the program ask for, reads from this input, writes to this output, and ends as `run` does. That
+/// these are the devices, and that it is `carry_out` that answers, is told by these few lines and by no contract.
+pub fn simulate<R, I, O>(rt: &R, input: I, output: O) -> ExitCode
+where
+    R: AllocGlobal + Env + Eprint + Threads + Wait + Sync,
+    I: Read + Drop,
+    O: Write + Drop,
+{
+    let mut source = StdSource::new(input);
+    let mut out = StdSink::new(output);
+    run(rt, |words| carry_out(rt, words, &mut source, &mut out))
 }
 
 /// Carries out what the words ask for: a live run over lanes, or a command. The answer says how it ended.

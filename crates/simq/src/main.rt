@@ -5,5 +5,5 @@ use sim_program::simulate;
 use std::process::ExitCode;
 
 fn main(rt: HostRuntime) -> ExitCode {
-    simulate(rt)
+    simulate(&rt, rt.stdin(), rt.stdout())
 }
