@@ -8,15 +8,15 @@ use Rattle.sim_desk.specs.Answers as desk
 use Rattle.sim_live.specs.LiveAnswers as live
 
 -- the whole answer was written, and the status is that of it
-abbrev pub AnswersWhole : List (List ℕ) → Option (List ℕ) → SinkOf → SinkOf → Status → Type 0
-AnswersWhole words left old new answer =
+abbrev pub CarriesOutWhole : List (List ℕ) → Option (List ℕ) → SinkOf → SinkOf → Status → Type 0
+CarriesOutWhole words left old new answer =
     MatchOption (live_limit words)
     (IfSome (command words) (λ asked. desk.AnswersWhole asked left old new answer))
     (λ limit. live.AnswersWhole limit left old new answer)
 
 -- a prefix of it was written
-abbrev pub AnswersPrefix : List (List ℕ) → Option (List ℕ) → SinkOf → SinkOf → Type 0
-AnswersPrefix words left old new =
+abbrev pub CarriesOutPrefix : List (List ℕ) → Option (List ℕ) → SinkOf → SinkOf → Type 0
+CarriesOutPrefix words left old new =
     MatchOption (live_limit words)
     (IfSome (command words) (λ asked. desk.AnswersPrefix asked left old new))
     (λ limit. live.AnswersPrefix limit left old new)

@@ -1,8 +1,9 @@
 //! The whole program: its words and its devices.
-ghost use Rattle.std.specs.Prelude.{◌≡◌, ◌↔◌, IsTrue};
+ghost use Rattle.std.specs.Prelude.{◌≡◌, ◌↔◌, false, IsTrue};
 ghost use Rattle.sim_outside.specs.Causes.{Rose};
+ghost use Rattle.sim_outside.specs.Writes.{IsFlushedOnce, IsUnflushed};
 ghost use Rattle.sim_command.specs.Endings.{is_whole, IsWholeOrWanting};
-ghost use Rattle.sim_program.specs.Answers.{AnswersWhole, AnswersPrefix, AskForNothing};
+ghost use Rattle.sim_program.specs.Answers.{CarriesOutWhole, CarriesOutPrefix, AskForNothing};
 
 use crate::call::run;
 use sim_batch::FreeGate;
@@ -17,13 +18,13 @@ use std::process::ExitCode;
 use std::sync::Wait;
 use std::thread::Threads;
 
-/// Carries out what the words of the program ask for, on its input and output, and ends as `run` does. That `main` gives it
-/// standard input and output, and that it is `carry_out` that answers, is told by these few lines and by no contract.
-pub fn simulate<T, R, W>(rt: &T, input: R, output: W) -> ExitCode
+/// Carries out what the words of the program ask for, reads from this input, writes to this output, and ends as `run` does. That
+/// these are the devices, and that it is `carry_out` that answers, is told by these few lines and by no contract.
+pub fn simulate<R, I, O>(rt: &R, input: I, output: O) -> ExitCode
 where
-    T: AllocGlobal + Env + Eprint + Threads + Wait + Sync,
-    R: Read + Drop,
-    W: Write + Drop,
+    R: AllocGlobal + Env + Eprint + Threads + Wait + Sync,
+    I: Read + Drop,
+    O: Write + Drop,
 {
     let mut source = StdSource::new(input);
     let mut out = StdSink::new(output);
@@ -39,13 +40,29 @@ pub fn carry_out<R: AllocGlobal + Threads + Wait + Sync, S: Source, K: Sink>(
 ) -> Status
     // What is printed is the answer to the words and the text, and the status is that of it.
     ensures headline { IsTrue (is_whole result)
-        → AnswersWhole words.now (S.left source.old) (K.tells out.old) (K.tells out.new) result }
+        → CarriesOutWhole words.now (S.left source.old) (K.tells out.old) (K.tells out.new) result }
 
     // Whatever the status, what was written is a prefix of that.
-    ensures prefix { AnswersPrefix words.now (S.left source.old) (K.tells out.old) (K.tells out.new) }
+    ensures prefix { CarriesOutPrefix words.now (S.left source.old)
+        (K.tells out.old) (K.tells out.new) }
 
-    // Usage: exactly where the words ask for nothing.
+    // After a whole answer the sink was flushed once, when all was written; after no other was it flushed.
+    ensures flushed { IsTrue (is_whole result) → IsFlushedOnce (K.tells out.old) (K.tells out.new) }
+    ensures unflushed { is_whole result ≡ false → IsUnflushed (K.tells out.old) (K.tells out.new) }
+
+    // Usage: exactly where the words ask for nothing, and then nothing is read or written.
     ensures usage { result ≡ Status.Usage ↔ AskForNothing words.now }
+    ensures not_read { result ≡ Status.Usage → source.new ≡ source.old }
+    ensures not_written { result ≡ Status.Usage → out.new ≡ out.old }
+
+    // A failed read: only where the source's count rose, and then nothing is written.
+    ensures read_fault { result ≡ Status.ReadFault
+        → Rose (S.faults source.old) (S.faults source.new) }
+    ensures unwritten { result ≡ Status.ReadFault → out.new ≡ out.old }
+
+    // A failed write or flush: only where the sink's count rose.
+    ensures write_fault { result ≡ Status.WriteFault
+        → Rose (K.tells out.old).faults (K.tells out.new).faults }
 
     // Where they ask for something and no device fails, the whole answer is written, unless memory is wanting.
     ensures complete { ¬ AskForNothing words.now → ¬ Rose (S.faults source.old) (S.faults source.new)

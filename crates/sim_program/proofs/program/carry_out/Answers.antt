@@ -1,0 +1,5 @@
+use Rattle.sim_program.proofs.Asked.{for_command, when_whole}
+use Rattle.sim_program.proofs.program.carry_out.Goals as goal
+
+pub returns-in-None-clause-headline : goal.returns-in-None-clause-headline
+returns-in-None-clause-headline g c whole = for_command _ _ _ c.in-None.ensures (when_whole _ _ _ c.desk.ensures.headline whole)
