@@ -8,7 +8,7 @@ use Rattle.sim_types.specs.declared.setup.Class.{Class}
 use Rattle.sim_types.specs.declared.setup.Class.TheVariants as class
 use Rattle.sim_types.specs.declared.script.Kind.{Kind}
 use Rattle.sim_machine.specs.Tellings.{is_class}
-use Rattle.core.specs.declared.snapshot.Snapshot.{Snapshot}
+use Rattle.std.specs.declared.snapshot.Snapshot.{Snapshot}
 use Rattle.sim_script_model.specs.Scripts as scripts
 use Rattle.sim_script_model.specs.Arithmetic as arithmetic
 use Rattle.sim_script.specs.declared.frames.Frame.{Frame}
