@@ -6,4 +6,4 @@ pub returns : goal.returns
 returns c =
     begins_with c.args.self.now _ c.args.kind c.args.declared.now c.args.args.now c.begin_variables.new.variables.items c.requires
     (rw (← c.self.view_is) (c.begin_variables.ensures ∙ ap (λ (n : ℕ). pos 0 ∷ c.args.args.now ++ replicate (n - 1 - length c.args.args.now) (pos 0)) c.self.invariant.1))
-    (rw (← c.self.view_is, c.of-self-inside.ensures, c.of-self-inside-2.ensures, c.of-self-inside-3.ensures, c.clear.ensures) refl)
+    (rw (← c.self.view_is, c.of.ensures, c.of-2.ensures, c.of-3.ensures, c.clear.ensures) refl)
