@@ -65,7 +65,8 @@ pub fn carry_out<R: AllocGlobal + Threads + Wait + Sync, S: Source, K: Sink>(
         → Rose (K.tells out.old).faults (K.tells out.new).faults }
 
     // Where they ask for something and no device fails, the whole answer is written, unless memory is wanting.
-    ensures complete { ¬ AskForNothing words.now → ¬ Rose (S.faults source.old) (S.faults source.new)
+    ensures complete { ¬ AskForNothing words.now
+        → ¬ Rose (S.faults source.old) (S.faults source.new)
         → ¬ Rose (K.tells out.old).faults (K.tells out.new).faults → IsWholeOrWanting result }
 {
     let alloc = rt.alloc();
