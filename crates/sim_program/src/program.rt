@@ -1,5 +1,5 @@
 //! The whole program: its words and its devices.
-ghost use Rattle.std.specs.Prelude.{◌≡◌, ◌↔◌, false, IsTrue};
+ghost use Rattle.std.specs.Prelude.{◌≡◌, ◌≢◌, ◌↔◌, false, IsTrue};
 ghost use Rattle.sim_outside.specs.Causes.{Rose};
 ghost use Rattle.sim_outside.specs.Writes.{IsFlushedOnce, IsUnflushed};
 ghost use Rattle.sim_command.specs.Endings.{is_whole, IsWholeOrWanting};
@@ -63,6 +63,11 @@ pub fn carry_out<R: AllocGlobal + Threads + Wait + Sync, S: Source, K: Sink>(
     // A failed write or flush: only where the sink's count rose.
     ensures write_fault { result ≡ Status.WriteFault
         → Rose (K.tells out.old).faults (K.tells out.new).faults }
+
+    // The counts rise for no other answer.
+    ensures read_well { result ≢ Status.ReadFault → S.faults source.new ≡ S.faults source.old }
+    ensures wrote_well { result ≢ Status.WriteFault
+        → (K.tells out.new).faults ≡ (K.tells out.old).faults }
 
     // Where they ask for something and no device fails, the whole answer is written, unless memory is wanting.
     ensures complete { ¬ AskForNothing words.now
