@@ -1,6 +1,6 @@
 -- Words that are a command, and words that are none.
 use Rattle.std.specs.Prelude.{◌≡◌, refl, [], ◌∷◌, codes, Some, None}
-use Rattle.sim_command.specs.declared.commands.Command.TheVariants.{Check, Run, Batch, Load}
+use Rattle.sim_command.specs.declared.commands.Command.TheVariants.{Check, Run, Batch, Watch, Load}
 use Rattle.sim_command.specs.Commands.{command, live_limit, most_units}
 
 check : command (codes "check" ∷ []) ≡ Some Check
@@ -42,6 +42,21 @@ batch_of_no_runs = refl
 
 batch_without_limit : command (codes "batch" ∷ codes "3" ∷ []) ≡ None
 batch_without_limit = refl
+
+watch_with_a_limit : command (codes "watch" ∷ codes "10000000" ∷ []) ≡ Some (Watch 10000000)
+unfolding most_units
+watch_with_a_limit = refl
+
+watch_limit_too_great : command (codes "watch" ∷ codes "10000001" ∷ []) ≡ None
+unfolding most_units
+watch_limit_too_great = refl
+
+watch_limit_of_zero : command (codes "watch" ∷ codes "0" ∷ []) ≡ None
+unfolding most_units
+watch_limit_of_zero = refl
+
+watch_without_limit : command (codes "watch" ∷ []) ≡ None
+watch_without_limit = refl
 
 greatest_shop : command (codes "load" ∷ codes "2000" ∷ []) ≡ Some (Load 2000)
 greatest_shop = refl

@@ -3,7 +3,7 @@
 --     live_limit words   how many units a live run may make, if the words ask for one
 use Rattle.std.specs.Prelude.{ℕ, Bool, true, false, if◌then◌else◌, List, [], ◌∷◌, codes, Option, Some, None, option_map}
 use Rattle.sim_command.specs.declared.commands.Command.{Command}
-use Rattle.sim_command.specs.declared.commands.Command.TheVariants.{Check, Run, Batch, Load}
+use Rattle.sim_command.specs.declared.commands.Command.TheVariants.{Check, Run, Batch, Watch, Load}
 use Rattle.sim_language.specs.Lines.{Word, same}
 use Rattle.sim_language.specs.Numbers.{decimal_within}
 
@@ -28,10 +28,11 @@ batch_of count limit = None
 abbrev pub command_with_number : Word → Word → Option Command
 command_with_number name number =
     if same name (codes "run") then option_map Run (decimal_within 1 most_units number)
+    else if same name (codes "watch") then option_map Watch (decimal_within 1 most_units number)
     else if same name (codes "load") then option_map Load (decimal_within 1 most_machines number)
     else None
 
--- `check`, `run LIMIT`, `load SIZE`, or `batch COUNT LIMIT`
+-- `check`, `run LIMIT`, `watch LIMIT`, `load SIZE`, or `batch COUNT LIMIT`
 abbrev pub command : List Word → Option Command
 command (name ∷ []) = if same name (codes "check") then Some Check else None
 command (name ∷ number ∷ []) = command_with_number name number
@@ -44,6 +45,7 @@ abbrev pub is_on_text : Command → Bool
 is_on_text Check = true
 is_on_text (Run limit) = true
 is_on_text (Batch count limit) = true
+is_on_text (Watch limit) = true
 is_on_text (Load size) = false
 
 -- `live LIMIT`, which is no command: a call of its own carries it out

@@ -9,6 +9,8 @@ pub enum Command {
     Run(u32),
     /// What so many runs of the text come to, each of so many units at most.
     Batch { count: u32, limit: u32 },
+    /// What is measured at each resource over the text's run, of so many units at most.
+    Watch(u32),
     /// What the run of a machine shop with so many machines comes to. No text is read.
     Load(u32),
 }

@@ -31,6 +31,10 @@ pub fn command(words: &[Word]) -> Option<Command>
             let limit = number_within(most_units(), number)?;
             Some(Command::Run(limit))
         }
+        [name, number] if name.bytes() == b"watch".as_slice() => {
+            let limit = number_within(most_units(), number)?;
+            Some(Command::Watch(limit))
+        }
         [name, number] if name.bytes() == b"load".as_slice() => {
             let size = number_within(MOST_MACHINES, number)?;
             Some(Command::Load(size))
@@ -62,7 +66,7 @@ impl Command {
         ensures { result ≡ is_on_text self.now }
     {
         match self {
-            Command::Check | Command::Run(_) | Command::Batch { .. } => true,
+            Command::Check | Command::Run(_) | Command::Batch { .. } | Command::Watch(_) => true,
             Command::Load(_) => false,
         }
     }

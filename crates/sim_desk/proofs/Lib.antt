@@ -1,4 +1,6 @@
 pub mod Arriving
+pub mod Numbering
 pub mod Replicating
+pub mod RowsOfRun
 pub mod Summing
 pub mod Telling

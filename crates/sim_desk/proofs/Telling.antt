@@ -36,6 +36,7 @@ same_for : (asked : Command) (left rest : Option (List ℕ)) (text bytes : List 
 same_for command.Check left rest text bytes takes held = ap reads held ∙ same_reading left rest bytes takes
 same_for (command.Run limit) left rest text bytes takes held = ap reads held ∙ same_reading left rest bytes takes
 same_for (command.Batch count limit) left rest text bytes takes held = ap reads held ∙ same_reading left rest bytes takes
+same_for (command.Watch limit) left rest text bytes takes held = ap reads held ∙ same_reading left rest bytes takes
 same_for (command.Load size) left rest text bytes takes held = refl
 
 -- a command that is on no text is on the same whatever is read
@@ -43,6 +44,7 @@ unread_for : (asked : Command) (text other : List ℕ) → is_on_text asked ≡ 
 unread_for command.Check text other unread = absurd (false≢true (sym unread))
 unread_for (command.Run limit) text other unread = absurd (false≢true (sym unread))
 unread_for (command.Batch count limit) text other unread = absurd (false≢true (sym unread))
+unread_for (command.Watch limit) text other unread = absurd (false≢true (sym unread))
 unread_for (command.Load size) text other unread = refl
 
 -- `load` is on the text of the machine shop
@@ -64,6 +66,7 @@ in_order_for asked text (Err fault) is = tt
 in_order_for command.Check text (Ok s) is = tt
 in_order_for (command.Run limit) text (Ok s) is = in_order_of s s.seed limit text is
 in_order_for (command.Batch count limit) text (Ok s) is = λ seed. in_order_of s seed limit text is
+in_order_for (command.Watch limit) text (Ok s) is = in_order_of s s.seed limit text is
 in_order_for (command.Load size) text (Ok s) is = in_order_of s s.seed most_units text is
 
 module _ (asked : Command) (left : Option (List ℕ)) (text bytes : List ℕ) (old new : SinkOf)
@@ -132,11 +135,16 @@ reading_whole asked (Err fault) = refl
 reading_whole command.Check (Ok s) = refl
 reading_whole (command.Run limit) (Ok s) = end_whole (end_of_scenario s limit)
 reading_whole (command.Batch count limit) (Ok s) = refl
+reading_whole (command.Watch limit) (Ok s) = refl
 reading_whole (command.Load size) (Ok s) = refl
 
 -- where nothing fails, the answer is whole
 pub status_whole : (asked : Command) (text : List ℕ) → IsTrue (is_whole (status_of asked text))
 status_whole asked text = reading_whole asked (reads (text_for asked text))
+
+-- so what it answers is no status that comes after less
+pub told_whole : (asked : Command) (text : List ℕ) (answer other : Status) → answer ≡ status_of asked text → answer ≡ other → IsTrue (is_whole other)
+told_whole asked text answer other is same = ap is_whole (sym same ∙ is) ∙ status_whole asked text
 
 -- the text of each machine shop says a scenario
 pub load_ended : (asked : Command) (size : ℕ) (text : List ℕ) → asked ≡ command.Load size → size < 2 ^ 32 → status_of asked text ≡ status.Ended

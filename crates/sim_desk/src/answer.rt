@@ -10,6 +10,7 @@ ghost use Rattle.sim_engine.specs.RunOfScenario.{end_of_scenario, printed_trace}
 ghost use Rattle.sim_desk.specs.Headline.{answer_to, answer_of, status_to, status_of};
 
 use crate::replications::write_batch;
+use crate::watching::write_watch;
 use sim_batch::Gate;
 use sim_code::{ReadError, read};
 use sim_command::{Command, Status, most_units, status_of_end};
@@ -62,7 +63,7 @@ fn answer_for<K: Sink, R: Threads + Sync, G: Gate + Sync>(
             let shop = shop_text(alloc, size)?;
             answer_on(rt, alloc, gate, asked, shop.as_slice(), out)
         }
-        Command::Check | Command::Run(_) | Command::Batch { .. } => {
+        Command::Check | Command::Run(_) | Command::Batch { .. } | Command::Watch(_) => {
             answer_on(rt, alloc, gate, asked, text, out)
         }
     }
@@ -115,6 +116,7 @@ fn carry_out<K: Sink, R: Threads + Sync, G: Gate + Sync>(
         Command::Batch { count, limit } => write_batch(
             rt, alloc, gate, scenario, count, limit, out,
         )?,
+        Command::Watch(limit) => write_watch(alloc, scenario, limit, out)?,
         Command::Load(size) => write_load(alloc, scenario, size, out)?,
     }
     Ok(Status::Ended)

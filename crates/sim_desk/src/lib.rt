@@ -6,5 +6,6 @@ mod gathered;
 mod replications;
 mod sums;
 mod top;
+mod watching;
 
 pub use top::desk;

@@ -32,9 +32,10 @@ pub fn desk<S: Source, K: Sink, R: Threads + Sync, G: Gate + Sync>(
 ) -> Status
     // What is printed is the answer to the command on the text, and the status is that of it: for `run LIMIT` the trace of
     // the machine on the scenario that the text says, for `batch COUNT LIMIT` what so many runs of it come to, each with a
-    // seed of its own, and their sums, for `check` that it says one, and else its first fault; for `load SIZE` what the run of
-    // the machine shop of this size comes to. Throughout a run, and throughout that of the shop, no capacity is exceeded,
-    // levels are openings plus puts minus gets, and no process that has ended is resumed or waits for a request.
+    // seed of its own, and their sums, for `watch LIMIT` what is measured at each resource over its run, and how that ends,
+    // for `check` that it says one, and else its first fault; for `load SIZE` what the run of the machine shop of this size
+    // comes to. Throughout a run, and throughout that of the shop, no capacity is exceeded, levels are openings plus puts
+    // minus gets, and no process that has ended is resumed or waits for a request.
     ensures headline { IfSome (command words.now) (λ asked. IsTrue (is_whole result)
         → AnswersWhole asked (S.left source.old) (K.tells out.old) (K.tells out.new) result) }
 

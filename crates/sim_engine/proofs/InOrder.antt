@@ -30,7 +30,7 @@ use Rattle.sim_script_law.proofs.Laws.SetupFits.{fits_code}
 use Rattle.sim_machine.specs.RandomWords.{word_of}
 use Rattle.sim_script_model.specs.Scenarios.{plan_with}
 use Rattle.sim_engine.specs.RunOfScenario.{run_of}
-use Rattle.sim_engine.specs.Rounds.{HavePorts}
+use Rattle.sim_types.specs.Setups.{HavePorts}
 use Rattle.sim_engine.specs.Throughout.{is_of_living, IsInOrder, IsInOrderThroughout}
 
 -- ---- what waits for a slot is of a live process
@@ -98,7 +98,7 @@ in_order_where_lawful s seed t h =
     }
 
 -- each state of the runs of a scenario that is well formed
-pub in_order : (s : ScenarioOf) (seed : ℕ) (journal : List Arrival) (limit : ℕ) → IsTrue (is_well_formed s) → HavePorts s journal
+pub in_order : (s : ScenarioOf) (seed : ℕ) (journal : List Arrival) (limit : ℕ) → IsTrue (is_well_formed s) → HavePorts s.setup journal
     → IsInOrderThroughout s seed journal limit
 in_order s seed journal limit well_formed ports n within =
     let r : Run Script = run_of s seed journal in

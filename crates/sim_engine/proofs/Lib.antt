@@ -1,6 +1,5 @@
 pub mod AddedArrivals
 pub mod InOrder
-pub mod OnlySteps
 pub mod QuietSteps
 pub mod RoundCases
 pub mod Rounds

@@ -63,7 +63,7 @@ quietly_stands (suc n) old new t stands lawful row =
     let mid : PartsOf Script ScenarioOf = row.between in
     let u : State Script = steps_in old n t in
     let before : QuietlyStands old mid n t = quietly_stands n old mid t stands lawful row.before in
-    let last : UnitStands mid new unit.Quiet u = unit_stands mid new unit.Quiet u before.stands before.lawful row.after.makes in
+    let last : UnitStands mid new unit.Quiet u = unit_stands mid new unit.Quiet [] u before.stands before.lawful row.after.makes in
     let same : steps_in mid 1 u ≡ steps_in old (suc n) t = same_steps old mid before.opened 1 u in
     let stands_then : StandsFor new (steps_in old (suc n) t) = subst (StandsFor new) same last.stands in
     record {
@@ -96,14 +96,14 @@ pub record UnitsStand (old new : PartsOf Script ScenarioOf) (n : ℕ) (answer : 
   pub lines : (steps_in old n t).lines ≡ t.lines ++ lines_of answer
   pub busy : (i : ℕ) → 0 < i → i < n → is_processing (steps_in old i t).control ≡ true
 
-units_stand : (n : ℕ) (old new : PartsOf Script ScenarioOf) (answer : Unit) (t : State Script) → StandsFor old t → LawfulOf script_body old t
-    → MakesSteps script_body n old answer new → UnitsStand old new n answer t
-units_stand zero old new answer t stands lawful none = absurd none
-units_stand (suc n) old new answer t stands lawful row =
+units_stand : (n : ℕ) (old new : PartsOf Script ScenarioOf) (answer : Unit) (places : List ℕ) (t : State Script) → StandsFor old t → LawfulOf script_body old t
+    → MakesSteps script_body n old answer places new → UnitsStand old new n answer t
+units_stand zero old new answer places t stands lawful none = absurd none
+units_stand (suc n) old new answer places t stands lawful row =
     let mid : PartsOf Script ScenarioOf = row.between in
     let u : State Script = steps_in old n t in
     let before : QuietlyStands old mid n t = quietly_stands n old mid t stands lawful row.before in
-    let last : UnitStands mid new answer u = unit_stands mid new answer u before.stands before.lawful row.after in
+    let last : UnitStands mid new answer u = unit_stands mid new answer places u before.stands before.lawful row.after in
     let same : steps_in mid 1 u ≡ steps_in old (suc n) t = same_steps old mid before.opened 1 u in
     record {
       stands = subst (StandsFor new) same last.stands;
@@ -114,12 +114,12 @@ units_stand (suc n) old new answer t stands lawful row =
 
 -- ---- a session whose kernel makes so many units
 
-module _ (view old : SessionOf) (is : view ≡ old) (n : ℕ) (answer : Unit) (new : PartsOf Script ScenarioOf)
-    (makes : MakesSteps script_body n view.parts answer new) where
+module _ (view old : SessionOf) (is : view ≡ old) (n : ℕ) (answer : Unit) (places : List ℕ) (new : PartsOf Script ScenarioOf)
+    (makes : MakesSteps script_body n view.parts answer places new) where
   units_at : (t : State Script) → IsAt old t → UnitsStand old.parts new n answer t
   units_at t at =
-      units_stand n old.parts new answer t at.stands at.lawful
-      (subst (λ p. MakesSteps script_body n p answer new) (ap (λ x. x.parts) is) makes)
+      units_stand n old.parts new answer places t at.stands at.lawful
+      (subst (λ p. MakesSteps script_body n p answer places new) (ap (λ x. x.parts) is) makes)
 
   -- so many more are counted
   counted : (units : ℕ) → units ≡ view.units + n → units - old.units ≡ n

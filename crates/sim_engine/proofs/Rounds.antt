@@ -20,7 +20,8 @@ use Rattle.sim_engine.specs.Rounds.{next_of, StandsInRun}
 use Rattle.sim_engine.specs.declared.runs.Next.TheVariants as next
 use Rattle.sim_engine.specs.declared.session.Turn.{Turn}
 use Rattle.sim_engine.specs.declared.session.Turn.TheVariants as turn
-use Rattle.sim_engine.proofs.RoundCases.{StandsIdle, takes_where, idle_where, empty_where, stands_idle, stands_empty, due_where, waits_on, goes_on_idle}
+use Rattle.sim_kernel.proofs.RestingMachines.{StandsIdle, stands_idle, stands_empty, due_where, waits_on, goes_on_idle}
+use Rattle.sim_engine.proofs.RoundCases.{takes_where, idle_where, empty_where}
 use Rattle.sim_engine.proofs.RunCourses.{units_are_steps, under_way_for}
 
 -- ---- what comes next
@@ -75,11 +76,6 @@ turn_is_next x left h =
 pub arrival_is_next : (x : SessionOf) (left : List Arrival) (a : Arrival) → next_of (turn_of x) x.parts.processed left ≡ next.Arrival a
     → (x.refused ≡ false) × (left ≡ a ∷ drop 1 left)
 arrival_is_next x left a h = let comes = comes_next (turn_of x) x.parts.processed left a h in ((takes_where x comes.takes).0, comes.first)
-
--- all but the first
-pub rest_is : (left : List Arrival) → take (length left - 1) (drop 1 left) ≡ drop 1 left
-rest_is [] = refl
-rest_is (a ∷ left) = take_all _ left (omega arith)
 
 -- ---- in a run
 

@@ -27,29 +27,7 @@ use Rattle.sim_engine.specs.Sessions.{SessionOf, turn_of, IsSettled, end_in, rep
 use Rattle.sim_engine.specs.Rounds.{next_of, IsRefused, StandsInRun}
 use Rattle.sim_engine.specs.declared.runs.Next.TheVariants as next
 use Rattle.sim_engine.specs.declared.session.Turn.TheVariants as turn
-use Rattle.sim_engine.proofs.RoundCases.{stands_idle, stands_empty, waits_on, goes_on_idle}
-
--- ---- how a machine that stands so has ended
-
-over_end : (g : Plan Script) (c : Control) (kept agenda : List Entry) (left : List Arrival) (why : End) → rest_of c kept ≡ rest.Over why
-    → end_by g c agenda left ≡ Some why
-over_end g Idle [] agenda left why h = absurd (cc)
-over_end g Idle (x ∷ kept) agenda left why h = absurd (cc)
-over_end g (Calling e calls) kept agenda left why h = absurd (cc)
-over_end g (Active e calls p told) kept agenda left why h = absurd (cc)
-over_end g (Over how e calls) kept agenda left why h = ap Some cc
-
-busy_end : (g : Plan Script) (c : Control) (kept agenda : List Entry) (left : List Arrival) → rest_of c kept ≡ rest.Busy → end_by g c agenda left ≡ None
-busy_end g Idle [] agenda left h = absurd (cc)
-busy_end g Idle (x ∷ kept) agenda left h = absurd (cc)
-busy_end g (Calling e calls) kept agenda left h = refl
-busy_end g (Active e calls p told) kept agenda left h = refl
-busy_end g (Over how e calls) kept agenda left h = absurd (cc)
-
-empty_has_ended : (g : Plan Script) (s : State Script) (agenda : List Entry) → Idle ≡ s.control → is_none (due agenda) ≡ true
-    → end_by g s.control agenda [] ≡ Some (empty_end g.setup.until)
-empty_has_ended g s [] c none = rw (← c) refl
-empty_has_ended g s (x ∷ agenda) c none = absurd (false≢true none)
+use Rattle.sim_kernel.proofs.RestingMachines.{stands_idle, stands_empty, waits_on, goes_on_idle, over_end, busy_end, empty_has_ended}
 
 -- ---- where nothing comes next
 

@@ -15,8 +15,8 @@ use Rattle.sim_kernel.specs.Stepping.{MakesStep, StepsFrom}
 use Rattle.sim_kernel.specs.Arriving.{MakesArrival, ArrivesFrom}
 use Rattle.sim_script_model.specs.Scripts.{Script}
 use Rattle.sim_script_law.specs.ScriptMembers.{script_body}
+use Rattle.sim_script_law.proofs.Laws.OnlySteps.{only_script_step}
 use Rattle.sim_engine.specs.Sessions.{SessionOf, IsAt, steps_in}
-use Rattle.sim_engine.proofs.OnlySteps.{only_script_step}
 
 -- ---- what is logged by more lines
 
@@ -56,10 +56,10 @@ pub record UnitStands (old new : PartsOf Script ScenarioOf) (answer : Unit) (t :
   pub lawful : LawfulOf script_body new (steps_in old 1 t)
   pub lines : (steps_in old 1 t).lines ≡ t.lines ++ lines_of answer
 
-pub unit_stands : (old new : PartsOf Script ScenarioOf) (answer : Unit) (t : State Script) → StandsFor old t → LawfulOf script_body old t
-    → MakesStep script_body old answer new → UnitStands old new answer t
-unit_stands old new answer t stands lawful makes =
-    let next : StepsFrom script_body old t answer new = makes.each t lawful stands in
+pub unit_stands : (old new : PartsOf Script ScenarioOf) (answer : Unit) (places : List ℕ) (t : State Script) → StandsFor old t → LawfulOf script_body old t
+    → MakesStep script_body old answer places new → UnitStands old new answer t
+unit_stands old new answer places t stands lawful makes =
+    let next : StepsFrom script_body old t answer places new = makes.each t lawful stands in
     let is : next.state ≡ steps_in old 1 t = only_script_step (plan_of script_body old) old.code t next.state next.stepped in
     record {
       stands = subst (StandsFor new) is next.stands;

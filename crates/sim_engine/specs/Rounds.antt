@@ -16,10 +16,6 @@ use Rattle.sim_engine.specs.declared.runs.Next.TheVariants as next
 use Rattle.sim_engine.specs.declared.session.Turn.{Turn}
 use Rattle.sim_engine.specs.declared.session.Turn.TheVariants as turn
 
--- all entries come in by ports that there are
-abbrev pub HavePorts : ScenarioOf → List Arrival → Type 0
-HavePorts s journal = All (λ a. a.port < length s.setup.ports) journal
-
 -- what comes next where a run stands so, by how many events were processed and what of the journal is left
 abbrev pub next_of : Turn → ℕ → List Arrival → Next
 next_of (turn.Over why) processed left = next.End

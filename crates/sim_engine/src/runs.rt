@@ -1,13 +1,14 @@
 //! Whole runs, as loops over a run under way.
 ghost use Rattle.std.specs.Prelude.{◌≡◌, [], IfOk, OnOk};
 ghost use Rattle.sim_types.specs.declared.line.Line.TheVariants as line;
+ghost use Rattle.sim_types.specs.Setups.{HavePorts};
 ghost use Rattle.sim_outside.specs.Writes.{IsUnflushed, Writes};
 ghost use Rattle.sim_script_model.specs.Scenarios.{summary};
 ghost use Rattle.sim_trace.specs.Texts.{line_text};
 ghost use Rattle.sim_engine.specs.Counting.{IsWithin};
 ghost use Rattle.sim_engine.specs.EngineFaults.{is_write};
 ghost use Rattle.sim_engine.specs.RunOfScenario.{run_of, printed_run, units_of};
-ghost use Rattle.sim_engine.specs.Rounds.{HavePorts, StandsInRun, next_of, text_by};
+ghost use Rattle.sim_engine.specs.Rounds.{StandsInRun, next_of, text_by};
 ghost use Rattle.sim_engine.specs.Sessions.{IsSettled, turn_of, report_of};
 
 use crate::fault::EngineFault;
@@ -29,7 +30,7 @@ pub fn run<K: Sink>(
     limit: u32,
     out: &mut K,
 ) -> Result<Report, EngineFault>
-    requires ports { HavePorts scenario.now journal.now }
+    requires ports { HavePorts scenario.now.setup journal.now }
     ensures summary { IfOk result (λ report. report.summary
         ≡ summary scenario.now seed journal.now limit) }
     ensures units { IfOk result (λ report. report.units
@@ -65,7 +66,7 @@ fn make_units<K: Sink>(
     session: &mut Session,
     out: &mut K,
 ) -> Result<(), EngineFault>
-    requires ports { HavePorts scenario.now journal.now }
+    requires ports { HavePorts scenario.now.setup journal.now }
     requires stands { StandsInRun scenario.now session.old.parts.seed journal.now journal.now
         session.old }
     requires units { session.old.units ≡ 0 }
@@ -133,7 +134,7 @@ pub fn replicate(
     journal: &[Arrival],
     limit: u32,
 ) -> Result<Summary, AllocError>
-    requires ports { HavePorts scenario.now journal.now }
+    requires ports { HavePorts scenario.now.setup journal.now }
     ensures summary { IfOk result (λ s. s ≡ summary scenario.now seed journal.now limit) }
     ensures counts { IfOk result (IsWithin limit) }
 {

@@ -23,6 +23,7 @@ use Rattle.sim_steps_law.proofs.Kernels.Becoming.{lawful_stands}
 use Rattle.sim_steps_law.proofs.Kernels.Rooms.{roomier_balances, roomier_held, roomier_lawful, roomier_stands}
 use Rattle.sim_steps_law.proofs.Kernels.Running.{KeepsLaw}
 use Rattle.sim_steps_law.proofs.Starts.Starting.{of_process_events}
+use Rattle.sim_kernel.proofs.ArrivalMeasures.{arrival_measures}
 use Rattle.sim_kernel.proofs.UnitSteps.{accounts_balance, balance_accounts, opened_lawful, opened_through, unit_bounded}
 
 -- it makes two events, and processes none
@@ -70,11 +71,12 @@ module _ {B Code : Type 0} (body : BodyOf B Code) (port : ℕ) (value : ℤ) (ol
               stands = arrived_stands s lawful st;
               accounts = λ right. balance_accounts body new (arrived s) needed (arrived_balances s lawful st (accounts_balance body old s right));
               lines = ap (λ x. s.lines ++ x ∷ []) (sym told);
+              measures = record { same = λ res within other. arrival_measures (plan_of body old) port value s old.setup.resources res };
             };
       }
 
-  pub arrival_holds : (units : ℕ) → Holds body units old → Holds body (units + 1) new
-  arrival_holds units h =
+  pub arrival_holds : (units : ℕ) → Holds body units old → new.shared.setup ≡ new.setup.resources → Holds body (units + 1) new
+  arrival_holds units h resources =
       let s = h.state in
       let opened = opened_through old mid new room becomes.opened in
       let most : ℕ = most_held * (units + most_opened) in
@@ -82,6 +84,7 @@ module _ {B Code : Type 0} (body : BodyOf B Code) (port : ℕ) (value : ℤ) (ol
       let stands = arrived_stands s h.lawful h.stands in
       record {
         fits = rw (opened.code, opened.setup) h.fits;
+        resources = resources;
         state = arrived s;
         lawful = arrived_lawful s h.lawful;
         stands = stands;

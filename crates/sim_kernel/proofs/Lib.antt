@@ -5,4 +5,10 @@ pub mod OpeningHolds
 -- the units
 pub mod UnitSteps
 pub mod QuietUnits
+pub mod ArrivalMeasures
 pub mod Arrivals
+-- walks
+pub mod RestingMachines
+pub mod NextUnits
+pub mod WalkedCourses
+pub mod WalkEnds

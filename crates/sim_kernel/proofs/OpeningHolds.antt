@@ -37,12 +37,13 @@ opening_events {B} body parts fits =
     omega (arith, stop_events g.setup.until s.facilities.calendar, events_of_starts g g.setup.starts, fits.few_events, fits.few_starts)
 
 pub opening_holds : {B Code : Type 0} (body : BodyOf B Code) (new : PartsOf B Code) → KeepsLaw body new.code → FitsCode (body.facts new.code) new.setup →
-    IsOpened body new → Holds body 0 new
-opening_holds {B} body new law fits h =
+    new.shared.setup ≡ new.setup.resources → IsOpened body new → Holds body 0 new
+opening_holds {B} body new law fits resources h =
     let g : Plan B = plan_of body new in
     let few = opening_events body new fits in
     record {
       fits = fits;
+      resources = resources;
       state = opening g;
       lawful = opens_lawfully body new law fits;
       stands = h.stands;

@@ -1,5 +1,10 @@
 -- A unit of a kernel is a step from a lawful state to a lawful state, and keeps what holds of every kernel.
-use Rattle.std.proofs.Common.{ℕ, ◌+◌, ◌*◌, ◌≤◌, ◌≡◌, [], refl, ap, subst, arith}
+use Rattle.std.proofs.Common.{ℕ, ◌+◌, ◌*◌, ◌≤◌, ◌<◌, ◌≡◌, List, [], length, refl, sym, ap, ◌∙◌, subst, arith}
+use Rattle.sim_machine.specs.Measures.{measure_at}
+use Rattle.sim_shared_law.proofs.Shown.KeptMeasures.{measures_kept}
+use Rattle.sim_shared_law.proofs.Shown.ShownMeasures.{room_changes_nothing}
+use Rattle.sim_shared_model.specs.Measuring.{ChangesOnlyAt}
+use Rattle.sim_shared_model.specs.SharedOf.{SharedOf, IsSameButRoom}
 use Rattle.sim_machine.specs.State.{State}
 use Rattle.sim_machine.specs.Bodies.{BodyOf}
 use Rattle.sim_machine.specs.Setups.{FitsCode}
@@ -13,7 +18,7 @@ use Rattle.sim_steps_model.specs.StandsFor.{Balances, StandsFor, StandsForSome, 
 use Rattle.sim_steps_model.specs.Becoming.{AreFew, Moves, most_held}
 use Rattle.sim_kernel.specs.Holding.{Holds, IsBounded, most_opened, most_made}
 use Rattle.sim_kernel.specs.Accounting.{HasAccounts}
-use Rattle.sim_kernel.specs.Stepping.{MakesStep}
+use Rattle.sim_kernel.specs.Stepping.{AreMeasuredAlike, MakesStep}
 use Rattle.sim_steps_law.proofs.Kernels.Keeping.{few_weaker}
 use Rattle.sim_steps_law.proofs.Kernels.Accounting.{opened_then}
 use Rattle.sim_steps_law.proofs.Kernels.Rooms.{roomier_balances, roomier_held, roomier_lawful, roomier_stands}
@@ -48,16 +53,35 @@ pub balance_accounts : {B Code : Type 0} (body : BodyOf B Code) (a : PartsOf B C
     HasAccounts body a s
 balance_accounts body a s needed h = record { balanced = h.holders; gone = h.gone; needed = needed }
 
+-- ---- what is measured
+
+-- it changes at these places alone, where room was made before
+pub roomier_changes : (places : List ℕ) (old mid new : SharedOf) → IsSameButRoom old mid → ChangesOnlyAt places mid new → ChangesOnlyAt places old new
+roomier_changes places old mid new room h =
+    record { others = λ at other. h.others at other ∙ (room_changes_nothing old mid room).others at refl }
+
 -- ---- the state after a unit
 
 module _ {B Code : Type 0} (body : BodyOf B Code) (old : PartsOf B Code) (fits : FitsCode (body.facts old.code) old.setup) (law : KeepsLaw body old.code) where
   stays_lawful : (s t : State B) → LawfulOf body old s → StepOf body old s t → LawfulOf body old t
   stays_lawful s t = lawful_step (plan_of body old) (body.tell old.code) (body.sound old.code) (body.turn old.code) (body.facts old.code) s t fits law
 
+  -- what is measured at a resource of the setup is what is shown there
+  alike : (places : List ℕ) (new : PartsOf B Code) (s t : State B) → old.shared.setup ≡ old.setup.resources → new.shared.setup ≡ old.setup.resources
+      → ChangesOnlyAt places old.shared new.shared → StandsFor old s → StandsFor new t → AreMeasuredAlike old.setup.resources places s t
+  alike places new s t before after changes from to =
+      record {
+        same = λ res within other.
+            subst (λ rs. measure_at rs res t.facilities ≡ measure_at rs res s.facilities) before
+            (measures_kept places old.shared new.shared s.facilities t.facilities res from.facilities to.facilities (after ∙ sym before) changes
+            (subst (λ rs. res < length rs) (sym before) within) other);
+      }
+
   -- what is kept after it is to be needed where that was so before it
-  pub unit_steps : (mid : PartsOf B Code) (answer : Unit) (new : PartsOf B Code) → KeepsButRoom old mid → Moves body mid answer new →
-      (AreNeeded old.shared.happen.events → AreNeeded new.shared.happen.events) → MakesStep body old answer new
-  unit_steps mid answer new room moves needed =
+  pub unit_steps : (places : List ℕ) (mid : PartsOf B Code) (answer : Unit) (new : PartsOf B Code) → KeepsButRoom old mid → Moves body mid answer new →
+      (AreNeeded old.shared.happen.events → AreNeeded new.shared.happen.events) → old.shared.setup ≡ old.setup.resources →
+      new.shared.setup ≡ old.setup.resources → ChangesOnlyAt places mid.shared new.shared → MakesStep body old answer places new
+  unit_steps places mid answer new room moves needed before after changes =
       record {
         each = λ s lawful stands.
             let later = moves.each s (roomier_lawful body old mid s room lawful) (roomier_stands old mid s room stands) in
@@ -71,6 +95,7 @@ module _ {B Code : Type 0} (body : BodyOf B Code) (old : PartsOf B Code) (fits :
                   let balances = roomier_balances [] old mid s room (accounts_balance body old s right) in
                   balance_accounts body new later.state (needed right.needed) (later.accounts balances);
               lines = later.lines;
+              measures = alike places new s later.state before after (roomier_changes places old.shared mid.shared new.shared room.shared changes) stands later.stands;
             };
       }
 
@@ -97,8 +122,8 @@ unit_bounded units old new s t before after a h =
 
 pub unit_holds : {B Code : Type 0} (body : BodyOf B Code) (units : ℕ) (old mid : PartsOf B Code) (answer : Unit) (new : PartsOf B Code) →
     KeepsLaw body old.code → Holds body units old → KeepsButRoom old mid → Moves body mid answer new →
-    Holds body (units + 1) new
-unit_holds body units old mid answer new law h room moves =
+    new.shared.setup ≡ old.setup.resources → Holds body (units + 1) new
+unit_holds body units old mid answer new law h room moves resources =
     let s = h.state in
     let later = moves.each s (roomier_lawful body old mid s room h.lawful) (roomier_stands old mid s room h.stands) in
     let t = later.state in
@@ -107,6 +132,7 @@ unit_holds body units old mid answer new law h room moves =
     let few : AreFew (most_held * (units + most_opened)) (held mid.shared.happen) = rw (roomier_held old mid room) h.few in
     record {
       fits = rw (opened.code, opened.setup) h.fits;
+      resources = rw opened.setup resources;
       state = t;
       lawful = opened_lawful body old new t opened (stays_lawful body old h.fits law s t h.lawful stepped);
       stands = later.stands;
@@ -123,6 +149,7 @@ roomier_holds {B} {Code} body units old mid room h =
     let processed : mid.processed ≡ old.processed = ap (λ (k : PartsOf B Code). k.processed) room.others in
     record {
       fits = rw room.others h.fits;
+      resources = room.shared.setup ∙ (h.resources ∙ ap (λ (k : PartsOf B Code). k.setup.resources) (sym room.others));
       state = h.state;
       lawful = roomier_lawful body old mid h.state room h.lawful;
       stands = roomier_stands old mid h.state room h.stands;

@@ -1,5 +1,5 @@
 -- What holds of every kernel.
-use Rattle.std.specs.Prelude.{ℕ, ◌+◌, ◌*◌, ◌≤◌, ◌^◌, [], length}
+use Rattle.std.specs.Prelude.{◌≡◌, ℕ, ◌+◌, ◌*◌, ◌≤◌, ◌^◌, [], length}
 use Rattle.sim_machine.specs.State.{State}
 use Rattle.sim_machine.specs.Bodies.{BodyOf}
 use Rattle.sim_machine.specs.Setups.{FitsCode}
@@ -21,11 +21,12 @@ pub record IsBounded {B Code : Type 0} (units : ℕ) (parts : PartsOf B Code) : 
   pub events : length parts.shared.happen.events ≤ most_opened + most_made * units
   pub processed : parts.processed ≤ units
 
--- a kernel that has made so many units was opened with a setup for its code, stands for a lawful state, for which the accounts of
--- holders balance, has bounded numbers, and each event has few holders
+-- a kernel that has made so many units was opened with a setup for its code and has the resources of that, stands for a lawful
+-- state, for which the accounts of holders balance, has bounded numbers, and each event has few holders
 pub record Holds {B Code : Type 0}
     (body : BodyOf B Code) (units : ℕ) (parts : PartsOf B Code) : Type 0 where
   pub fits : FitsCode (body.facts parts.code) parts.setup
+  pub resources : parts.shared.setup ≡ parts.setup.resources
   pub state : State B
   pub lawful : LawfulOf body parts state
   pub stands : StandsFor parts state

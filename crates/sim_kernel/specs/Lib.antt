@@ -4,3 +4,5 @@ pub mod Accounting
 pub mod Holding
 pub mod Stepping
 pub mod Arriving
+pub mod Walks
+pub mod Walking

@@ -1,6 +1,7 @@
 //! A kernel stands for a lawful state of the machine, and makes one unit of it at a time.
-ghost use Rattle.std.specs.Prelude.{◌≡◌, ◌+◌, ◌<◌, ◌≤◌, ◌^◌, length, IfOk, OnOk, OnErr};
+ghost use Rattle.std.specs.Prelude.{◌≡◌, ◌+◌, ◌<◌, ◌≤◌, ◌^◌, [], length, IfOk, OnOk, OnErr};
 ghost use Rattle.sim_machine.specs.Setups.{FitsCode};
+ghost use Rattle.sim_machine.specs.Measures.{measure_at};
 ghost use Rattle.sim_machine.specs.Runs.{opening};
 ghost use Rattle.sim_machine.specs.State.{State};
 ghost use Rattle.sim_steps_model.specs.PartsOf.{IsOpenedAs, plan_of};
@@ -14,7 +15,7 @@ ghost use Rattle.sim_kernel.specs.Stepping.{MakesSteps};
 use crate::opening::open;
 use sim_procs::Body;
 use sim_steps::{Parts, Rest, Units};
-use sim_types::{Line, Setup};
+use sim_types::{Line, Measure, Places, Setup};
 use std::alloc::{AllocError, Global};
 use std::marker::Model;
 
@@ -23,6 +24,8 @@ pub struct Kernel<B: Body> {
     parts: Parts<B>,
     /// How many units it has made.
     units: u64,
+    /// The places of the resources that the last units may have changed.
+    touched: Places,
 }
 
 impl<B: Body> Model for Kernel<B> {
@@ -31,7 +34,11 @@ impl<B: Body> Model for Kernel<B> {
 
     ghost Value = { KernelOf B B.Code };
 
-    ghost view = { λ a. record { parts = a.parts; units = a.units } };
+    ghost view = { λ a. record {
+      parts = a.parts;
+      units = a.units;
+      touched = a.touched;
+    } };
 
     ghost invariant = { λ a. Holds B.body a.units a.parts };
 }
@@ -50,6 +57,7 @@ impl<B: Body> Kernel<B> {
         ensures setup { IfOk result (λ k. k.parts.setup ≡ setup.now) }
         ensures seed { IfOk result (λ k. k.parts.seed ≡ seed) }
         ensures units { IfOk result (λ k. k.units ≡ 0) }
+        ensures touched { IfOk result (λ k. k.touched ≡ []) }
         ensures stands { IfOk result (λ k. StandsForOpening B.body k.parts) }
         ensures lawful { IfOk result (λ k. IsLawfulOpening B.body k.parts) }
         ensures accounts { IfOk result
@@ -59,7 +67,11 @@ impl<B: Body> Kernel<B> {
         match open(&mut parts, code, setup) {
             Ok(()) => {
                 let _kept = parts.slots();
-                Ok(Kernel { parts, units: 0 })
+                Ok(Kernel {
+                    parts,
+                    units: 0,
+                    touched: Places::new(),
+                })
             }
             Err(AllocError) => {
                 parts.abandon();
@@ -87,14 +99,15 @@ impl<B: Body> Kernel<B> {
         ensures most { IfOk result (λ units. units.made ≤ most) }
         // From each lawful state that it stood for, and by the invariant there is one.
         ensures steps { IfOk result (λ units. MakesSteps B.body units.made
-            self.old.parts units.last self.new.parts) }
+            self.old.parts units.last self.new.touched self.new.parts) }
 
         ensures opened { OnOk result (IsOpenedAs self.old.parts self.new.parts) }
         ensures units { IfOk result (λ units. self.new.units ≡ self.old.units + units.made) }
         ensures err { OnErr result (IsAsBefore self.old self.new) }
     {
         self.parts.reserve_for_next(code)?;
-        let units = self.parts.units(code, most);
+        self.touched.clear();
+        let units = self.parts.units(code, most, &mut self.touched);
         let _kept = self.parts.slots();
         self.units += u64::from(units.made);
         Ok(units)
@@ -113,6 +126,7 @@ impl<B: Body> Kernel<B> {
 
         ensures opened { OnOk result (IsOpenedAs self.old.parts self.new.parts) }
         ensures units { OnOk result (self.new.units ≡ self.old.units + 1) }
+        ensures touched { OnOk result (self.new.touched ≡ []) }
         ensures err { OnErr result (IsAsBefore self.old self.new) }
     {
         let parts = &mut self.parts;
@@ -120,7 +134,31 @@ impl<B: Body> Kernel<B> {
         let line = parts.arrive(code, port, value);
         let _kept = parts.slots();
         self.units += 1;
+        self.touched.clear();
         Ok(line)
+    }
+
+    /// The places of the resources at which the last units in a row, or the last arrival, may have changed what is measured.
+    pub fn touched(&self) -> &[u32]
+        ensures { result.now ≡ self.now.touched }
+    {
+        self.touched.as_slice()
+    }
+
+    /// How much waits at a resource and is held there, in the state that the kernel stands for.
+    pub fn measure(&self, res: u32) -> Measure
+        requires res { res < length self.now.parts.setup.resources }
+        ensures measure { (s : State B) → StandsFor self.now.parts s →
+            result ≡ measure_at self.now.parts.setup.resources res s.facilities }
+    {
+        self.parts.measure(res)
+    }
+
+    /// How many units were made.
+    pub(crate) fn made(&self) -> u64
+        ensures { result ≡ self.now.units }
+    {
+        self.units
     }
 
     /// How many events are kept, each of which has a slot in memory. They are just those that the machine keeps in the state
@@ -152,7 +190,11 @@ impl<B: Body> Kernel<B> {
         ensures time { result.0 ≡ self.parts.shared.happen.time }
         ensures processed { result.1 ≡ self.parts.processed }
     {
-        let Kernel { parts, units: _ } = self;
+        let Kernel {
+            parts,
+            units: _,
+            touched: _,
+        } = self;
         let time = parts.now();
         let processed = parts.processed();
         parts.abandon();

@@ -3,6 +3,8 @@
 
 mod kernel;
 mod opening;
+mod walk;
 
 pub use kernel::Kernel;
 pub use sim_steps::{Rest, Unit, Units};
+pub use walk::Walk;

@@ -4,4 +4,5 @@ pub mod FittingTexts
 pub mod ReadTexts
 pub mod WellFormedTexts
 pub mod WellFormedParts
+pub mod SetupParts
 pub mod PostsOfScenarios

@@ -1,4 +1,5 @@
 -- Lawful states: steps and runs.
 pub mod MadeEvents
+pub mod PassingTime
 pub mod WholeSteps
 pub mod WholeRuns

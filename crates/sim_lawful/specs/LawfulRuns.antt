@@ -2,6 +2,7 @@
 -- what happens, and not what stays true.)
 use Rattle.std.specs.Prelude.{◌≡◌, ◌<◌, ◌≤ℤ◌, ℕ, ℤ, pos, List, length, All}
 use Rattle.sim_types.specs.declared.event.Signal.{Signal}
+use Rattle.sim_types.specs.Setups.{HavePorts}
 use Rattle.sim_types.specs.declared.setup.Arrival.{Arrival}
 use Rattle.sim_types.specs.declared.setup.Resource.{Resource}
 use Rattle.sim_machine.specs.State.{Deed, State, Plan}
@@ -41,15 +42,11 @@ ArrivesLawful body code g =
 abbrev pub IsAmong : {B : Type 0} → TurnFunction B → Turn B → Type 0
 IsAmong does turn = (b : _) (time : ℤ) (told : Signal) → turn b time told (does b time told).0 (does b time told).1
 
--- all arrivals come in by ports that there are
-abbrev pub HavePorts : {B : Type 0} → Plan B → List Arrival → Type 0
-HavePorts g journal = All (λ a. a.port < length g.setup.ports) journal
-
 -- a run of such a plan, whose turns are among those of the bodies, and whose arrivals come in by ports that there are
 pub record IsRunOf {B Code : Type 0} (body : BodyOf B Code) (code : Code) (r : Run B) : Type 0 where
   pub plan : IsPlanOf body code r.plan
   pub turns : IsAmong r.turn (body.turn code)
-  pub ports : HavePorts r.plan r.journal
+  pub ports : HavePorts r.plan.setup r.journal
 
 -- each state that the run comes to is lawful
 abbrev pub StaysLawful : {B Code : Type 0} → BodyOf B Code → Code → Run B → Type 0

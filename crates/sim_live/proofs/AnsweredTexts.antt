@@ -27,7 +27,7 @@ use Rattle.sim_trace.specs.Texts.{fault_text}
 use Rattle.sim_engine.specs.declared.fault.EngineFault.{EngineFault}
 use Rattle.sim_engine.specs.declared.fault.EngineFault.TheVariants as fault
 use Rattle.sim_engine.specs.EngineFaults.{is_write}
-use Rattle.sim_engine.specs.Rounds.{HavePorts}
+use Rattle.sim_types.specs.Setups.{HavePorts}
 use Rattle.sim_engine.proofs.InOrder.{in_order}
 use Rattle.sim_live.specs.Journals.{KeepsFronts, KeepsSections, post_of}
 use Rattle.sim_live.specs.LiveAnswers.{Answers, AnswersPrefix, AnswersText, AnswersWhole, BeginsText}
@@ -84,7 +84,7 @@ module _ (read : Result ScenarioOf Fault) (limit : ℕ) (a m b : SinkOf) (told :
 
 -- ---- the text that was read
 
-ports_of : (s : ScenarioOf) (journal : List Arrival) → IsTrue (is_well_formed s) → KeepsSections s journal → HavePorts s journal
+ports_of : (s : ScenarioOf) (journal : List Arrival) → IsTrue (is_well_formed s) → KeepsSections s journal → HavePorts s.setup journal
 ports_of s journal well h =
     All-from_get_or (λ x. x.port < length s.setup.ports) journal none
     (λ i below.

@@ -16,6 +16,7 @@ pub mod Effect
 pub mod Steps
 pub mod Units
 pub mod Runs
+pub mod Measures
 pub mod Tellings
 pub mod MayFollow
 pub mod MayAsk

@@ -132,6 +132,13 @@ impl Desk {
         self.users.len() as u32
     }
 
+    /// How many requests wait (the length of SimPy's Resource.queue).
+    pub fn waiting(&self) -> u64
+        ensures { result ≡ length self.now.queue }
+    {
+        self.queue.len() as u64
+    }
+
     // The next to be served.
     fn first(&self) -> Option<WaitingRequest>
         ensures { result ≡ first_of_list self.now.queue }

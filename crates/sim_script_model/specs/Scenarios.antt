@@ -1,12 +1,15 @@
 -- The run of a scenario: its setup, its scripts and the random words of a seed, put into the machine.
-use Rattle.std.specs.Prelude.{ℕ, zero, suc, ◌+◌, ◌%◌, ◌^◌, List, [], ◌∷◌}
+use Rattle.std.specs.Prelude.{ℕ, zero, suc, ◌+◌, ◌%◌, ◌^◌, List, [], ◌∷◌, length, map}
+use Rattle.std.specs.List.{range_with_len}
 use Rattle.sim_types.specs.Scenarios.{ScenarioOf}
 use Rattle.sim_types.specs.declared.setup.Arrival.{Arrival}
 use Rattle.sim_types.specs.declared.line.Line.{Line}
 use Rattle.sim_types.specs.declared.line.Summary.{Summary}
+use Rattle.sim_types.specs.declared.line.WatchRow.{WatchRow}
 use Rattle.sim_machine.specs.State.{Plan}
 use Rattle.sim_machine.specs.Units.{Course}
-use Rattle.sim_machine.specs.Runs.{run, trace_of, summary_of}
+use Rattle.sim_machine.specs.Runs.{run, units_made, trace_of, summary_of}
+use Rattle.sim_machine.specs.Measures.{watched}
 use Rattle.sim_machine.specs.RandomWords.{word_of}
 use Rattle.sim_script_model.specs.Scripts.{Script, script_start}
 use Rattle.sim_script_model.specs.Polls.{script_turn}
@@ -40,3 +43,16 @@ abbrev pub replications : ScenarioOf → ℕ → ℕ → ℕ → List Summary
 replications x limit from zero = []
 replications x limit from (suc count) =
     summary x ((x.seed + from) % 2 ^ 64) x.journal limit ∷ replications x limit (from + 1) count
+
+-- ---- a run that is watched
+
+-- what is told of the resource at a place over so many units of a run with the words of a seed
+abbrev pub watch_row : ScenarioOf → ℕ → List Arrival → ℕ → ℕ → WatchRow
+watch_row x seed journal units res =
+    watched x.setup.resources res (λ i. (run_with x (word_of seed) journal i).state.facilities) units
+
+-- what is told of each resource, by its place, over the units that a run with the words of a seed makes, of so many at most
+abbrev pub watch_rows : ScenarioOf → ℕ → List Arrival → ℕ → List WatchRow
+watch_rows x seed journal limit =
+    map (watch_row x seed journal (units_made (plan_with x (word_of seed)) (script_turn x.code) journal limit))
+    (range_with_len 0 (length x.setup.resources))

@@ -1,5 +1,5 @@
 -- Resources as they open, one after another.
-use Rattle.std.proofs.Common.{rules, ◌≡◌, ℕ, zero, suc, ◌+◌, ◌<◌, pos, List, [], ◌∷◌, ◌++◌, length, refl, sym, subst, ap, ◌∙◌, Some, None, map, slice_get, take, arith}
+use Rattle.std.proofs.Common.{rules, ◌≡◌, ℕ, zero, suc, ◌+◌, ◌<◌, ◌^◌, pos, List, [], ◌∷◌, ◌++◌, length, refl, sym, subst, ap, ◌∙◌, Some, None, map, slice_get, take, arith}
 use Rattle.std.specs.List.{AllPass}
 use Rattle.std.proofs.lemmas.Option.{none-some, same_Some}
 use Rattle.std.proofs.lemmas.List.{map-append}
@@ -56,10 +56,12 @@ opened_all i rs xs all h = record {
 
 -- ---- what is kept and shown of them
 
-pub sound_opened : (xs : List SharedResource) (rs : List Resource) → AllPass resource_fits rs → AreOpened rs xs → IsSoundShared None xs rs
-sound_opened xs rs fit h = record {
+pub sound_opened : (xs : List SharedResource) (rs : List Resource) → AllPass resource_fits rs → length rs < 2 ^ 32 → AreOpened rs xs
+    → IsSoundShared None xs rs
+sound_opened xs rs fit few h = record {
   opened = h.declared;
   fit = fit;
+  few = few;
   places = record { within = tt; others = λ n x found unused. (h.each n x found).place };
 }
 

@@ -1,5 +1,5 @@
 //! How the requests at a desk are tried (SimPy's Resource and PreemptiveResource).
-ghost use Rattle.std.specs.Prelude.{◌≡◌, ◌<◌, ◌^◌, length, IsTrue};
+ghost use Rattle.std.specs.Prelude.{◌≡◌, ◌<◌, ◌^◌, [], ◌∷◌, length, IsTrue};
 ghost use Rattle.sim_types.specs.declared.event.EventId.{EventId};
 ghost use Rattle.sim_machine.specs.MayAsk.{takes_requests};
 ghost use Rattle.sim_machine.specs.Triggering as triggering;
@@ -10,6 +10,7 @@ ghost use Rattle.sim_happen_model.specs.Changes.{more_events, more_callbacks};
 ghost use Rattle.sim_happen_model.specs.HappenOf.{IsOpen, unheld_event};
 ghost use Rattle.sim_shared_model.specs.Granting.{TriesDesk, interrupted_for, preempted_since};
 ghost use Rattle.sim_shared_model.specs.Making.{MakesAll};
+ghost use Rattle.sim_shared_model.specs.Measuring.{ChangesOnlyAt};
 ghost use Rattle.sim_shared_model.specs.ShowsAll.{TurnsAll};
 ghost use Rattle.sim_shared_model.specs.Waiting.{AreAllOpen};
 
@@ -80,6 +81,7 @@ impl Shared {
         requires number { length self.old.happen.events < 2 ^ 62 }
         ensures tried { MakesAll 1 (trying.try_put self.old.setup res) self.old self.new }
         ensures used { self.new.used ≡ self.old.used }
+        ensures touched { ChangesOnlyAt (res ∷ []) self.old self.new }
     {
         match self.try_first(res) {
             Grant::None => {}

@@ -1,5 +1,5 @@
 //! How requests, puts and gets are made: each joins its queue and is tried (SimPy's "Shared resources").
-ghost use Rattle.std.specs.Prelude.{◌≡◌, ◌↔◌, ◌+◌, ◌<◌, ◌≤◌, ◌^◌, ◌<ℤ◌, pos, length, Some, None, IsErr, IsFalse, IsTrue, IfOk, OnOk, OnErr};
+ghost use Rattle.std.specs.Prelude.{◌≡◌, ◌↔◌, ◌+◌, ◌<◌, ◌≤◌, ◌^◌, [], ◌∷◌, ◌<ℤ◌, pos, length, Some, None, IsErr, IsFalse, IsTrue, IfOk, OnOk, OnErr};
 ghost use Rattle.sim_types.specs.declared.event.EventKind.TheVariants as kinds;
 ghost use Rattle.sim_types.specs.declared.event.Callback.TheVariants as callbacks;
 ghost use Rattle.sim_machine.specs.State.{Slot, Give, Take, Waiter, Facilities};
@@ -11,6 +11,7 @@ ghost use Rattle.sim_happen_model.specs.Changes.{more_events, more_callbacks};
 ghost use Rattle.sim_happen_model.specs.HappenOf.{unheld_event};
 ghost use Rattle.sim_shared_model.specs.Joining.{IsAbsent, IsJoinedAt};
 ghost use Rattle.sim_shared_model.specs.Making.{MakesAll, ShowsSome};
+ghost use Rattle.sim_shared_model.specs.Measuring.{ChangesOnlyAt};
 ghost use Rattle.sim_shared_model.specs.ShowsAll.{ShowsAll, TurnsAll};
 ghost use Rattle.sim_shared_model.specs.Waiting.{AreAllOpen};
 
@@ -113,6 +114,7 @@ impl Shared {
         ensures made { length self.new.happen.events ≡ length self.old.happen.events + 1 }
         ensures spare { more_events 1 (more_callbacks 1 self.new.happen.spare)
             ≡ self.old.happen.spare }
+        ensures touched { ChangesOnlyAt (res ∷ []) self.old self.new }
     {
         let key = self.request_key(res, priority, preempts);
         let event = self.make(EventKind::Request, Callback::TryGet(res));
@@ -140,6 +142,7 @@ impl Shared {
         ensures made { length self.new.happen.events ≡ length self.old.happen.events + 1 }
         ensures spare { more_events 1 (more_callbacks 1 self.new.happen.spare)
             ≡ self.old.happen.spare }
+        ensures touched { ChangesOnlyAt (res ∷ []) self.old self.new }
     {
         let event = self.make(EventKind::Put, Callback::TryGet(res));
         self.queue_put(res, event, amount, priority);
@@ -165,6 +168,7 @@ impl Shared {
         ensures used { self.new.used ≡ Some res }
         ensures spare { more_events 1 (more_callbacks 1 self.new.happen.spare)
             ≡ self.old.happen.spare }
+        ensures touched { ChangesOnlyAt (res ∷ []) self.old self.new }
     {
         let event = self.make(EventKind::Get, Callback::TryPut(res));
         self.queue_get(res, event, least, greatest);
@@ -196,6 +200,7 @@ impl Shared {
             self.old self.new) }
         ensures used { OnOk result (self.new.used ≡ Some res) }
         ensures err { OnErr result (self.new ≡ self.old) }
+        ensures touched { ChangesOnlyAt (res ∷ []) self.old self.new }
     {
         if self.is_own_victim(res, process, priority, preempts) {
             return Err(OwnVictim);
@@ -223,6 +228,7 @@ impl Shared {
             (requests.make_put self.old.setup res amount priority) self.old self.new) }
         ensures used { OnOk result (self.new.used ≡ Some res) }
         ensures err { OnErr result (self.new ≡ self.old) }
+        ensures touched { ChangesOnlyAt (res ∷ []) self.old self.new }
     {
         if self.is_refused_amount(res, amount) {
             return Err(NotPositive);
@@ -250,6 +256,7 @@ impl Shared {
             (requests.make_get self.old.setup res least greatest) self.old self.new) }
         ensures used { OnOk result (self.new.used ≡ Some res) }
         ensures err { OnErr result (self.new ≡ self.old) }
+        ensures touched { ChangesOnlyAt (res ∷ []) self.old self.new }
     {
         if self.is_refused_amount(res, least) {
             return Err(NotPositive);

@@ -1,5 +1,6 @@
 //! How events leave their queues, and requests their slots (SimPy's cancel, release, and the end of `with`).
-ghost use Rattle.std.specs.Prelude.{◌≡◌, ◌↔◌, ◌<◌, ◌≤◌, ◌^◌, ℕ, length, slice_get, Some, IsFalse, IsTrue};
+ghost use Rattle.std.specs.Prelude.{◌≡◌, ◌↔◌, ◌<◌, ◌≤◌, ◌^◌, [], ◌∷◌, ℕ, length, slice_get, Some, IfNone, IfSome, IsFalse, IsTrue};
+ghost use Rattle.std.specs.Option.{is_some};
 ghost use Rattle.sim_machine.specs.State.{Facilities};
 ghost use Rattle.sim_machine.specs.Requests as requests;
 ghost use Rattle.sim_machine.specs.MayAsk.{takes_requests};
@@ -7,8 +8,9 @@ ghost use Rattle.sim_machine.specs.Users.{resource_at};
 ghost use Rattle.sim_happen_model.specs.TableOf.{IsKept, kept_at};
 ghost use Rattle.sim_happen_model.specs.Changes.{more_events, more_callbacks};
 ghost use Rattle.sim_happen_model.specs.HappenOf.{IsOpen, KeepsRoom, gone_if_unheld, unheld_event};
+ghost use Rattle.sim_shared_model.specs.Measuring.{ChangesOnlyAt};
 ghost use Rattle.sim_shared_model.specs.ShowsAll.{ShowsAll, FollowsAll, TurnsAll};
-ghost use Rattle.sim_shared_model.specs.Waiting.{AreAllOpen, LeavesRoom, WaitsAtMostAt, gone_if_waits, waits_anywhere, waits_in};
+ghost use Rattle.sim_shared_model.specs.Waiting.{AreAllOpen, IsWaitingAt, LeavesRoom, WaitsAtMostAt, gone_if_waits, waits_anywhere, waits_in};
 ghost use Rattle.sim_shared.specs.Naming.{tried_by, tried_by_first};
 
 use crate::resource::{cancel, release};
@@ -45,6 +47,7 @@ impl Shared {
         ensures never_less { self.old.happen.spare.events ≤ self.new.happen.spare.events }
         ensures made { length self.new.happen.events ≡ length self.old.happen.events }
         ensures setup { self.new.setup ≡ self.old.setup }
+        ensures touched { ChangesOnlyAt (at ∷ []) self.old self.new }
     {
         if !cancel(&mut self.resources[at], event) {
             return false;
@@ -53,26 +56,28 @@ impl Shared {
         true
     }
 
-    // The event is cancelled wherever it waits: each resource is searched until it is found. The answer is whether it
-    // waited.
-    fn cancel_anywhere(&mut self, event: EventId) -> bool
+    // The event is cancelled wherever it waits: each resource is searched until it is found. The answer is the place where
+    // it waited.
+    fn cancel_anywhere(&mut self, event: EventId) -> Option<u32>
         requires open { AreAllOpen self.old }
-        ensures waited { result ≡ waits_anywhere event self.old.resources }
+        ensures waited { is_some result ≡ waits_anywhere event self.old.resources }
+        ensures place { IfSome result (λ at. IsWaitingAt event at self.old) }
         ensures shown { (f : Facilities) → ShowsAll self.old f →
-            result ≡ requests.waits event f }
-        ensures cancelled { TurnsAll (requests.cancel event) (gone_if_waits result event)
-            self.old self.new }
-        ensures same { IsFalse result → self.new ≡ self.old }
+            is_some result ≡ requests.waits event f }
+        ensures cancelled { TurnsAll (requests.cancel event)
+            (gone_if_waits (is_some result) event) self.old self.new }
+        ensures same { IfNone result (self.new ≡ self.old) }
         ensures used { self.new.used ≡ self.old.used }
         ensures room { KeepsRoom self.old.happen self.new.happen }
         ensures never_less { self.old.happen.spare.events ≤ self.new.happen.spare.events }
+        ensures touched { IfSome result (λ at. ChangesOnlyAt (at ∷ []) self.old self.new) }
     {
         for at in 0..self.resources.len() {
             if self.cancel_at(at, event) {
-                return true;
+                return Some(at as u32);
             }
         }
-        false
+        None
     }
 
     // Whether the event is kept and pending and was not cancelled.
@@ -109,6 +114,7 @@ impl Shared {
         ensures never_less { self.old.happen.spare.events ≤ self.new.happen.spare.events }
         ensures made { length self.new.happen.events ≡ length self.old.happen.events }
         ensures setup { self.new.setup ≡ self.old.setup }
+        ensures touched { ChangesOnlyAt (at ∷ []) self.old self.new }
     {
         if !self.is_open(event) {
             return false;
@@ -116,33 +122,62 @@ impl Shared {
         self.cancel_at(at, event)
     }
 
-    // Where the event waits at the resource that its first callback names, it is cancelled. The answer is whether it did.
-    fn cancel_named(&mut self, event: EventId) -> bool
+    // Where the event waits at the resource that its first callback names, it is cancelled. The answer is the place of that
+    // resource.
+    fn cancel_named(&mut self, event: EventId) -> Option<u32>
         requires open { AreAllOpen self.old }
         requires kept { IsKept self.old.happen.events event }
         ensures here { (res : ℕ) →
             tried_by_first (kept_at self.old.happen.events event).callbacks ≡ Some res →
-            result ≡ waits_in event (slice_get self.old.resources res) }
-        ensures waited { IsTrue result → IsTrue (waits_anywhere event self.old.resources) }
-        ensures cancelled { IsTrue result →
+            is_some result ≡ waits_in event (slice_get self.old.resources res) }
+        ensures waited { IsTrue (is_some result) →
+            IsTrue (waits_anywhere event self.old.resources) }
+        ensures place { IfSome result (λ at. IsWaitingAt event at self.old) }
+        ensures cancelled { IsTrue (is_some result) →
             TurnsAll (requests.cancel event) (gone_if_unheld event) self.old self.new }
-        ensures same { IsFalse result → self.new ≡ self.old }
+        ensures same { IfNone result (self.new ≡ self.old) }
         ensures used { self.new.used ≡ self.old.used }
         ensures room { KeepsRoom self.old.happen self.new.happen }
         ensures never_less { self.old.happen.spare.events ≤ self.new.happen.spare.events }
+        ensures touched { IfSome result (λ at. ChangesOnlyAt (at ∷ []) self.old self.new) }
     {
-        let Some(res) = self.named_resource(event) else {
-            return false;
-        };
+        let res = self.named_resource(event)?;
         let at = res as usize;
         if at >= self.resources.len() {
-            return false;
+            return None;
         }
-        self.cancel_at(at, event)
+        if self.cancel_at(at, event) {
+            return Some(res);
+        }
+        None
     }
 
-    /// Takes an event out of its queue, and nothing is tried (SimPy's cancel). The answer is whether it waited. What waits
-    /// is open, and its first callback names the resource, so no other is searched.
+    /// Takes an event out of its queue, and nothing is tried (SimPy's cancel). The answer is the place of the resource
+    /// where it waited. What waits is open, and its first callback names the resource, so no other is searched.
+    pub fn take_out(&mut self, event: EventId) -> Option<u32>
+        requires open { AreAllOpen self.old }
+        ensures waited { is_some result ≡ waits_anywhere event self.old.resources }
+        ensures place { IfSome result (λ at. IsWaitingAt event at self.old) }
+        ensures shown { (f : Facilities) → ShowsAll self.old f →
+            is_some result ≡ requests.waits event f }
+        ensures cancelled { TurnsAll (requests.cancel event)
+            (gone_if_waits (is_some result) event) self.old self.new }
+        ensures same { IfNone result (self.new ≡ self.old) }
+        ensures used { self.new.used ≡ self.old.used }
+        ensures room { KeepsRoom self.old.happen self.new.happen }
+        ensures never_less { self.old.happen.spare.events ≤ self.new.happen.spare.events }
+        ensures touched { IfSome result (λ at. ChangesOnlyAt (at ∷ []) self.old self.new) }
+    {
+        if !self.is_open(event) {
+            return None;
+        }
+        if let Some(at) = self.cancel_named(event) {
+            return Some(at);
+        }
+        self.cancel_anywhere(event)
+    }
+
+    /// Takes an event out of its queue, and nothing is tried (SimPy's cancel). The answer is whether it waited.
     pub fn cancel(&mut self, event: EventId) -> bool
         requires open { AreAllOpen self.old }
         ensures waited { result ≡ waits_anywhere event self.old.resources }
@@ -155,13 +190,7 @@ impl Shared {
         ensures room { KeepsRoom self.old.happen self.new.happen }
         ensures never_less { self.old.happen.spare.events ≤ self.new.happen.spare.events }
     {
-        if !self.is_open(event) {
-            return false;
-        }
-        if self.cancel_named(event) {
-            return true;
-        }
-        self.cancel_anywhere(event)
+        self.take_out(event).is_some()
     }
 
     // The request is a user no longer, where it is one.
@@ -171,6 +200,7 @@ impl Shared {
         ensures follows { FollowsAll (requests.end_use res request) self.old self.new }
         ensures happen { self.new.happen ≡ self.old.happen }
         ensures used { self.new.used ≡ self.old.used }
+        ensures touched { ChangesOnlyAt (res ∷ []) self.old self.new }
     {
         release(&mut self.resources[res as usize], request);
     }
@@ -190,6 +220,7 @@ impl Shared {
         ensures used { self.new.used ≡ self.old.used }
         ensures spare { more_events 1 (more_callbacks 1 self.new.happen.spare)
             ≡ self.old.happen.spare }
+        ensures touched { ChangesOnlyAt (res ∷ []) self.old self.new }
     {
         let event = self.make(EventKind::Release, Callback::TryPut(res));
         self.end_use(res, request);
@@ -213,6 +244,7 @@ impl Shared {
             (λ hs. unheld_event (gone_if_waits waited request hs)) self.old self.new }
         ensures used { self.new.used ≡ self.old.used }
         ensures room { LeavesRoom self.old.happen self.new.happen }
+        ensures touched { ChangesOnlyAt (res ∷ []) self.old self.new }
     {
         let _waited = self.cancel_open_at(res as usize, request);
         self.release(res, request)

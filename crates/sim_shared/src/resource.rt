@@ -1,6 +1,7 @@
 //! A resource of any kind, and what can be done at each.
 ghost use Rattle.std.specs.Prelude.{◌≡◌, ◌≤ℤ◌, IsFalse, IsOk, OnOk};
 ghost use Rattle.sim_types.specs.Limits.{most_level};
+ghost use Rattle.sim_shared_model.specs.Measuring.{gets_waiting, measure_of, puts_waiting};
 ghost use Rattle.sim_shared_model.specs.Resources.{HasPlace, count_at, declared_as, without_room};
 ghost use Rattle.sim_shared_model.specs.Waiting.{besides_at, waits_at};
 ghost use Rattle.sim_shared_model.specs.Using.{released_at, uses_at};
@@ -8,7 +9,7 @@ ghost use Rattle.sim_shared_model.specs.Using.{released_at, uses_at};
 use sim_resource::Desk;
 use sim_shared_model::AnyResource;
 use sim_stores::{Shelf, Tank};
-use sim_types::EventId;
+use sim_types::{EventId, Measure};
 use std::alloc::AllocError;
 
 /// A resource of any kind, as the code keeps it.
@@ -65,5 +66,30 @@ pub(crate) fn count(resource: &SharedResource) -> i64
         SharedResource::Desk(desk) => desk.count() as i64,
         SharedResource::Tank(tank) => tank.level(),
         SharedResource::Shelf(shelf) => shelf.len() as i64,
+    }
+}
+
+// How many requests or puts wait at it, and how many gets. Nobody gets at a desk.
+fn waiting(resource: &SharedResource) -> (u64, u64)
+    ensures puts { result.0 ≡ puts_waiting resource.now }
+    ensures gets { result.1 ≡ gets_waiting resource.now }
+{
+    match resource {
+        SharedResource::Desk(desk) => (desk.waiting(), 0),
+        SharedResource::Tank(tank) => tank.waiting(),
+        SharedResource::Shelf(shelf) => shelf.waiting(),
+    }
+}
+
+/// What is measured at it now.
+pub(crate) fn measure(resource: &SharedResource) -> Measure
+    requires { (declared_as resource.now).capacity ≤ℤ most_level }
+    ensures { result ≡ measure_of resource.now }
+{
+    let (puts, gets) = waiting(resource);
+    Measure {
+        puts,
+        gets,
+        held: count(resource),
     }
 }

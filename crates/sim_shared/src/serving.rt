@@ -1,10 +1,11 @@
 //! How puts and gets at containers and stores are tried (SimPy's Container and Store).
-ghost use Rattle.std.specs.Prelude.{◌≡◌, ◌+◌, ◌<◌, ℕ, length, slice_get, Some, IfSome, IsFalse, IsTrue};
+ghost use Rattle.std.specs.Prelude.{◌≡◌, ◌+◌, ◌<◌, [], ◌∷◌, ℕ, length, slice_get, Some, IfSome, IsFalse, IsTrue};
 ghost use Rattle.sim_machine.specs.MayAsk.{takes_requests};
 ghost use Rattle.sim_machine.specs.Trying as trying;
 ghost use Rattle.sim_machine.specs.Users.{resource_at};
 ghost use Rattle.sim_shared_model.specs.StoreQueues.{AllDiffer};
 ghost use Rattle.sim_shared_model.specs.AnyShared.{SharedResource};
+ghost use Rattle.sim_shared_model.specs.Measuring.{ChangesOnlyAt};
 ghost use Rattle.sim_shared_model.specs.Resources.{waiting_at};
 ghost use Rattle.sim_shared_model.specs.Serving.{TriesAt, TriesPut, TriesGet, puts_go_on, store_goes_on, gets_go_on, DoesPartOrAll, AreOpenAt, count_waiting_at};
 ghost use Rattle.sim_shared_model.specs.ShowsAll.{FollowsAll};
@@ -131,6 +132,7 @@ impl Shared {
         ensures spare { self.new.happen.spare ≡ self.old.happen.spare }
         ensures used { self.new.used ≡ self.old.used }
         ensures setup { self.new.setup ≡ self.old.setup }
+        ensures touched { ChangesOnlyAt (res ∷ []) self.old self.new }
     {
         match self.serve_put(res) {
             None => false,
@@ -153,6 +155,7 @@ impl Shared {
         ensures spare { self.new.happen.spare ≡ self.old.happen.spare }
         ensures used { self.new.used ≡ self.old.used }
         ensures setup { self.new.setup ≡ self.old.setup }
+        ensures touched { ChangesOnlyAt (res ∷ []) self.old self.new }
     {
         match self.serve_get(res) {
             None => false,
@@ -172,6 +175,7 @@ impl Shared {
         ensures tried { FollowsAll (trying.try_put self.old.setup res) self.old self.new }
         ensures spare { self.new.happen.spare ≡ self.old.happen.spare }
         ensures used { self.new.used ≡ self.old.used }
+        ensures touched { ChangesOnlyAt (res ∷ []) self.old self.new }
     {
         'puts: while self.try_one_put(res) {}
     }
@@ -184,6 +188,7 @@ impl Shared {
         ensures tried { FollowsAll (trying.try_get self.old.setup res) self.old self.new }
         ensures spare { self.new.happen.spare ≡ self.old.happen.spare }
         ensures used { self.new.used ≡ self.old.used }
+        ensures touched { ChangesOnlyAt (res ∷ []) self.old self.new }
     {
         'gets: while self.try_one_get(res) {}
     }

@@ -3,18 +3,20 @@ ghost use Rattle.std.specs.Prelude.{◌≡◌, ◌↔◌, ◌≤◌, ◌<◌, �
 ghost use Rattle.std.specs.List.{AllPass};
 ghost use Rattle.sim_types.specs.Setups.{resource_fits};
 ghost use Rattle.sim_machine.specs.State.{Facilities};
+ghost use Rattle.sim_machine.specs.Measures.{measure_at};
 ghost use Rattle.sim_machine.specs.Requests as requests;
 ghost use Rattle.sim_happen_model.specs.HappenOf.{held};
 ghost use Rattle.sim_shared_model.specs.AnyShared.{SharedResource};
+ghost use Rattle.sim_shared_model.specs.Measuring.{measure_of};
 ghost use Rattle.sim_shared_model.specs.Resources.{count_at};
 ghost use Rattle.sim_shared_model.specs.SharedOf.{IsSameButRoom};
 ghost use Rattle.sim_shared_model.specs.ShowsAll.{ShowsAll};
 ghost use Rattle.sim_shared.specs.Opening.{first_facilities};
 
 use crate::opening::open_all;
-use crate::resource::{SharedResource, count, reserve};
+use crate::resource::{SharedResource, count, measure, reserve};
 use sim_happen::Happen;
-use sim_types::{List, Resource};
+use sim_types::{List, Measure, Resource};
 use std::alloc::{AllocError, Global};
 use std::marker::Model;
 use std::snapshot::Snapshot;
@@ -65,6 +67,7 @@ impl Shared {
     /// Time 0, at which nothing is scheduled, and all of these resources as they open. Each has room for one to wait.
     pub fn new(alloc: Global, resources: &List<Resource>) -> Result<Shared, AllocError>
         requires fit { AllPass resource_fits resources.now }
+        requires few { length resources.now < 2 ^ 32 }
         ensures shows { IfOk result (λ h. ShowsAll h first_facilities) }
         ensures held { IfOk result (λ h. held h.happen ≡ Some 1 ∷ []) }
         ensures left { IfOk result (λ h. h.happen.left ≡ []) }
@@ -170,5 +173,17 @@ impl Shared {
             result ≡ requests.held self.now.setup res f }
     {
         count(&self.resources[res as usize])
+    }
+
+    /// What is measured at a resource now: how many requests or puts wait, how many gets, and how much is in use of it, or
+    /// stands in it.
+    pub fn measure(&self, res: u32) -> Measure
+        requires res { res < length self.now.setup }
+        ensures value { (x : SharedResource) →
+            slice_get self.now.resources res ≡ Some x → result ≡ measure_of x }
+        ensures shown { (f : Facilities) → ShowsAll self.now f →
+            result ≡ measure_at self.now.setup res f }
+    {
+        measure(&self.resources[res as usize])
     }
 }

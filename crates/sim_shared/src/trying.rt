@@ -1,9 +1,10 @@
 //! How the requests or puts at a resource are tried.
-ghost use Rattle.std.specs.Prelude.{◌≡◌, ◌<◌, ◌^◌, length};
+ghost use Rattle.std.specs.Prelude.{◌≡◌, ◌<◌, ◌^◌, [], ◌∷◌, length};
 ghost use Rattle.sim_machine.specs.MayAsk.{takes_requests};
 ghost use Rattle.sim_machine.specs.Trying as trying;
 ghost use Rattle.sim_machine.specs.Users.{resource_at};
 ghost use Rattle.sim_shared_model.specs.Making.{MakesAll};
+ghost use Rattle.sim_shared_model.specs.Measuring.{ChangesOnlyAt};
 ghost use Rattle.sim_shared_model.specs.Waiting.{AreAllOpen};
 
 use crate::queues::is_desk;
@@ -29,6 +30,7 @@ impl Shared {
         requires number { length self.old.happen.events < 2 ^ 62 }
         ensures tried { MakesAll 1 (trying.try_put self.old.setup res) self.old self.new }
         ensures used { self.new.used ≡ self.old.used }
+        ensures touched { ChangesOnlyAt (res ∷ []) self.old self.new }
     {
         if self.has_slots(res) {
             self.try_requests(res);

@@ -2,4 +2,6 @@
 pub mod ResourcePlaces
 pub mod ReleasedSlots
 pub mod ShownCounts
+pub mod ShownMeasures
+pub mod KeptMeasures
 pub mod FollowingFacilities

@@ -8,6 +8,7 @@ pub mod Shelves
 pub mod AnyShared
 pub mod Resources
 pub mod SharedOf
+pub mod Measuring
 pub mod ShowsAll
 pub mod Making
 pub mod Waiting

@@ -1,5 +1,5 @@
 -- What the type of the resources keeps.
-use Rattle.std.specs.Prelude.{◌≡◌, ◌≢◌, ℕ, ◌<◌, List, map, length, slice_get, Option, Some, IfSome}
+use Rattle.std.specs.Prelude.{◌≡◌, ◌≢◌, ℕ, ◌<◌, ◌^◌, List, map, length, slice_get, Option, Some, IfSome}
 use Rattle.std.specs.List.{AllPass}
 use Rattle.sim_types.specs.Setups.{resource_fits}
 use Rattle.sim_types.specs.declared.setup.Resource.{Resource}
@@ -11,8 +11,10 @@ pub record HavePlaces (used : Option ℕ) (xs : List SharedResource) : Type 0 wh
   pub within : IfSome used (λ n. n < length xs)
   pub others : (n : ℕ) (x : SharedResource) → slice_get xs n ≡ Some x → used ≢ Some n → HasPlace x
 
--- the resources are those of the setup, by kind and capacity, whose numbers are in their ranges, and have their places
+-- the resources are those of the setup, by kind and capacity, whose numbers are in their ranges, and have their places. They
+-- are so few that 32 bits tell the place of each
 pub record IsSoundShared (used : Option ℕ) (xs : List SharedResource) (rs : List Resource) : Type 0 where
   pub opened : map declared_as xs ≡ map without_opening rs
   pub fit : AllPass resource_fits rs
+  pub few : length rs < 2 ^ 32
   pub places : HavePlaces used xs

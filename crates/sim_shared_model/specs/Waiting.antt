@@ -1,5 +1,5 @@
 -- Who waits anywhere, as far as it is seen.
-use Rattle.std.specs.Prelude.{Bool, ◌≡◌, ◌≢◌, false, ℕ, ◌+◌, ◌≤◌, List, slice_get, Option, Some, None, All, if◌then◌else◌}
+use Rattle.std.specs.Prelude.{Bool, ◌≡◌, ◌≢◌, false, ℕ, ◌+◌, ◌<◌, ◌≤◌, List, length, slice_get, Option, Some, None, All, IsTrue, if◌then◌else◌}
 use Rattle.std.specs.List.{list_any}
 use Rattle.sim_types.specs.declared.event.EventId.{EventId}
 use Rattle.sim_happen_model.specs.TableOf.{kept_count}
@@ -39,6 +39,11 @@ pub record AreAllOpen (h : SharedOf) : Type 0 where
 -- an event that waited goes where nobody holds it
 abbrev pub gone_if_waits : Bool → EventId → List (Option ℕ) → List (Option ℕ)
 gone_if_waits waited e hs = if waited then gone_if_unheld e hs else hs
+
+-- the event waits at the resource of this place
+pub record IsWaitingAt (e : EventId) (res : ℕ) (h : SharedOf) : Type 0 where
+  pub within : res < length h.setup
+  pub waits : IsTrue (waits_in e (slice_get h.resources res))
 
 -- the event waits nowhere but at this place, if anywhere
 pub record WaitsAtMostAt (e : EventId) (res : ℕ) (h : SharedOf) : Type 0 where

@@ -6,7 +6,7 @@ ghost use Rattle.sim_machine.specs.Units as units;
 ghost use Rattle.sim_happen_model.specs.HappenOf.{held};
 ghost use Rattle.sim_steps_model.specs.Becoming.{AreFew, BecomesWith};
 ghost use Rattle.sim_steps_model.specs.Opening.{most_begun};
-ghost use Rattle.sim_steps_model.specs.PartsOf.{HasUnitRoom, plan_of};
+ghost use Rattle.sim_steps_model.specs.PartsOf.{HasUnitRoom, KeepsResources, plan_of};
 ghost use Rattle.sim_steps_model.specs.StandsFor.{StandsForSome};
 
 use crate::parts::Parts;
@@ -28,6 +28,7 @@ impl<B: Body> Parts<B> {
             (units.arrive (plan_of B.body self.old) port value)
             self.old self.new }
         ensures line { result ≡ line.Arrive self.old.processed value port }
+        ensures resources { KeepsResources self.old self.new }
     {
         let kind = self.ports[port as usize];
         let _process = self.begin(code, kind, &[value]);

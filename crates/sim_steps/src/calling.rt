@@ -12,12 +12,13 @@ ghost use Rattle.sim_happen_model.specs.TableOf.{AreNeeded, IsKept, kept_at};
 ghost use Rattle.sim_happen_model.specs.Holders.{HasOwnHolder, unheld};
 ghost use Rattle.sim_happen_model.specs.Shows.{Follows};
 ghost use Rattle.sim_happen_model.specs.HappenOf.{KeepsRoom, held};
+ghost use Rattle.sim_shared_model.specs.Measuring.{ChangesOnlyAt};
 ghost use Rattle.sim_shared_model.specs.Waiting.{AreAllOpen};
 ghost use Rattle.sim_happen_model.specs.Naming.{but_zero, triggered_by};
 ghost use Rattle.sim_steps_model.specs.Becoming.{AreFew, Becomes, BecomesOwing, IsOwing, Moves};
 ghost use Rattle.sim_steps_model.specs.Calling.{called, CallsKept, TakesCallback};
 ghost use Rattle.sim_steps_model.specs.Conditions.{CallsCondition};
-ghost use Rattle.sim_steps_model.specs.PartsOf.{HasRoomForNext, IsCalling, KeepsButHappen, call_takes_room, plan_of, with_happen};
+ghost use Rattle.sim_steps_model.specs.PartsOf.{HasRoomForNext, IsCalling, KeepsButHappen, KeepsResources, call_takes_room, plan_of, with_happen};
 ghost use Rattle.sim_steps_model.specs.Resources.{AreResourcesReady};
 ghost use Rattle.sim_steps_model.specs.StandsFor.{StandsForSome};
 
@@ -25,7 +26,7 @@ use crate::events::told_of;
 use crate::parts::Parts;
 use sim_procs::Body;
 use sim_steps_model::{Mode, Unit};
-use sim_types::{Callback, End, EventId, EventKind, Line, ProcId, Signal};
+use sim_types::{Callback, End, EventId, EventKind, Line, Places, ProcId, Signal};
 
 impl<B: Body> Parts<B> {
     /// Pops the event that is due.
@@ -36,6 +37,7 @@ impl<B: Body> Parts<B> {
         requires few { AreFew (2 ^ 40) (held self.old.shared.happen) }
         requires number { self.old.processed < 2 ^ 62 }
         ensures moves { Moves B.body self.old result self.new }
+        ensures resources { KeepsResources self.old self.new }
     {
         match self.shared.happen_mut().step() {
             None => unreachable!(),
@@ -99,6 +101,7 @@ impl<B: Body> Parts<B> {
         requires kept { IsKept self.old.shared.happen.events event }
         requires owing { IsOwing B.body [] self.old }
         ensures becomes { Becomes B.body (steps.settle event) self.old self.new }
+        ensures resources { KeepsResources self.old self.new }
     {
         if self.unhold_settled(event) {
             self.end_run(End::Crash, event);
@@ -113,6 +116,7 @@ impl<B: Body> Parts<B> {
         requires kept { IsKept self.old.shared.happen.events event }
         ensures owes { BecomesOwing B.body [] (but_zero (event ∷ [])) 0
             (called (plan_of B.body self.old) event callback.Stop) self.old self.new }
+        ensures resources { KeepsResources self.old self.new }
     {
         let why = if self.shared.happen().is_failed(event) {
             End::Crash
@@ -129,6 +133,7 @@ impl<B: Body> Parts<B> {
         requires owing { IsOwing B.body [] self.old }
         ensures becomes { Becomes B.body (called (plan_of B.body self.old) event callback.Stop)
             self.old self.new }
+        ensures resources { KeepsResources self.old self.new }
     {
         self.stop_at(event);
         self.unhold(event);
@@ -178,6 +183,7 @@ impl<B: Body> Parts<B> {
         ensures becomes { Becomes B.body
             (called (plan_of B.body self.old) event (callback.Resume process))
             self.old self.new }
+        ensures resources { KeepsResources self.old self.new }
     {
         let told = self.signal_by(event);
         self.defuse_told(event, told);
@@ -199,7 +205,7 @@ impl<B: Body> Parts<B> {
     // Calls a callback of the event, which was taken out of those that are left to call: what it passes an outcome on to was
     // held for this.
     #[inline(always)]
-    fn answer(&mut self, event: EventId, callback: Callback)
+    fn answer(&mut self, event: EventId, callback: Callback, places: &mut Places)
         requires calling { IsCalling event self.old.control }
         requires kept { IsKept self.old.shared.happen.events event }
         requires names { CallsKept callback self.old }
@@ -208,16 +214,24 @@ impl<B: Body> Parts<B> {
         requires waiting { AreAllOpen self.old.shared }
         requires ready { IsTrue (call_takes_room (Some callback)) → AreResourcesReady self.old }
         requires owing { IsOwing B.body (triggered_by callback) self.old }
+        requires none { places.old ≡ [] }
         ensures owes { BecomesOwing B.body (triggered_by callback) [] 0
             (called (plan_of B.body self.old) event callback) self.old self.new }
+        ensures touched { ChangesOnlyAt places.new self.old.shared self.new.shared }
     {
         match callback {
             Callback::Resume(process) => self.resume(event, process),
             Callback::Strike(process) => self.strike(event, process),
             Callback::Check(condition) => self.check(condition, event),
             Callback::Build(condition) => self.build(condition),
-            Callback::TryPut(res) => self.call_try_put(event, res),
-            Callback::TryGet(res) => self.call_try_get(event, res),
+            Callback::TryPut(res) => {
+                places.push(res);
+                self.call_try_put(event, res)
+            }
+            Callback::TryGet(res) => {
+                places.push(res);
+                self.call_try_get(event, res)
+            }
             Callback::Stop => self.stop(event),
             Callback::Trigger(other) => self.call_trigger(event, other),
         }
@@ -225,17 +239,19 @@ impl<B: Body> Parts<B> {
 
     /// Calls the first callback that is left, or settles the event where none is.
     #[inline(always)]
-    pub(crate) fn call(&mut self, event: EventId)
+    pub(crate) fn call(&mut self, event: EventId, places: &mut Places)
         requires calling { IsCalling event self.old.control }
         requires stands { StandsForSome B.body self.old }
         requires needed { AreNeeded self.old.shared.happen.events }
         requires room { HasRoomForNext self.old }
         requires events { length self.old.shared.happen.events + 40 ≤ 2 ^ 62 }
+        requires none { places.old ≡ [] }
         ensures moves { Moves B.body self.old Unit.Quiet self.new }
+        ensures touched { ChangesOnlyAt places.new self.old.shared self.new.shared }
     {
         match self.take_callback(event) {
             None => self.settle(event),
-            Some(callback) => self.answer(event, callback),
+            Some(callback) => self.answer(event, callback, places),
         }
     }
 }

@@ -10,7 +10,7 @@ ghost use Rattle.sim_happen_model.specs.HappenOf.{held, holding};
 ghost use Rattle.sim_happen_model.specs.Shows.{Shows, Turns};
 ghost use Rattle.sim_steps_model.specs.Becoming.{AreFew, Becomes, BecomesWith};
 ghost use Rattle.sim_steps_model.specs.Conditions.{BuildsCondition, ChecksMember};
-ghost use Rattle.sim_steps_model.specs.PartsOf.{HasUnitRoom, IsRunningIn, KeepsButHappen, plan_of};
+ghost use Rattle.sim_steps_model.specs.PartsOf.{HasUnitRoom, IsRunningIn, KeepsButHappen, KeepsResources, plan_of};
 
 use crate::parts::Parts;
 use sim_happen::TooWide;
@@ -66,6 +66,7 @@ impl<B: Body> Parts<B> {
         ensures becomes { BecomesWith B.body 16
             (effect.with_condition (if for_all then Every else Either) members.now)
             self.old self.new }
+        ensures resources { KeepsResources self.old self.new }
     {
         match self.add_condition(for_all, members.copied()) {
             Ok(condition) => self.tell(event, process, Signal::Made(condition)),
@@ -87,6 +88,7 @@ impl<B: Body> Parts<B> {
         ensures becomes { Becomes B.body
             (effect.effect (plan_of B.body self.old) process (op.Has condition other))
             self.old self.new }
+        ensures resources { KeepsResources self.old self.new }
     {
         let has = self.shared.happen().has(condition, other);
         self.tell(event, process, Signal::Number(number_of(has)));
@@ -99,6 +101,7 @@ impl<B: Body> Parts<B> {
         requires checks { ChecksMember condition event self.old.shared.happen.events }
         ensures becomes { Becomes B.body
             (on_events (conditions.check condition event)) self.old self.new }
+        ensures resources { KeepsResources self.old self.new }
     {
         self.shared.happen_mut().check(condition, event);
     }
@@ -109,6 +112,7 @@ impl<B: Body> Parts<B> {
         requires builds { BuildsCondition condition self.old.shared.happen.events }
         ensures becomes { Becomes B.body
             (on_events (conditions.build condition)) self.old self.new }
+        ensures resources { KeepsResources self.old self.new }
     {
         self.shared.happen_mut().build(condition);
     }

@@ -2,7 +2,7 @@
 ghost use Rattle.std.specs.Prelude.{◌≡◌, ◌≤ℤ◌};
 ghost use Rattle.sim_machine.specs.Effect.{draw, drawn_number};
 ghost use Rattle.sim_steps_model.specs.Becoming.{Becomes};
-ghost use Rattle.sim_steps_model.specs.PartsOf.{IsRunningIn, plan_of};
+ghost use Rattle.sim_steps_model.specs.PartsOf.{IsRunningIn, KeepsResources, plan_of};
 
 use crate::parts::Parts;
 use rand_core::utils::NextWord;
@@ -33,6 +33,7 @@ impl<B: Body> Parts<B> {
         requires running { IsRunningIn event process self.old.control }
         ensures becomes { Becomes B.body (draw (plan_of B.body self.old) lo hi)
             self.old self.new }
+        ensures resources { KeepsResources self.old self.new }
     {
         if hi < lo {
             self.tell(event, process, Signal::Raised(EMPTY_RANGE));

@@ -1,6 +1,6 @@
 //! Scopes that are left, and processes that are dropped: a process ends at once, wherever it waits (this project's own: SimPy
 //! has no such call).
-ghost use Rattle.std.specs.Prelude.{◌≡◌, ◌+◌, ◌<◌, ◌≤◌, ◌^◌, length, is_some, option_and_then, IfSome, IsSome, IsSomeAnd};
+ghost use Rattle.std.specs.Prelude.{◌≡◌, ◌+◌, ◌<◌, ◌≤◌, ◌^◌, [], ◌∷◌, length, is_some, option_and_then, IfNone, IfSome, IsSome, IsSomeAnd};
 ghost use Rattle.std.specs.Option.{option_map};
 ghost use Rattle.sim_types.specs.declared.event.Signal.TheVariants as signal;
 ghost use Rattle.sim_machine.specs.Effect as effect;
@@ -9,15 +9,18 @@ ghost use Rattle.sim_machine.specs.Processes as processes;
 ghost use Rattle.sim_machine.specs.Scopes as scopes;
 ghost use Rattle.sim_procs.specs.RecordOf.{innermost, record_of};
 ghost use Rattle.sim_happen_model.specs.TableOf.{IsKept};
+ghost use Rattle.sim_shared_model.specs.Measuring.{ChangesOnlyAt};
 ghost use Rattle.sim_steps_model.specs.Becoming.{Becomes};
 ghost use Rattle.sim_steps_model.specs.Dropping.{CanBeDropped, CanLeave, LeavesInnermost, LeavesAll, StopsWaiting};
 ghost use Rattle.sim_steps_model.specs.Holding.{StandInPlaces};
-ghost use Rattle.sim_steps_model.specs.PartsOf.{HasUnitRoom, IsRunningIn};
+ghost use Rattle.sim_steps_model.specs.PartsOf.{HasUnitRoom, IsRunningIn, KeepsResources};
 
 use crate::parts::Parts;
 use sim_happen::Happen;
 use sim_procs::Body;
-use sim_types::{Callback, ENDED_PROCESS, EventId, Outcome, PROCESS_ITSELF, ProcId, Signal};
+use sim_types::{
+    Callback, ENDED_PROCESS, EventId, Outcome, PROCESS_ITSELF, Places, ProcId, Signal,
+};
 
 // The process waits for its target no longer, and where its resumption is left to call it is taken out.
 fn stop_waiting(happen: &mut Happen, process: ProcId, target: EventId)
@@ -30,42 +33,56 @@ fn stop_waiting(happen: &mut Happen, process: ProcId, target: EventId)
 
 impl<B: Body> Parts<B> {
     /// The innermost open scope of a process is left: its request is cancelled where it waits, is released in any case, and
-    /// has no holder by the scope any more. The answer is whether one was open.
-    pub(crate) fn leave_scope(&mut self, process: ProcId) -> bool
+    /// has no holder by the scope any more. The answer is the place of its resource, if a scope was open.
+    pub(crate) fn leave_scope(&mut self, process: ProcId) -> Option<u32>
         requires alive { IsSome (record_of process self.old.live) }
         requires can { CanLeave B.body self.old }
         requires spare_events { 0 < self.old.shared.happen.spare.events }
         requires spare_callbacks { 0 < self.old.shared.happen.spare.callbacks }
         requires number { length self.old.shared.happen.events < 2 ^ 62 }
-        ensures result { result ≡ is_some
+        ensures result { is_some result ≡ is_some
             (option_and_then (λ r. innermost r.scopes) (record_of process self.old.live)) }
         ensures leaves { LeavesInnermost B.body process self.old self.new }
+        ensures touched { IfSome result
+            (λ at. ChangesOnlyAt (at ∷ []) self.old.shared self.new.shared) }
+        ensures same_resources { IfNone result (KeepsResources self.old self.new) }
     {
         match self.processes.pop_scope(process) {
             Some(scope) => {
                 self.shared.leave(scope.res, scope.request);
                 self.unhold(scope.request);
-                true
+                Some(scope.res)
             }
-            None => false,
+            None => None,
         }
     }
 
-    // All open scopes of a process are left, the innermost first.
-    fn leave_scopes(&mut self, process: ProcId)
+    // All open scopes of a process are left, the innermost first, and the places of their resources are pushed.
+    fn leave_scopes(&mut self, process: ProcId, places: &mut Places)
         requires scopes { IsSomeAnd (record_of process self.old.live)
             (λ r. length r.scopes ≤ most_scopes) }
         requires can { CanLeave B.body self.old }
         requires spare_events { most_scopes < self.old.shared.happen.spare.events }
         requires spare_callbacks { most_scopes < self.old.shared.happen.spare.callbacks }
         requires number { length self.old.shared.happen.events + most_scopes < 2 ^ 62 }
+        requires none { places.old ≡ [] }
         ensures leaves { LeavesAll B.body process self.old self.new }
+        ensures touched { ChangesOnlyAt places.new self.old.shared self.new.shared }
     {
-        while self.leave_scope(process) {}
+        while let Some(at) = self.leave_scope(process) {
+            places.push(at);
+        }
     }
 
     // Another process ends at once: it waits for nothing, its scopes are left, and its event succeeds.
-    fn drop_other(&mut self, event: EventId, process: ProcId, other: ProcId, value: i64)
+    fn drop_other(
+        &mut self,
+        event: EventId,
+        process: ProcId,
+        other: ProcId,
+        value: i64,
+        places: &mut Places,
+    )
         requires running { IsRunningIn event process self.old.control }
         requires can { IsSomeAnd (record_of other self.old.live)
             (λ r. CanBeDropped B.body r self.old) }
@@ -73,15 +90,17 @@ impl<B: Body> Parts<B> {
             (λ r. StandInPlaces (B.body.tell self.old.code) (B.events_held r.body) r.body) }
         requires room { HasUnitRoom self.old }
         requires number { length self.old.shared.happen.events + most_scopes < 2 ^ 62 }
+        requires none { places.old ≡ [] }
         ensures becomes { Becomes B.body
             (λ s. processes.tell signal.Done (processes.drop_process other value s))
             self.old self.new }
+        ensures touched { ChangesOnlyAt places.new self.old.shared self.new.shared }
     {
         match self.processes.target(other) {
             Some(target) => stop_waiting(self.shared.happen_mut(), other, target),
             None => unreachable!(),
         }
-        self.leave_scopes(other);
+        self.leave_scopes(other, places);
         self.end_process(other, Outcome::Ok(value));
         self.tell(event, process, Signal::Done);
     }
@@ -95,6 +114,7 @@ impl<B: Body> Parts<B> {
         process: ProcId,
         other: ProcId,
         value: i64,
+        places: &mut Places,
     )
         requires running { IsRunningIn event process self.old.control }
         requires can { IfSome (record_of other self.old.live)
@@ -103,16 +123,18 @@ impl<B: Body> Parts<B> {
             (λ r. StandInPlaces (B.body.tell self.old.code) (B.events_held r.body) r.body) }
         requires room { HasUnitRoom self.old }
         requires number { length self.old.shared.happen.events + most_scopes < 2 ^ 62 }
+        requires none { places.old ≡ [] }
         ensures becomes { Becomes B.body
             (effect.to_another process other (processes.drop_process other value))
             self.old self.new }
+        ensures touched { ChangesOnlyAt places.new self.old.shared self.new.shared }
     {
         if !self.processes.is_alive(other) {
             self.tell(event, process, Signal::Raised(ENDED_PROCESS));
         } else if other.0 == process.0 {
             self.tell(event, process, Signal::Raised(PROCESS_ITSELF));
         } else {
-            self.drop_other(event, process, other, value);
+            self.drop_other(event, process, other, value, places);
         }
     }
 }

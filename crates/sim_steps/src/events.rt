@@ -12,7 +12,7 @@ ghost use Rattle.sim_happen_model.specs.Shows.{Follows};
 ghost use Rattle.sim_happen_model.specs.HappenOf.{AreHeldByFew};
 ghost use Rattle.sim_steps_model.specs.Becoming.{Becomes, BecomesOwing, BecomesWith, IsOwing};
 ghost use Rattle.sim_steps_model.specs.Calling.{called};
-ghost use Rattle.sim_steps_model.specs.PartsOf.{IsCalling, IsRunningIn, KeepsButHappen, plan_of};
+ghost use Rattle.sim_steps_model.specs.PartsOf.{IsCalling, IsRunningIn, KeepsButHappen, KeepsResources, plan_of};
 
 use crate::parts::Parts;
 use sim_events::EventState;
@@ -84,6 +84,7 @@ impl<B: Body> Parts<B> {
         ensures becomes { Becomes B.body
             (effect.effect (plan_of B.body self.old) process op.NewEvent)
             self.old self.new }
+        ensures resources { KeepsResources self.old self.new }
     {
         let made = self.shared.happen_mut().make(EventKind::Plain);
         self.tell(event, process, Signal::Made(made));
@@ -126,6 +127,7 @@ impl<B: Body> Parts<B> {
             (kept_at self.old.shared.happen.events triggered).event.cancelled }
         ensures becomes { Becomes B.body
             (effect.trigger_pending triggered (outcome.Ok value)) self.old self.new }
+        ensures resources { KeepsResources self.old self.new }
     {
         self.trigger_by(event, process, triggered, Outcome::Ok(value));
     }
@@ -141,6 +143,7 @@ impl<B: Body> Parts<B> {
             (effect.trigger_pending triggered
             (outcome.Fail (record { kind = failure; value = value })))
             self.old self.new }
+        ensures resources { KeepsResources self.old self.new }
     {
         let kind = FAILURE;
         self.trigger_by(
@@ -159,6 +162,7 @@ impl<B: Body> Parts<B> {
             (kept_at self.old.shared.happen.events triggered).event.cancelled }
         ensures becomes { Becomes B.body
             (effect.trigger_pending triggered outcome) self.old self.new }
+        ensures resources { KeepsResources self.old self.new }
     {
         match self.trigger(triggered, outcome) {
             Ok(()) => self.tell(event, process, Signal::Done),
@@ -178,6 +182,7 @@ impl<B: Body> Parts<B> {
         requires few { AreHeldByFew self.old.shared.happen.events }
         requires room { 0 < self.old.shared.happen.spare.callbacks }
         ensures becomes { BecomesWith B.body 1 (effect.chain source other) self.old self.new }
+        ensures resources { KeepsResources self.old self.new }
     {
         match self.shared.happen_mut().chain(source, other) {
             Ok(()) => self.tell(event, process, Signal::Done),
@@ -196,6 +201,7 @@ impl<B: Body> Parts<B> {
         ensures owes { BecomesOwing B.body (other ∷ []) [] 0
             (called (plan_of B.body self.old) event (callback.Trigger other))
             self.old self.new }
+        ensures resources { KeepsResources self.old self.new }
     {
         self.shared.happen_mut().trigger(other, event);
     }

@@ -13,10 +13,11 @@ use sim_procs::Body;
 use sim_types::EventId;
 
 impl<B: Body> Parts<B> {
-    /// How many events are kept. Each of them is not closed, or held.
+    /// How many events are kept. Each of them is not closed, or held. The resources are those of the setup.
     pub fn slots(&self) -> u64
         ensures count { result ≡ kept_count self.now.shared.happen.events }
         ensures needed { AreNeeded self.now.shared.happen.events }
+        ensures resources { self.now.shared.setup ≡ self.now.setup.resources }
     {
         self.shared.happen().table().slots()
     }

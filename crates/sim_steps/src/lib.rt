@@ -10,6 +10,7 @@ mod dropping;
 mod events;
 mod holding;
 mod making;
+mod measuring;
 mod opening;
 mod parts;
 mod places;

@@ -29,6 +29,7 @@ impl<B: Body> Parts<B> {
         seed: u64,
     ) -> Result<Parts<B>, AllocError>
         requires few { setup.now.events ≤ 1024 }
+        requires resources { length setup.now.resources ≤ 1024 }
         requires fit { AllPass resource_fits setup.now.resources }
         ensures code { IfOk result (λ p. p.code ≡ code.now) }
         ensures setup { IfOk result (λ p. p.setup ≡ setup.now) }

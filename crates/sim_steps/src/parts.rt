@@ -2,6 +2,7 @@ ghost use Rattle.std.specs.Prelude.{◌≡◌, ◌≢◌, ◌+◌, ◌<◌, ◌�
 ghost use Rattle.sim_machine.specs.Processes.{told_more, not_active};
 ghost use Rattle.sim_machine.specs.Setups.{FitsCode};
 ghost use Rattle.sim_happen_model.specs.HappenOf.{held};
+ghost use Rattle.sim_shared_model.specs.Measuring.{ChangesOnlyAt};
 ghost use Rattle.sim_steps_model.specs.Becoming.{AreFew};
 ghost use Rattle.sim_steps_model.specs.Resting.{CanStep, rest_in};
 ghost use Rattle.sim_steps_model.specs.PartsOf.{HasRoomForNext, HasUnitRoom, IsRunningIn, IsRunningAt, KeepsButRoom, next_takes_room};
@@ -13,7 +14,7 @@ use rand_pcg::Pcg64;
 use sim_procs::{Body, Procs};
 use sim_shared::Shared;
 use sim_steps_model::{Mode, Rest, Unit, Units};
-use sim_types::{Callback, EventId, ProcId, Setup, Signal};
+use sim_types::{Callback, EventId, Places, ProcId, Setup, Signal};
 use std::alloc::{AllocError, Global};
 use std::marker::Model;
 use std::snapshot::Snapshot;
@@ -160,9 +161,10 @@ impl<B: Body> Parts<B> {
     }
 
     /// Units in a row, at most so many: an event is popped, a callback is called, an event is settled, or a process is polled;
-    /// one alone, or all but the last are polls in which a process asks for nothing.
+    /// one alone, or all but the last are polls in which a process asks for nothing. The places of the resources that are
+    /// touched are pushed: at all others the same is measured as before.
     #[inline(always)]
-    pub fn units(&mut self, code: &B::Code, most: u32) -> Units
+    pub fn units(&mut self, code: &B::Code, most: u32, places: &mut Places) -> Units
         requires some { 1 ≤ most }
         requires code { code.now ≡ self.old.code }
         requires stands { StandsForSome B.body self.old }
@@ -172,8 +174,10 @@ impl<B: Body> Parts<B> {
         requires few { AreFew (2 ^ 40) (held self.old.shared.happen) }
         requires events { length self.old.shared.happen.events + 40 ≤ 2 ^ 62 }
         requires processed { self.old.processed < 2 ^ 62 }
+        requires none { places.old ≡ [] }
         ensures most { result.made ≤ most }
         ensures moves { MovesAtLast B.body result.made self.old result.last self.new }
+        ensures touched { ChangesOnlyAt places.new self.old.shared self.new.shared }
     {
         let _slots = self.slots();
         match self.mode {
@@ -182,13 +186,15 @@ impl<B: Body> Parts<B> {
                 last: self.pop(),
             },
             Mode::Calling(event) => {
-                self.call(event);
+                self.call(event, places);
                 Units {
                     made: 1,
                     last: Unit::Quiet,
                 }
             }
-            Mode::Active(event, process, told) => self.poll(code, event, process, told, most),
+            Mode::Active(event, process, told) => {
+                self.poll(code, event, process, told, most, places)
+            }
             Mode::Over(_, _) => unreachable!(),
         }
     }

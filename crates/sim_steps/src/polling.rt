@@ -6,9 +6,10 @@ ghost use Rattle.sim_machine.specs.Setups.{FitsCode};
 ghost use Rattle.sim_happen_model.specs.TableOf.{AreNeeded};
 ghost use Rattle.sim_happen_model.specs.HappenOf.{AreHeldByFew, held};
 ghost use Rattle.sim_procs.specs.RecordOf.{record_of};
+ghost use Rattle.sim_shared_model.specs.Measuring.{ChangesOnlyAt};
 ghost use Rattle.sim_steps_model.specs.Becoming.{AreFew, IsOwing};
 ghost use Rattle.sim_steps_model.specs.Dropping.{CanLeave};
-ghost use Rattle.sim_steps_model.specs.PartsOf.{HasUnitRoom, IsRunning, IsRunningIn};
+ghost use Rattle.sim_steps_model.specs.PartsOf.{HasUnitRoom, IsRunning, IsRunningIn, KeepsResources};
 ghost use Rattle.sim_steps_model.specs.Polling.{NamesKept, event_placed, place_changed, place_given};
 ghost use Rattle.sim_steps_model.specs.QuietUnits.{AsksAtLast, AsksOwingAtLast, DoesAskedAtLast, MovesAtLast};
 ghost use Rattle.sim_steps_model.specs.Resources.{AreResourcesReady};
@@ -17,7 +18,7 @@ ghost use Rattle.sim_steps_model.specs.StandsFor.{StandsForSome};
 use crate::parts::Parts;
 use sim_procs::Body;
 use sim_steps_model::{Mode, Unit, Units};
-use sim_types::{EventId, Line, Op, ProcId, Signal};
+use sim_types::{EventId, Line, Op, Places, ProcId, Signal};
 
 // Whether a process that is told this may put an event into a place.
 fn fills_place(told: Signal) -> bool
@@ -99,6 +100,7 @@ impl<B: Body> Parts<B> {
             (event_placed B.events_held place (record_of process self.old.live))
             self.old asked.new self.new }
         ensures resources { self.new.shared.setup ≡ self.new.setup.resources }
+        ensures same_resources { KeepsResources self.old self.new }
         ensures names { NamesKept (B.body.facts code.now) asked.new self.new }
         ensures running { IsRunningIn event process self.new.control }
         ensures alive { IsSome (record_of process self.new.live) }
@@ -128,6 +130,7 @@ impl<B: Body> Parts<B> {
         told: Signal,
         place: Option<u8>,
         most: u32,
+        places: &mut Places,
     ) -> Units
         requires code { code.now ≡ self.old.code }
         requires stands { StandsForSome B.body self.old }
@@ -141,10 +144,12 @@ impl<B: Body> Parts<B> {
         requires few { AreFew (2 ^ 40) (held self.old.shared.happen) }
         requires needed { AreNeeded self.old.shared.happen.events }
         requires events { length self.old.shared.happen.events + 40 ≤ 2 ^ 62 }
+        requires none { places.old ≡ [] }
         ensures most { result.made ≤ most }
         ensures does { DoesAskedAtLast B.body event process result.made
             (event_placed B.events_held place (record_of process self.old.live))
             self.old result.last self.new }
+        ensures touched { ChangesOnlyAt places.new self.old.shared self.new.shared }
     {
         let mut asked = Op::Nop;
         let made = self.ask(code, event, process, told, place, most, &mut asked);
@@ -158,25 +163,34 @@ impl<B: Body> Parts<B> {
             Op::Fail(triggered, value) => self.fail(event, process, triggered, value),
             Op::Spawn(kind, args) => self.spawn(code, event, process, kind, args),
             Op::Interrupt(other, cause) => self.interrupt(event, process, other, cause),
-            Op::Drop(other, value) => self.drop_process(event, process, other, value),
+            Op::Drop(other, value) => self.drop_process(event, process, other, value, places),
             Op::Chain(source, other) => self.chain(event, process, source, other),
             Op::AllOf(ref members) => self.make_condition(event, process, true, members),
             Op::AnyOf(ref members) => self.make_condition(event, process, false, members),
             Op::Has(condition, other) => self.has(event, process, condition, other),
             Op::Enter(res, priority, preempts) => {
+                places.push(res);
                 self.enter(event, process, res, priority, preempts)
             }
-            Op::Leave => self.leave(event, process),
-            Op::Release(request) => self.release(event, process, request),
-            Op::Put(res, amount, priority) => self.put(event, process, res, amount, priority),
+            Op::Leave => self.leave(event, process, places),
+            Op::Release(request) => self.release(event, process, request, places),
+            Op::Put(res, amount, priority) => {
+                places.push(res);
+                self.put(event, process, res, amount, priority)
+            }
             Op::PutWait(res, amount, priority) => {
+                places.push(res);
                 self.put_wait(event, process, res, amount, priority)
             }
-            Op::Get(res, least, greatest) => self.get(event, process, res, least, greatest),
+            Op::Get(res, least, greatest) => {
+                places.push(res);
+                self.get(event, process, res, least, greatest)
+            }
             Op::GetWait(res, least, greatest) => {
+                places.push(res);
                 self.get_wait(event, process, res, least, greatest)
             }
-            Op::Cancel(cancelled) => self.cancel(event, process, cancelled),
+            Op::Cancel(cancelled) => self.cancel(event, process, cancelled, places),
             Op::Count(res) => self.count(event, process, res),
             Op::Draw(lo, hi) => self.draw(event, process, lo, hi),
             Op::Finish(value) => self.finish(event, process, value),
@@ -207,6 +221,7 @@ impl<B: Body> Parts<B> {
         process: ProcId,
         told: Signal,
         most: u32,
+        places: &mut Places,
     ) -> Units
         requires some { 1 ≤ most }
         requires code { code.now ≡ self.old.code }
@@ -217,13 +232,15 @@ impl<B: Body> Parts<B> {
         requires few { AreFew (2 ^ 40) (held self.old.shared.happen) }
         requires needed { AreNeeded self.old.shared.happen.events }
         requires events { length self.old.shared.happen.events + 40 ≤ 2 ^ 62 }
+        requires none { places.old ≡ [] }
         ensures most { result.made ≤ most }
         ensures moves { MovesAtLast B.body result.made self.old result.last self.new }
+        ensures touched { ChangesOnlyAt places.new self.old.shared self.new.shared }
     {
         let place = self.place_told(code, process, told);
         let left = self.event_in(process, place);
         let most = if fills_place(told) { 1 } else { most };
-        let units = self.do_asked(code, event, process, told, place, most);
+        let units = self.do_asked(code, event, process, told, place, most, places);
         self.unhold(left);
         units
     }

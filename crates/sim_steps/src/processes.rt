@@ -13,7 +13,7 @@ ghost use Rattle.sim_steps_model.specs.Becoming.{AreFew, Becomes, BecomesWith, I
 ghost use Rattle.sim_steps_model.specs.Calling.{called};
 ghost use Rattle.sim_steps_model.specs.Holding.{StandInPlaces};
 ghost use Rattle.sim_steps_model.specs.Opening.{AreArgumentsKept, KeepsButProcesses, most_begun, next_process};
-ghost use Rattle.sim_steps_model.specs.PartsOf.{HasUnitRoom, IsCalling, IsRunningIn, plan_of};
+ghost use Rattle.sim_steps_model.specs.PartsOf.{HasUnitRoom, IsCalling, IsRunningIn, KeepsResources, plan_of};
 
 use crate::making::make_process;
 use crate::parts::Parts;
@@ -100,6 +100,7 @@ impl<B: Body> Parts<B> {
         ensures becomes { BecomesWith B.body most_begun
             (effect.effect (plan_of B.body self.old) process (op.Spawn kind args))
             self.old self.new }
+        ensures resources { KeepsResources self.old self.new }
     {
         let made = self.begin(code, kind, args.as_slice());
         self.tell(event, process, Signal::Made(EventId(made.0)));
@@ -114,6 +115,7 @@ impl<B: Body> Parts<B> {
         ensures becomes { Becomes B.body
             (effect.effect (plan_of B.body self.old) process (op.Interrupt other cause))
             self.old self.new }
+        ensures resources { KeepsResources self.old self.new }
     {
         if !self.processes.is_alive(other) {
             self.tell(event, process, Signal::Raised(ENDED_PROCESS));
@@ -140,6 +142,7 @@ impl<B: Body> Parts<B> {
         ensures becomes { Becomes B.body
             (called (plan_of B.body self.old) event (callback.Strike process))
             self.old self.new }
+        ensures resources { KeepsResources self.old self.new }
     {
         let told = self.signal_of(event);
         if let Some(target) = self.processes.target(process) {
@@ -162,6 +165,7 @@ impl<B: Body> Parts<B> {
         ensures becomes { Becomes B.body
             (λ s. processes.rest (processes.end_process process (outcome.Ok value) s))
             self.old self.new }
+        ensures resources { KeepsResources self.old self.new }
     {
         self.end(event, process, Outcome::Ok(value));
     }
@@ -178,6 +182,7 @@ impl<B: Body> Parts<B> {
         ensures becomes { Becomes B.body
             (λ s. processes.rest (processes.end_process process (outcome.Fail what) s))
             self.old self.new }
+        ensures resources { KeepsResources self.old self.new }
     {
         self.end(event, process, Outcome::Fail(what));
     }
@@ -193,6 +198,7 @@ impl<B: Body> Parts<B> {
         ensures becomes { Becomes B.body
             (λ s. processes.rest (processes.end_process process outcome s))
             self.old self.new }
+        ensures resources { KeepsResources self.old self.new }
     {
         self.end_process(process, outcome);
         self.rest(event);
@@ -207,6 +213,7 @@ impl<B: Body> Parts<B> {
         requires owing { IsOwing B.body [] self.old }
         ensures becomes { Becomes B.body (processes.end_process process outcome) self.old self.new }
         ensures control { self.new.control ≡ self.old.control }
+        ensures resources { KeepsResources self.old self.new }
     {
         match self.processes.take(process) {
             Some(record) => {

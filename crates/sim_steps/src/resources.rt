@@ -7,17 +7,30 @@ ghost use Rattle.sim_machine.specs.Requests as requests;
 ghost use Rattle.sim_procs.specs.RecordOf.{record_of, scope_of};
 ghost use Rattle.sim_happen_model.specs.TableOf.{IsKept, kept_at};
 ghost use Rattle.sim_happen_model.specs.HappenOf.{held};
+ghost use Rattle.sim_shared_model.specs.Measuring.{ChangesOnlyAt};
 ghost use Rattle.sim_shared_model.specs.Waiting.{AreAllOpen};
 ghost use Rattle.sim_steps_model.specs.Becoming.{AreFew, Becomes, BecomesWith, IsOwing};
 ghost use Rattle.sim_steps_model.specs.Calling.{called};
 ghost use Rattle.sim_steps_model.specs.Dropping.{CanLeave};
-ghost use Rattle.sim_steps_model.specs.PartsOf.{HasUnitRoom, IsCalling, IsRunningIn, plan_of};
+ghost use Rattle.sim_steps_model.specs.PartsOf.{HasUnitRoom, IsCalling, IsRunningIn, KeepsResources, plan_of};
 ghost use Rattle.sim_steps_model.specs.Resources.{AreResourcesReady, TakesMoves, TakesRequests, MakesMove, RefusesMove};
 
 use crate::parts::Parts;
 use sim_procs::Body;
 use sim_shared::{NotPositive, OwnVictim};
-use sim_types::{AMOUNT_NOT_POSITIVE, EventId, PROCESS_ITSELF, ProcId, Scope, Signal};
+use sim_types::{AMOUNT_NOT_POSITIVE, EventId, PROCESS_ITSELF, Places, ProcId, Scope, Signal};
+
+// Adds the place of a resource that was touched, if one was.
+#[inline(always)]
+fn add_place(places: &mut Places, place: Option<u32>)
+    requires none { places.old ≡ [] }
+    ensures some { IfSome place (λ at. places.new ≡ at ∷ []) }
+    ensures none { IfNone place (places.new ≡ []) }
+{
+    if let Some(at) = place {
+        places.push(at);
+    }
+}
 
 impl<B: Body> Parts<B> {
     /// The requests or puts at a resource are tried.
@@ -28,6 +41,7 @@ impl<B: Body> Parts<B> {
         ensures becomes { Becomes B.body
             (called (plan_of B.body self.old) event (callback.TryPut res))
             self.old self.new }
+        ensures touched { ChangesOnlyAt (res ∷ []) self.old.shared self.new.shared }
     {
         self.shared.try_put(res);
     }
@@ -40,6 +54,7 @@ impl<B: Body> Parts<B> {
         ensures becomes { Becomes B.body
             (called (plan_of B.body self.old) event (callback.TryGet res))
             self.old self.new }
+        ensures touched { ChangesOnlyAt (res ∷ []) self.old.shared self.new.shared }
     {
         self.shared.try_get(res);
     }
@@ -52,6 +67,7 @@ impl<B: Body> Parts<B> {
         ensures becomes { Becomes B.body
             (effect.effect (plan_of B.body self.old) process (op.Count res))
             self.old self.new }
+        ensures resources { KeepsResources self.old self.new }
     {
         let count = self.shared.count(res);
         self.tell(event, process, Signal::Number(count));
@@ -75,6 +91,7 @@ impl<B: Body> Parts<B> {
             (requests.make_put self.old.setup.resources res amount priority) e self.old self.new) }
         ensures control { IfSome result (λ e. self.new.control ≡ self.old.control) }
         ensures live { IfSome result (λ e. self.new.live ≡ self.old.live) }
+        ensures touched { ChangesOnlyAt (res ∷ []) self.old.shared self.new.shared }
     {
         match self.shared.put(res, amount, priority) {
             Ok(put) => Some(put),
@@ -103,6 +120,7 @@ impl<B: Body> Parts<B> {
             (requests.make_get self.old.setup.resources res least greatest) e self.old self.new) }
         ensures control { IfSome result (λ e. self.new.control ≡ self.old.control) }
         ensures live { IfSome result (λ e. self.new.live ≡ self.old.live) }
+        ensures touched { ChangesOnlyAt (res ∷ []) self.old.shared self.new.shared }
     {
         match self.shared.get(res, least, greatest) {
             Ok(get) => Some(get),
@@ -129,6 +147,7 @@ impl<B: Body> Parts<B> {
         ensures becomes { Becomes B.body
             (effect.effect (plan_of B.body self.old) process (op.Put res amount priority))
             self.old self.new }
+        ensures touched { ChangesOnlyAt (res ∷ []) self.old.shared self.new.shared }
     {
         match self.make_put(event, process, res, amount, priority) {
             Some(put) => self.tell(event, process, Signal::Made(put)),
@@ -155,6 +174,7 @@ impl<B: Body> Parts<B> {
         ensures becomes { BecomesWith B.body 1
             (effect.effect (plan_of B.body self.old) process (op.PutWait res amount priority))
             self.old self.new }
+        ensures touched { ChangesOnlyAt (res ∷ []) self.old.shared self.new.shared }
     {
         match self.make_put(event, process, res, amount, priority) {
             Some(put) => self.wait(event, process, put),
@@ -178,6 +198,7 @@ impl<B: Body> Parts<B> {
         ensures becomes { Becomes B.body
             (effect.effect (plan_of B.body self.old) process (op.Get res least greatest))
             self.old self.new }
+        ensures touched { ChangesOnlyAt (res ∷ []) self.old.shared self.new.shared }
     {
         match self.make_get(event, process, res, least, greatest) {
             Some(get) => self.tell(event, process, Signal::Made(get)),
@@ -204,6 +225,7 @@ impl<B: Body> Parts<B> {
         ensures becomes { BecomesWith B.body 1
             (effect.effect (plan_of B.body self.old) process (op.GetWait res least greatest))
             self.old self.new }
+        ensures touched { ChangesOnlyAt (res ∷ []) self.old.shared self.new.shared }
     {
         match self.make_get(event, process, res, least, greatest) {
             Some(get) => self.wait(event, process, get),
@@ -213,16 +235,25 @@ impl<B: Body> Parts<B> {
 
     /// An event that waits at a resource is cancelled, and goes where nobody holds it. Of what does not wait nothing is done.
     #[inline(never)]
-    pub(crate) fn cancel(&mut self, event: EventId, process: ProcId, cancelled: EventId)
+    pub(crate) fn cancel(
+        &mut self,
+        event: EventId,
+        process: ProcId,
+        cancelled: EventId,
+        places: &mut Places,
+    )
         requires running { IsRunningIn event process self.old.control }
         requires kept { IsKept self.old.shared.happen.events cancelled }
         requires plain { (kept_at self.old.shared.happen.events cancelled).event.condition ≡ None }
         requires ready { AreResourcesReady self.old }
+        requires none { places.old ≡ [] }
         ensures becomes { Becomes B.body
             (effect.effect (plan_of B.body self.old) process (op.Cancel cancelled))
             self.old self.new }
+        ensures touched { ChangesOnlyAt places.new self.old.shared self.new.shared }
     {
-        self.shared.cancel(cancelled);
+        let place = self.shared.take_out(cancelled);
+        add_place(places, place);
         self.tell(event, process, Signal::Done);
     }
 
@@ -246,6 +277,7 @@ impl<B: Body> Parts<B> {
         ensures becomes { BecomesWith B.body 1
             (effect.enter (plan_of B.body self.old) process res priority preempts)
             self.old self.new }
+        ensures touched { ChangesOnlyAt (res ∷ []) self.old.shared self.new.shared }
     {
         match self.shared.request(res, process, priority, preempts) {
             Ok(request) => {
@@ -260,35 +292,47 @@ impl<B: Body> Parts<B> {
     /// The innermost open scope of the running process is left: its request is cancelled where it waits, and is released in
     /// any case.
     #[inline(never)]
-    pub(crate) fn leave(&mut self, event: EventId, process: ProcId)
+    pub(crate) fn leave(&mut self, event: EventId, process: ProcId, places: &mut Places)
         requires running { IsRunningIn event process self.old.control }
         requires alive { IsSome (record_of process self.old.live) }
         requires can { CanLeave B.body self.old }
         requires room { HasUnitRoom self.old }
         requires number { length self.old.shared.happen.events < 2 ^ 62 }
+        requires none { places.old ≡ [] }
         ensures becomes { Becomes B.body
             (effect.effect (plan_of B.body self.old) process op.Leave)
             self.old self.new }
+        ensures touched { ChangesOnlyAt places.new self.old.shared self.new.shared }
     {
-        self.leave_scope(process);
+        let place = self.leave_scope(process);
+        add_place(places, place);
         self.tell(event, process, Signal::Done);
     }
 
     /// A request in an open scope of the running process is released early. Its scope stays open.
     #[inline(never)]
-    pub(crate) fn release(&mut self, event: EventId, process: ProcId, request: EventId)
+    pub(crate) fn release(
+        &mut self,
+        event: EventId,
+        process: ProcId,
+        request: EventId,
+        places: &mut Places,
+    )
         requires running { IsRunningIn event process self.old.control }
         requires scope { IsSomeAnd
             (option_and_then (λ r. scope_of request r.scopes) (record_of process self.old.live))
             (λ x. TakesRequests x.res self.old) }
         requires ready { AreResourcesReady self.old }
+        requires none { places.old ≡ [] }
         ensures becomes { Becomes B.body
             (effect.effect (plan_of B.body self.old) process (op.Release request))
             self.old self.new }
+        ensures touched { ChangesOnlyAt places.new self.old.shared self.new.shared }
     {
         match self.processes.scope(process, request) {
             Some(scope) => {
                 self.shared.release(scope.res, request);
+                places.push(scope.res);
             }
             None => unreachable!(),
         }

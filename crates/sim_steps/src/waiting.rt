@@ -10,7 +10,7 @@ ghost use Rattle.sim_happen_model.specs.TableOf.{IsKept, kept_at};
 ghost use Rattle.sim_happen_model.specs.Naming.{but_zero};
 ghost use Rattle.sim_happen_model.specs.HappenOf.{AreHeldByFew, held};
 ghost use Rattle.sim_steps_model.specs.Becoming.{AreFew, Becomes, BecomesOwing, BecomesWith, IsOwing};
-ghost use Rattle.sim_steps_model.specs.PartsOf.{IsRunningIn, KeepsButHappen};
+ghost use Rattle.sim_steps_model.specs.PartsOf.{IsRunningIn, KeepsButHappen, KeepsResources};
 ghost use Rattle.sim_steps_model.specs.Waiting.{MakesTimeout, RefusesTimeout};
 
 use crate::parts::Parts;
@@ -49,6 +49,7 @@ impl<B: Body> Parts<B> {
         requires room { 0 < self.old.shared.happen.spare.callbacks }
         ensures owes { BecomesOwing B.body [] (but_zero (result ∷ [])) 1
             (processes.wait on process) self.old self.new }
+        ensures resources { KeepsResources self.old self.new }
     {
         self.hold_to_resume(on, process);
         let left = self.processes.replace_target(process, on);
@@ -66,6 +67,7 @@ impl<B: Body> Parts<B> {
         requires owing { IsOwing B.body [] self.old }
         requires room { 0 < self.old.shared.happen.spare.callbacks }
         ensures becomes { BecomesWith B.body 1 (processes.wait on process) self.old self.new }
+        ensures resources { KeepsResources self.old self.new }
     {
         let left = self.begin_to_wait(event, process, on);
         self.unhold(left);
@@ -78,6 +80,7 @@ impl<B: Body> Parts<B> {
         requires kept { IsKept self.old.shared.happen.events on }
         requires processed { IsTrue (kept_at self.old.shared.happen.events on).event.processed }
         ensures becomes { Becomes B.body (processes.wait on process) self.old self.new }
+        ensures resources { KeepsResources self.old self.new }
     {
         let told = self.signal_of(on);
         self.defuse_failed(on);
@@ -93,6 +96,7 @@ impl<B: Body> Parts<B> {
         requires owing { IsOwing B.body [] self.old }
         requires room { 0 < self.old.shared.happen.spare.callbacks }
         ensures becomes { BecomesWith B.body 1 (processes.wait on process) self.old self.new }
+        ensures resources { KeepsResources self.old self.new }
     {
         if self.is_processed(on) {
             self.go_on(event, process, on);
@@ -116,6 +120,7 @@ impl<B: Body> Parts<B> {
         ensures made { IfSome result (λ e. MakesTimeout B.body delay value e self.old self.new) }
         ensures callbacks { IfSome result (λ e. self.new.shared.happen.spare.callbacks
             ≡ self.old.shared.happen.spare.callbacks) }
+        ensures resources { KeepsResources self.old self.new }
     {
         match self.shared.happen_mut().timeout(delay, value) {
             Ok(timeout) => Some(timeout),
@@ -137,6 +142,7 @@ impl<B: Body> Parts<B> {
         requires number { length self.old.shared.happen.events < 2 ^ 62 }
         ensures becomes { Becomes B.body (effect.with_timeout delay value effect.tell_made)
             self.old self.new }
+        ensures resources { KeepsResources self.old self.new }
     {
         match self.make_timeout(event, process, delay, value) {
             Some(timeout) => self.tell(event, process, Signal::Made(timeout)),
@@ -156,6 +162,7 @@ impl<B: Body> Parts<B> {
         ensures becomes { BecomesWith B.body 1
             (effect.with_timeout delay value (λ e s. processes.wait e process s))
             self.old self.new }
+        ensures resources { KeepsResources self.old self.new }
     {
         match self.make_timeout(event, process, delay, value) {
             Some(timeout) => self.wait_for(event, process, timeout),

@@ -7,3 +7,4 @@ pub mod Running
 pub mod KeptNames
 pub mod Rooms
 pub mod Made
+pub mod TouchedPlaces

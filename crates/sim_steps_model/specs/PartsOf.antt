@@ -102,6 +102,10 @@ with_happen happen parts = record parts { shared = record parts.shared { happen 
 abbrev pub KeepsButHappen : {B Code : Type 0} → PartsOf B Code → PartsOf B Code → Type 0
 KeepsButHappen old new = new ≡ with_happen new.shared.happen old
 
+-- the resources stay as they are
+abbrev pub KeepsResources : {B Code : Type 0} → PartsOf B Code → PartsOf B Code → Type 0
+KeepsResources old new = new.shared.resources ≡ old.shared.resources
+
 -- all stays but the room
 pub record KeepsButRoom {B Code : Type 0} (old new : PartsOf B Code) : Type 0 where
   pub shared : IsSameButRoom old.shared new.shared

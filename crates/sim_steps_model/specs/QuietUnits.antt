@@ -19,10 +19,10 @@ use Rattle.sim_steps_model.specs.Polling.{AsksOwing, DoesAsked}
 use Rattle.sim_steps_model.specs.Resting.{rest_in}
 use Rattle.sim_steps_model.specs.StandsFor.{StandsForSome}
 
--- a unit in which the running process asks for nothing: nothing happens, and the process runs on
+-- a unit in which the running process asks for nothing: nothing happens, no resource changes, and the process runs on
 pub record MovesQuietly {B Code : Type 0} (body : BodyOf B Code) (old new : PartsOf B Code) : Type 0 where
   pub moves : Moves body old unit.Quiet new
-  pub happen : new.shared.happen ≡ old.shared.happen
+  pub shared : new.shared ≡ old.shared
   pub busy : rest_in new ≡ rest.Busy
 
 -- so many units in a row, at least one: all but the last are such, and the last answers this

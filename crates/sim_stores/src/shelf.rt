@@ -191,6 +191,14 @@ impl Shelf {
     {
         self.stock.len()
     }
+
+    /// How many puts wait, and how many gets (the lengths of SimPy's Store.put_queue and get_queue).
+    pub fn waiting(&self) -> (u64, u64)
+        ensures puts { result.0 ≡ length self.now.puts }
+        ensures gets { result.1 ≡ length self.now.gets }
+    {
+        (self.puts.len() as u64, self.gets.len() as u64)
+    }
 }
 
 // How many gets a try looks at.

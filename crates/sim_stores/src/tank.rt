@@ -1,4 +1,4 @@
-ghost use Rattle.std.specs.Prelude.{◌≡◌, ◌+◌, ◌-◌, ◌≤◌, ℕ, pos, ◌≤ℤ◌, ◌<ℤ◌, [], ◌∷◌, ◌++◌, All, IfSome, IsFalse, IsOk, OnOk};
+ghost use Rattle.std.specs.Prelude.{◌≡◌, ◌+◌, ◌-◌, ◌≤◌, ℕ, pos, ◌≤ℤ◌, ◌<ℤ◌, [], ◌∷◌, ◌++◌, length, All, IfSome, IsFalse, IsOk, OnOk};
 ghost use Rattle.sim_types.specs.Limits.{most_level};
 ghost use Rattle.std.specs.VecDeque.{deque_len, deque_capacity};
 ghost use Rattle.sim_shared_model.specs.StoreQueues.{stands_among, AllDiffer};
@@ -169,6 +169,14 @@ impl Tank {
         ensures high { result ≤ℤ self.now.capacity }
     {
         self.level
+    }
+
+    /// How many puts wait, and how many gets (the lengths of SimPy's Container.put_queue and get_queue).
+    pub fn waiting(&self) -> (u64, u64)
+        ensures puts { result.0 ≡ length self.now.puts }
+        ensures gets { result.1 ≡ length self.now.gets }
+    {
+        (self.puts.len() as u64, self.gets.len() as u64)
     }
 }
 

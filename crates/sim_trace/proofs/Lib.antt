@@ -1,3 +1,4 @@
 mod DigitCounts
 mod LineTexts
 mod PairsBehind
+mod WordsBehind

@@ -1,4 +1,5 @@
 pub mod SummaryTexts
+pub mod WatchTexts
 pub mod Texts
 pub mod Begins
 pub mod Leadings

@@ -21,12 +21,16 @@ load_text size s = written (codes "load" ∷ decimal size ∷ summary_words s)
 abbrev pub batch_text : ℕ → ℕ → ℤ → List ℕ
 batch_text count logs total = written (codes "batch" ∷ decimal count ∷ decimal logs ∷ signed_decimal total ∷ [])
 
+-- the lines on some things in a row, each with its number, from this one on
+abbrev pub numbered : {X : Type 0} → (ℕ → X → List ℕ) → ℕ → List X → List ℕ
+numbered text n [] = []
+numbered text n (x ∷ xs) = text n x ++ numbered text (n + 1) xs
+
 -- ---- a batch
 
 -- the lines of the replications, numbered from this index on
 abbrev pub replications_text : ℕ → List Summary → List ℕ
-replications_text index [] = []
-replications_text index (s ∷ ss) = replication_text index s ++ replications_text (index + 1) ss
+replications_text index summaries = numbered replication_text index summaries
 
 -- how many numbers all runs logged
 abbrev pub all_logs : List Summary → ℕ

@@ -9,7 +9,7 @@ use sim_types::EventId;
 use std::marker::Model;
 
 /// No line is longer, in bytes.
-pub(crate) const LONGEST_LINE: usize = 160;
+pub(crate) const LONGEST_LINE: usize = 256;
 
 /// What the line of an event begins with, and where that ends.
 #[derive(Clone, Copy)]
@@ -41,7 +41,7 @@ impl Model for LineBuf {
 
     ghost view = { λ a. take a.count a.bytes };
 
-    ghost invariant = { λ a. (a.count ≤ 160) × IfSome a.begin (BeginsWith (take a.count a.bytes)) };
+    ghost invariant = { λ a. (a.count ≤ 256) × IfSome a.begin (BeginsWith (take a.count a.bytes)) };
 }
 
 impl LineBuf {
@@ -67,7 +67,7 @@ impl LineBuf {
 
     /// Begins a line with this word, in place of the one that stood there.
     pub(crate) fn begin(&mut self, word: &[u8])
-        requires { length word.now ≤ 160 }
+        requires { length word.now ≤ 256 }
         ensures { self.new ≡ word.now }
     {
         self.begin = None;
@@ -105,7 +105,7 @@ impl LineBuf {
     }
 
     pub(crate) fn push(&mut self, byte: u8)
-        requires { length self.old < 160 }
+        requires { length self.old < 256 }
         ensures items { self.new ≡ self.old ++ byte ∷ [] }
         ensures length { length self.new ≡ length self.old + 1 }
     {
@@ -114,7 +114,7 @@ impl LineBuf {
     }
 
     pub(crate) fn append(&mut self, text: &[u8])
-        requires { length self.old + length text.now ≤ 160 }
+        requires { length self.old + length text.now ≤ 256 }
         ensures items { self.new ≡ self.old ++ text.now }
         ensures length { length self.new ≡ length self.old + length text.now }
     {
@@ -126,7 +126,7 @@ impl LineBuf {
     /// Appends the digits of a number, written where they stay. Many numbers have just one.
     #[tactic(auto, using(std::proofs::lemmas::Fmt::decimal_digit))]
     pub(crate) fn append_digits(&mut self, number: u64)
-        requires { length self.old + 20 ≤ 160 }
+        requires { length self.old + 20 ≤ 256 }
         ensures items { self.new ≡ self.old ++ decimal number }
         ensures length { length self.new ≤ length self.old + 20 }
     {
@@ -141,7 +141,7 @@ impl LineBuf {
 
     /// Appends the number by which an event was scheduled.
     pub(crate) fn append_number_of_event(&mut self, number: u64)
-        requires { length self.old + 22 ≤ 160 }
+        requires { length self.old + 22 ≤ 256 }
         ensures items { self.new ≡ self.old ++ decimal number }
         ensures length { length self.new ≤ length self.old + 20 }
     {
@@ -150,7 +150,7 @@ impl LineBuf {
 
     /// Appends the event itself.
     pub(crate) fn append_event(&mut self, event: EventId)
-        requires { length self.old + 22 ≤ 160 }
+        requires { length self.old + 22 ≤ 256 }
         ensures items { self.new ≡ self.old ++ decimal event.0 }
         ensures length { length self.new ≤ length self.old + 20 }
     {

@@ -7,6 +7,7 @@ mod fault;
 mod journal;
 mod summary;
 mod text;
+mod watching;
 mod words;
 
 pub use buffer::LineBuf;
@@ -14,3 +15,4 @@ pub use fault::render_fault;
 pub use journal::render_arrival;
 pub use summary::{render_batch, render_load, render_summary};
 pub use text::render;
+pub use watching::{render_row, render_watch_end};

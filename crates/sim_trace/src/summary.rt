@@ -41,7 +41,7 @@ pub fn render_batch(count: u32, logs: u64, total: i128, out: &mut LineBuf)
 
 /// Appends a space and the words of a summary.
 fn append_summary(s: &Summary, out: &mut LineBuf)
-    requires { length out.old + 113 ≤ 160 }
+    requires { length out.old + 113 ≤ 256 }
     ensures items { out.new ≡ out.old ++ 32 ∷ join_with_byte 32 (summary_words s.now) }
     ensures len { length out.new ≤ length out.old + 113 }
 {

@@ -71,7 +71,7 @@ fn begin_key(time: i64, priority: u8, number: u64, out: &mut LineBuf)
 
 /// Appends a space and the words of the outcome.
 fn append_outcome(outcome: Outcome, out: &mut LineBuf)
-    requires { length out.old + 48 ≤ 160 }
+    requires { length out.old + 48 ≤ 256 }
     ensures items { out.new ≡ out.old ++ 32 ∷ join_with_byte 32 (outcome_words outcome) }
     ensures len { length out.new ≤ length out.old + 48 }
 {

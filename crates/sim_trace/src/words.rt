@@ -21,7 +21,7 @@ pub(crate) fn port_word<'a>(ports: &'a [Name], port: u32) -> &'a [u8]
 
 /// Appends a space and the number.
 pub(crate) fn append_number(number: u64, out: &mut LineBuf)
-    requires { length out.old + 21 ≤ 160 }
+    requires { length out.old + 21 ≤ 256 }
     ensures items { out.new ≡ out.old ++ 32 ∷ decimal number }
     ensures len { length out.new ≤ length out.old + 21 }
 {
@@ -31,7 +31,7 @@ pub(crate) fn append_number(number: u64, out: &mut LineBuf)
 
 /// Appends a space and the number, which may be below zero.
 pub(crate) fn append_signed(number: i64, out: &mut LineBuf)
-    requires { length out.old + 22 ≤ 160 }
+    requires { length out.old + 22 ≤ 256 }
     ensures items { out.new ≡ out.old ++ 32 ∷ signed_decimal number }
     ensures len { length out.new ≤ length out.old + 22 }
 {
@@ -42,7 +42,7 @@ pub(crate) fn append_signed(number: i64, out: &mut LineBuf)
 /// Appends the number, which may be below zero. Most are a digit, which is put there at once.
 #[tactic(auto, using(itoa::proofs::Decimal::minus_first, std::proofs::lemmas::Fmt::decimal_digit))]
 pub(crate) fn append_signed_digits(number: i64, out: &mut LineBuf)
-    requires { length out.old + 21 ≤ 160 }
+    requires { length out.old + 21 ≤ 256 }
     ensures items { out.new ≡ out.old ++ signed_decimal number }
     ensures len { length out.new ≤ length out.old + 21 }
 {
@@ -58,7 +58,7 @@ pub(crate) fn append_signed_digits(number: i64, out: &mut LineBuf)
 
 /// Appends a space and the sum, which may be below zero and take more than 64 bits.
 pub(crate) fn append_sum(sum: i128, out: &mut LineBuf)
-    requires { length out.old + 41 ≤ 160 }
+    requires { length out.old + 41 ≤ 256 }
     ensures items { out.new ≡ out.old ++ 32 ∷ signed_decimal sum }
     ensures len { length out.new ≤ length out.old + 41 }
 {
@@ -68,7 +68,7 @@ pub(crate) fn append_sum(sum: i128, out: &mut LineBuf)
 
 /// Appends a space and the word.
 pub(crate) fn append_word(word: &[u8], out: &mut LineBuf)
-    requires { length out.old + 1 + length word.now ≤ 160 }
+    requires { length out.old + 1 + length word.now ≤ 256 }
     ensures items { out.new ≡ out.old ++ 32 ∷ word.now }
     ensures len { length out.new ≡ length out.old + 1 + length word.now }
 {
@@ -78,7 +78,7 @@ pub(crate) fn append_word(word: &[u8], out: &mut LineBuf)
 
 /// Appends what the kind of an event is called, with a space in front of it and one behind.
 pub(crate) fn append_kind(kind: EventKind, out: &mut LineBuf)
-    requires { length out.old + 11 ≤ 160 }
+    requires { length out.old + 11 ≤ 256 }
     ensures items { out.new ≡ out.old ++ 32 ∷ kind_word kind ++ 32 ∷ [] }
     ensures len { length out.new ≤ length out.old + 11 }
 {

@@ -1,5 +1,5 @@
 -- Which setups fit the code of the bodies: the numbers are in their ranges, and what is started can be started.
-use Rattle.std.specs.Prelude.{ℕ, ℤ, pos, Bool, true, false, ◌&&◌, nat_lt, nat_le, int_le, List, [], ◌∷◌, length, slice_index_or}
+use Rattle.std.specs.Prelude.{◌<◌, ℕ, ℤ, pos, Bool, true, false, ◌&&◌, nat_lt, nat_le, int_le, List, [], ◌∷◌, length, slice_index_or, All}
 use Rattle.sim_types.specs.Limits.{last_time, most_items, most_level, most_slots}
 use Rattle.sim_types.specs.declared.setup.Until.{Until}
 use Rattle.sim_types.specs.declared.setup.Until.TheVariants as until
@@ -9,6 +9,8 @@ use Rattle.sim_types.specs.declared.setup.ResourceKind.TheVariants as resource
 use Rattle.sim_types.specs.declared.setup.Class.{Class}
 use Rattle.sim_types.specs.declared.setup.Class.TheVariants as class
 use Rattle.sim_types.specs.declared.setup.Start.{Start}
+use Rattle.sim_types.specs.declared.setup.Arrival.{Arrival}
+use Rattle.sim_types.specs.declared.setup.Setup.{Setup}
 
 -- what the code of the bodies tells: the classes of the parameters of each process kind, how many events are named, and
 -- the resources
@@ -79,3 +81,7 @@ takes_one_number _ = false
 -- whether the kind that a port starts is one of the code's, and takes the value that comes in
 abbrev pub port_fits : CodeFacts → ℕ → Bool
 port_fits f k = nat_lt k (length f.params) && takes_one_number (slice_index_or f.params k [])
+
+-- all that arrives comes in by ports that there are
+abbrev pub HavePorts : Setup → List Arrival → Type 0
+HavePorts setup journal = All (λ a. a.port < length setup.ports) journal

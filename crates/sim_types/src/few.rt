@@ -11,6 +11,9 @@ pub type Args = Few<i64, 8>;
 /// The members of a condition.
 pub type Members = Few<EventId, 16>;
 
+/// Places of resources: at most as many as a process may have scopes open.
+pub type Places = Few<u32, 32>;
+
 /// At most `N` values, in place.
 #[derive(Drop)]
 pub struct Few<T: Copy, const N: usize> {
@@ -56,6 +59,13 @@ impl<T: Copy, const N: usize> Few<T, N> {
         ensures few { length self.now ≤ N }
     {
         &self.values[..self.len]
+    }
+
+    /// Lets all go.
+    pub fn clear(&mut self)
+        ensures { self.new ≡ [] }
+    {
+        self.len = 0;
     }
 
     /// False where `N` are held.

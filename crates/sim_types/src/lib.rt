@@ -18,10 +18,10 @@ pub use event::{
     Callback, Entry, EventId, EventKind, Outcome, ProcId, RequestKey, Scope, Signal, Throw,
 };
 pub use fault::{Fault, FaultKind};
-pub use few::{Args, Few, Members};
+pub use few::{Args, Few, Members, Places};
 pub use key::{Count, Key};
 pub use limits::{LAST_TIME, MOST_BYTES, MOST_ITEMS, MOST_LEVEL, MOST_SLOTS};
-pub use line::{End, Line, Summary};
+pub use line::{End, Line, Measure, Summary, WatchRow};
 pub use list::{List, Name};
 pub use op::Op;
 pub use script::{Arith, Kind, Num, Ref, Refs, SpawnArg, SpawnArgs, Stmt};

@@ -16,4 +16,5 @@ mod Resources
 mod Scripts
 mod SecondVersion
 mod Stores
+mod Watched
 mod WhichFault

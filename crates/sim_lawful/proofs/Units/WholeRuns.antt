@@ -18,7 +18,8 @@ use Rattle.sim_machine.specs.Bodies.{BodyOf, start_of}
 use Rattle.sim_machine.specs.Setups.{FitsCode}
 use Rattle.sim_machine.specs.Lawful.{Lawful}
 use Rattle.sim_machine_law.specs.Courses.{Run}
-use Rattle.sim_lawful.specs.LawfulRuns.{ArrivesLawful, HavePorts, IsAmong, IsPlanOf, IsRunOf, ItemsFit, LevelsFit, LevelsFromZero, OpensLawful, StaysLawful, StepsLawful, UsersFit}
+use Rattle.sim_types.specs.Setups.{HavePorts}
+use Rattle.sim_lawful.specs.LawfulRuns.{ArrivesLawful, IsAmong, IsPlanOf, IsRunOf, ItemsFit, LevelsFit, LevelsFromZero, OpensLawful, StaysLawful, StepsLawful, UsersFit}
 use Rattle.sim_lawful.proofs.Units.WholeSteps.{lawful_arrival, lawful_at, lawful_opening, lawful_step}
 
 first_where : (b : Bool) (x a : Arrival) → (if b then Some x else None) ≡ Some a → a ≡ x
@@ -48,9 +49,9 @@ module _ {B : Type 0} (g : Plan B) (tell : Telling B) (sound : B → Type 0) (tu
 
   -- the state is lawful, and what is left of the journal comes in by ports of the setup
   abbrev IsLawfulCourse : Course B → Type 0
-  IsLawfulCourse m = Lawful g tell sound m.state × HavePorts g m.left
+  IsLawfulCourse m = Lawful g tell sound m.state × HavePorts g.setup m.left
 
-  lawful_unit : (s : State B) (left : List Arrival) (o : Option Arrival) → Lawful g tell sound s → HavePorts g left → due_arrival s left ≡ o →
+  lawful_unit : (s : State B) (left : List Arrival) (o : Option Arrival) → Lawful g tell sound s → HavePorts g.setup left → due_arrival s left ≡ o →
       IsLawfulCourse (unit_at g does (record { state = s; left = left }) o)
   lawful_unit s left None h ports is = (lawful_after s s.control h refl, ports)
   lawful_unit s [] (Some a) h ports is = absurd (none-some a is)

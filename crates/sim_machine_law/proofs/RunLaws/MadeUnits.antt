@@ -109,6 +109,18 @@ module _ {B : Type 0} (g : Plan B) (turn : TurnFunction B) (journal : List Arriv
   pub made_whole : (limit : ℕ) → (units_made g turn journal limit ≡ limit) ⊎ HasEnded g (course limit)
   made_whole limit = (is_whole limit).whole
 
+  -- ---- a run that comes so far and no further
+
+  -- so many units are made where the run goes on before each of them and then ends, or these are all
+  pub made_where : (limit units : ℕ) → units ≤ limit → ((j : ℕ) → j < units → GoesOn j) → (units ≡ limit) ⊎ HasEnded g (course units)
+      → units_made g turn journal limit ≡ units
+  made_where limit units within on (inl all) = subst (λ (n : ℕ). units_made g turn journal n ≡ units) all (all_made units on)
+  made_where limit units within on (inr ended) = made_to_end units limit within on ended
+
+  pub stays_where : (limit units : ℕ) → units ≤ limit → ((j : ℕ) → j < units → GoesOn j) → (units ≡ limit) ⊎ HasEnded g (course units)
+      → course limit ≡ course units
+  stays_where limit units within on whole = sym (made_same limit) ∙ ap course (made_where limit units within on whole)
+
 -- ---- no unit after the end
 
 module _ {B : Type 0} (g : Plan B) (turn : TurnFunction B) (m n : Course B) where

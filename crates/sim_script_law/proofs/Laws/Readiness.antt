@@ -21,7 +21,7 @@ use Rattle.sim_script_law.specs.SoundScripts.{IsSoundScript, IsAskedThere, is_as
 use Rattle.sim_script_model.specs.Needs.{last_given, last_variable, most_frames}
 use Rattle.sim_script_law.specs.Ready.{keeps_given, has_room, enters_room, scope_finds_room, can_take, can_do, can_leave, can_ask_in, can_ask}
 use Rattle.sim_language_law.proofs.Scenarios.WellFormedParts.{fits_well}
-use Rattle.sim_script_law.proofs.Laws.SetupFits.{fitting_parts}
+use Rattle.sim_language_law.proofs.Scenarios.SetupParts.{fitting_parts}
 use Rattle.sim_script_law.proofs.Scripts.Walking.{Steps, steps}
 use Rattle.sim_script_law.proofs.Scripts.WithinVariables.{fits_small}
 use Rattle.sim_script_law.proofs.Scripts.Needs.{gives_kept, has_frame, finds_room}

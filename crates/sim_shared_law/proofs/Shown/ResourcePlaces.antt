@@ -81,6 +81,7 @@ sound_with : (old new : Option ℕ) (xs : List SharedResource) (rs : List Resour
 sound_with old new xs rs n x y there same places h = record {
   opened = map-set_same declared_as xs n y x (same ∙ ap declared_as (sym (get_or_from_slice_get xs n x x there))) ∙ h.opened;
   fit = h.fit;
+  few = h.few;
   places = places;
 }
 

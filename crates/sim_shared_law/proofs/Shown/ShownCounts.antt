@@ -1,18 +1,15 @@
 -- How much is in use at a resource, or stands in it, as it is shown.
-use Rattle.std.proofs.Common.{rules, ◌≡◌, ℕ, ◌<◌, ℤ, pos, ◌≤ℤ◌, List, length, refl, ap, ◌∙◌, Some, map, slice_get, arith, IsTrue}
+use Rattle.std.proofs.Common.{◌≡◌, ℕ, ◌<◌, pos, ◌≤ℤ◌, List, length, refl, ap, ◌∙◌, Some, map, slice_get, IsTrue}
 use Rattle.std.specs.List.{AllPass}
-use Rattle.std.proofs.lemmas.Bool.{and_parts}
-use Rattle.std.proofs.lemmas.Int.{ints}
 use Rattle.std.proofs.lemmas.List.Elements.{All-get_or}
 use Rattle.std.proofs.lemmas.Option.{slice_get_within}
 use Rattle.sim_types.specs.Limits.{most_level}
-use Rattle.sim_types.specs.Setups.{resource_fits, most_capacity, is_within, most_opening}
+use Rattle.sim_types.specs.Setups.{resource_fits}
 use Rattle.sim_types.specs.declared.setup.Resource.{Resource}
-use Rattle.sim_types.specs.declared.setup.ResourceKind.{ResourceKind}
-use Rattle.sim_types.specs.declared.setup.ResourceKind.TheVariants as resource
 use Rattle.sim_machine.specs.State.{Facilities}
 use Rattle.sim_machine.specs.Users.{resource_at, users, items}
 use Rattle.sim_machine.specs.Requests.{held, held_of}
+use Rattle.sim_machine_law.proofs.Stocks.HeldNumbers.{capacity_to_most}
 use Rattle.sim_shared_model.specs.declared.desk.DeskKind.{DeskKind}
 use Rattle.sim_shared_model.specs.declared.desk.DeskKind.TheVariants as desk
 use Rattle.sim_shared_model.specs.DeskOf.{resource_kind}
@@ -52,23 +49,10 @@ count_shown h f res x there shown =
 
 -- ---- no capacity is greater than what a container may hold
 
-capacity_most : (k : ResourceKind) → most_capacity k ≤ℤ most_level
-capacity_most resource.Plain = search rules
-capacity_most resource.Priority = search rules
-capacity_most resource.Preemptive = search rules
-capacity_most resource.Container = search rules
-capacity_most resource.Store = search rules
-capacity_most resource.PStore = search rules
-capacity_most resource.FStore = search rules
-
-within_most : (least most n bound : ℤ) → IsTrue (is_within least most n) → most ≤ℤ bound → n ≤ℤ bound
-within_most least most n bound h k = grind (arith, ints)
-
 pub capacity_fits : (xs : List SharedResource) (rs : List Resource) (n : ℕ) (x : SharedResource) → map declared_as xs ≡ map without_opening rs →
     AllPass resource_fits rs → slice_get xs n ≡ Some x → (declared_as x).capacity ≤ℤ most_level
 capacity_fits xs rs n x opened fit there =
     let r : Resource = resource_at rs n in
     let within : n < length rs = rw (← same_length xs rs opened) (slice_get_within xs n x there) in
     let fits : IsTrue (resource_fits r) = All-get_or (λ (y : Resource). IsTrue (resource_fits y)) rs n _ within fit in
-    rw (declared_at xs rs n x opened there)
-    (within_most (pos 1) (most_capacity r.kind) r.capacity most_level (and_parts (is_within (pos 1) (most_capacity r.kind) r.capacity) (is_within (pos 0) (most_opening r.kind r.capacity) r.opening) fits).0 (capacity_most r.kind))
+    rw (declared_at xs rs n x opened there) (capacity_to_most r fits)

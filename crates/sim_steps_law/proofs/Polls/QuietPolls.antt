@@ -195,7 +195,7 @@ module _ {B Code : Type 0} (body : BodyOf B Code) (events : B → List EventId) 
         record {
           moves = quiet_moves body events place (after m b) p event (told_after m told) reads law stands few (runs_after m)
               (later_none m told none) mid (asks_after m b later op.Nop turned) (after (suc m) later) refl (rw control refl);
-          happen = refl;
+          shared = refl;
           busy = running_busy event p signal.Done _ old.shared.happen.agenda (runs_on event p told signal.Done old.control running);
         }
 

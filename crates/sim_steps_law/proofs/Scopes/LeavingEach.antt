@@ -222,6 +222,10 @@ abbrev pub scope_count : {B : Type 0} → Option (RecordOf B) → ℕ
 scope_count None = 0
 scope_count (Some r) = length r.scopes
 
+pub few_open : {B : Type 0} (o : Option (RecordOf B)) → IsSomeAnd o (λ r. length r.scopes ≤ most_scopes) → scope_count o ≤ most_scopes
+few_open None h = absurd h
+few_open (Some r) h = h
+
 module _ {B Code : Type 0} {body : BodyOf B Code} (p : ProcId) {a b : PartsOf B Code} (l : LeavesSome body p a b) where
   -- so many may be open as were at most
   pub gone_few : IsSomeAnd (record_of p a.live) (λ r. length r.scopes ≤ most_scopes) → l.gone + length l.still ≤ most_scopes

@@ -1,8 +1,9 @@
-use Rattle.std.proofs.Common.{rules, ◌≡◌, inl, ap, sym, ◌∙◌, Fits, w32}
+use Rattle.std.proofs.Common.{rules, ◌≡◌, inl, ap, sym, ◌∙◌, Fits, w32, Some, None}
 use Rattle.std.proofs.lemmas.Bool.{false≢true}
 use Rattle.sim_command.specs.declared.commands.Command.TheVariants.{Load}
+use Rattle.sim_command.specs.declared.status.Status.TheVariants as status
 use Rattle.sim_command.specs.Endings.{is_whole}
-use Rattle.sim_desk.proofs.Telling.{if_some, whole_answer, unread_answer, status_whole, load_ended}
+use Rattle.sim_desk.proofs.Telling.{if_some, whole_answer, unread_answer, status_whole, told_whole, load_ended}
 use Rattle.sim_desk.proofs.top.desk.Goals as goal
 use Rattle.sim_desk.proofs.top.desk.Goals.{then-is_on_text+in-Ok, else-is_on_text}
 
@@ -18,6 +19,28 @@ returns-in-Ok-answer_gathered-clause-headline g c =
 pub returns-in-Ok-answer_gathered-clause-unflushed : goal.returns-in-Ok-answer_gathered-clause-unflushed
 returns-in-Ok-answer_gathered-clause-unflushed g c not_whole =
     absurd (false≢true (sym not_whole ∙ (ap is_whole c.in-Ok-answer_gathered.ensures.status ∙ status_whole c.in-Some.asked _)))
+
+pub returns-in-Ok-answer_gathered-clause-usage : goal.returns-in-Ok-answer_gathered-clause-usage
+returns-in-Ok-answer_gathered-clause-usage g c = (
+  λ is. absurd (false≢true (told_whole c.in-Some.asked _ _ status.Usage c.in-Ok-answer_gathered.ensures.status is)),
+  λ none. let some : Some c.in-Some.asked ≡ None = c.in-Some.ensures ∙ none in absurd (cc),
+)
+
+pub returns-in-Ok-answer_gathered-clause-not_written : goal.returns-in-Ok-answer_gathered-clause-not_written
+returns-in-Ok-answer_gathered-clause-not_written g c is =
+    absurd (false≢true (told_whole c.in-Some.asked _ _ status.Usage c.in-Ok-answer_gathered.ensures.status is))
+
+pub returns-in-Ok-answer_gathered-clause-read_fault : goal.returns-in-Ok-answer_gathered-clause-read_fault
+returns-in-Ok-answer_gathered-clause-read_fault g c is =
+    absurd (false≢true (told_whole c.in-Some.asked _ _ status.ReadFault c.in-Ok-answer_gathered.ensures.status is))
+
+pub returns-in-Ok-answer_gathered-clause-unwritten : goal.returns-in-Ok-answer_gathered-clause-unwritten
+returns-in-Ok-answer_gathered-clause-unwritten g c is =
+    absurd (false≢true (told_whole c.in-Some.asked _ _ status.ReadFault c.in-Ok-answer_gathered.ensures.status is))
+
+pub returns-in-Ok-answer_gathered-clause-write_fault : goal.returns-in-Ok-answer_gathered-clause-write_fault
+returns-in-Ok-answer_gathered-clause-write_fault g c is =
+    absurd (false≢true (told_whole c.in-Some.asked _ _ status.WriteFault c.in-Ok-answer_gathered.ensures.status is))
 
 pub returns-in-Ok-answer_gathered-clause-load_ends : goal.returns-in-Ok-answer_gathered-clause-load_ends
 returns-in-Ok-answer_gathered-clause-load_ends g c size is whole =

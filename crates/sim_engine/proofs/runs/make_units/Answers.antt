@@ -9,12 +9,14 @@ use Rattle.sim_engine.specs.EngineFaults.{is_write}
 use Rattle.sim_trace.specs.Texts.{trace_text}
 use Rattle.sim_script_model.specs.Scenarios.{summary}
 use Rattle.sim_engine.specs.RunOfScenario.{run_of, units_of}
-use Rattle.sim_engine.specs.Rounds.{HavePorts, StandsInRun, text_by}
+use Rattle.sim_types.specs.Setups.{HavePorts}
+use Rattle.sim_engine.specs.Rounds.{StandsInRun, text_by}
 use Rattle.sim_engine.specs.Sessions.{IsAt, report_of}
 use Rattle.sim_machine.specs.Units.{arrive}
 use Rattle.sim_steps_model.specs.PartsOf.{plan_of}
 use Rattle.sim_script_law.specs.ScriptMembers.{script_body}
-use Rattle.sim_engine.proofs.Rounds.{turn_is_next, arrival_is_next, rest_is, after_turn, after_arrival, after_refusal}
+use Rattle.sim_kernel.proofs.NextUnits.{rest_is}
+use Rattle.sim_engine.proofs.Rounds.{turn_is_next, arrival_is_next, after_turn, after_arrival, after_refusal}
 use Rattle.sim_engine.proofs.RunEnds.{stays_whole, summary_is, units_are}
 use Rattle.sim_engine.proofs.RunTexts.{text_before, text_front, turn_text, arrived_text}
 use Rattle.sim_engine.proofs.runs.make_units.Goals as goal
@@ -163,7 +165,7 @@ loop-session-preserved-then-branch g c =
           subst (λ ls. StandsInRun s seed journal ls new) (sym (rest_is left))
           (after_arrival s seed journal left old new h.stands made.goes_on a comes (made.units below) (made.none_refused below)
           (subst (λ v. IsAt new (arrive (plan_of script_body old.parts) a.port v m.state)) same (made.arrives m.state h.stands.at below)));
-      ports = subst (HavePorts s) (sym (rest_is left)) (All-tail has a (drop 1 left) (subst (All has) first h.ports));
+      ports = subst (HavePorts s.setup) (sym (rest_is left)) (All-tail has a (drop 1 left) (subst (All has) first h.ports));
       limit = made.goes_on.limit ∙ h.limit;
       within = omega (arith, made.within, made.goes_on.limit);
       settled = made.settled m.state h.stands.at;

@@ -3,7 +3,8 @@ use Rattle.std.specs.Prelude.{if◌then◌else◌}
 use Rattle.sim_outside.specs.Writes.{IsUnflushed, Writes}
 use Rattle.sim_engine.specs.declared.fault.EngineFault.{EngineFault}
 use Rattle.sim_engine.specs.EngineFaults.{is_write}
-use Rattle.sim_engine.specs.Rounds.{HavePorts, StandsInRun, text_by}
+use Rattle.sim_types.specs.Setups.{HavePorts}
+use Rattle.sim_engine.specs.Rounds.{StandsInRun, text_by}
 use Rattle.sim_engine.specs.Sessions.{IsSettled}
 use Rattle.sim_engine.proofs.runs.make_units.Given as goal
 
@@ -12,7 +13,7 @@ abbrev pub invariant-loop-session : goal.invariant-loop-session
 invariant-loop-session g l =
     record {
       stands : StandsInRun l.scenario l.fn.session.parts.seed l.journal l.left l.session;
-      ports : HavePorts l.scenario l.left;
+      ports : HavePorts l.scenario.setup l.left;
       limit : l.session.limit ≡ l.fn.session.limit;
       within : l.session.units ≤ l.session.limit;
       settled : IsSettled l.session;

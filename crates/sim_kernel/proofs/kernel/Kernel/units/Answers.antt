@@ -20,7 +20,8 @@ invariant_of-self-2 g c =
     rw c.from.ensures
     (after_units g.B.LawfulBody.body c.self.inside.units old c.self.invariant (g.B.LawfulBody.lawful old.code)
     c.reserve_for_next.new.self c.reserve_for_next.ensures.kept
-    c.units-units.result.made c.units-units.result.last c.units-units.new.self c.units-units.ensures.moves).holds
+    c.units-units.result.made c.units-units.result.last c.units-units.new.places c.units-units.new.self c.units-units.ensures.moves
+    c.units-units.ensures.touched c.slots-kept.ensures.resources).holds
 
 pub returns-clause-steps : goal.returns-clause-steps
 returns-clause-steps g c =
@@ -28,7 +29,8 @@ returns-clause-steps g c =
     rw (← c.self.view_is)
     ((after_units g.B.LawfulBody.body c.self.inside.units old c.self.invariant (g.B.LawfulBody.lawful old.code)
     c.reserve_for_next.new.self c.reserve_for_next.ensures.kept
-    c.units-units.result.made c.units-units.result.last c.units-units.new.self c.units-units.ensures.moves).steps c.slots-kept.ensures.needed)
+    c.units-units.result.made c.units-units.result.last c.units-units.new.places c.units-units.new.self c.units-units.ensures.moves
+    c.units-units.ensures.touched c.slots-kept.ensures.resources).steps c.slots-kept.ensures.needed)
 
 pub returns-clause-opened : goal.returns-clause-opened
 returns-clause-opened g c =
@@ -36,4 +38,5 @@ returns-clause-opened g c =
     rw (← c.self.view_is)
     (after_units g.B.LawfulBody.body c.self.inside.units old c.self.invariant (g.B.LawfulBody.lawful old.code)
     c.reserve_for_next.new.self c.reserve_for_next.ensures.kept
-    c.units-units.result.made c.units-units.result.last c.units-units.new.self c.units-units.ensures.moves).opened
+    c.units-units.result.made c.units-units.result.last c.units-units.new.places c.units-units.new.self c.units-units.ensures.moves
+    c.units-units.ensures.touched c.slots-kept.ensures.resources).opened

@@ -66,7 +66,7 @@ returns-clause-cancelled c =
     rw c.loop-at.invariant.same (cancelled_nowhere c.args.self.now c.args.event (nowhere_there c.args.event c.args.self.now.resources nowhere))
 
 pub returns-clause-same : goal.returns-clause-same
-returns-clause-same c found = c.loop-at.invariant.same
+returns-clause-same c = c.loop-at.invariant.same
 
 pub returns-clause-used : goal.returns-clause-used
 returns-clause-used c = rw c.loop-at.invariant.same refl
@@ -76,3 +76,16 @@ returns-clause-room c = rw c.loop-at.invariant.same (record { events = refl; cal
 
 pub returns-clause-never_less : goal.returns-clause-never_less
 returns-clause-never_less c = rw c.loop-at.invariant.same (omega arith)
+
+pub returns-then-cancel_at-clause-place : goal.returns-then-cancel_at-clause-place
+returns-then-cancel_at-clause-place c =
+    let i = c.self.inside in
+    let below : c.loop-at.at < length c.args.self.now.resources = subst (λ n. c.loop-at.at < n) c.loop-at.invariant.end c.loop-at-test.true in
+    let here : c.loop-at.at < length i.resources.items = rw (← c.self.view_is) at below in
+    record {
+      within = rw (← c.self.view_is) (subst (λ n. c.loop-at.at < n) (same_length i.resources.items i.setup.value c.self.invariant.opened) here);
+      waits = sym (rw c.loop-at.invariant.same at c.if-cancel_at.ensures.waited);
+    }
+
+pub returns-then-cancel_at-clause-touched : goal.returns-then-cancel_at-clause-touched
+returns-then-cancel_at-clause-touched c = rw (← c.loop-at.invariant.same) c.if-cancel_at.ensures.touched

@@ -1,10 +1,11 @@
-use Rattle.std.proofs.Common.{w64}
+use Rattle.std.proofs.Common.{w64, [], ◌∷◌}
 use Rattle.std.proofs.lemmas.Int.{to_z-of_z}
 use Rattle.sim_types.specs.declared.event.EventKind.TheVariants as kind
 use Rattle.sim_types.specs.declared.event.Callback.TheVariants as callback
 use Rattle.sim_machine.specs.State.{Waiter, Give}
 use Rattle.sim_shared_law.proofs.Waiters.JoinedWaiters.{turns_joined}
 use Rattle.sim_shared_law.proofs.Waiters.JoinedEvents.{absent_next, all_open_joined}
+use Rattle.sim_shared_law.proofs.Shown.ShownMeasures.{joined_changes, happens_first}
 use Rattle.sim_shared.proofs.shared.Shared.join_put.Goals as goal
 
 pub queue_put-requires-clause-absent : goal.queue_put-requires-clause-absent
@@ -24,3 +25,9 @@ returns-clause-open c =
     let waits = rw (to_z-of_z w64 c.args.amount c.ranges.amount, to_z-of_z w64 c.args.priority c.ranges.priority) at c.queue_put.ensures in
     let w : Waiter = record { event = m.result; res = c.args.res; want = Give c.args.amount c.args.priority } in
     all_open_joined kind.Put (callback.TryGet c.args.res) c.args.self.now m.new.self c.queue_put.new.self w m.ensures.made m.ensures.id c.requires.res waits m.ensures.open c.requires.shown c.requires.open
+
+pub returns-clause-touched : goal.returns-clause-touched
+returns-clause-touched c =
+    let m = c.make-event in
+    let q = c.queue_put in
+    happens_first (c.args.res ∷ []) c.args.self.now m.new.self q.new.self m.ensures.rest (joined_changes _ m.new.self q.new.self q.ensures)

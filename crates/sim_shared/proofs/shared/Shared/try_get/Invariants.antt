@@ -1,5 +1,6 @@
-use Rattle.std.proofs.Common.{◌≡◌}
+use Rattle.std.proofs.Common.{◌≡◌, [], ◌∷◌}
 use Rattle.sim_machine.specs.Trying as trying
+use Rattle.sim_shared_model.specs.Measuring.{ChangesOnlyAt}
 use Rattle.sim_shared_model.specs.Serving.{DoesPart, AreOpenAt, count_waiting_at}
 use Rattle.sim_shared.proofs.shared.Shared.try_get.Given as goal
 
@@ -12,6 +13,7 @@ invariant-gets l =
       setup : l.self.setup ≡ l.fn.self.setup;
       spare : l.self.happen.spare ≡ l.fn.self.happen.spare;
       used : l.self.used ≡ l.fn.self.used;
+      touched : ChangesOnlyAt (l.res ∷ []) l.fn.self l.self;
     }
 
 -- who waits

@@ -1,6 +1,8 @@
-use Rattle.std.proofs.Common.{rules, w64, FitsSigned}
+use Rattle.std.proofs.Common.{rules, w64, FitsSigned, [], ◌∷◌}
 use Rattle.std.proofs.lemmas.Int.{to_z-of_z}
 use Rattle.sim_shared_law.proofs.Stocks.ServingTries.{put_may, put_served, put_open, put_fewer, no_put}
+use Rattle.sim_shared_model.specs.Serving.{TriesPut}
+use Rattle.sim_shared_law.proofs.Shown.ShownMeasures.{tried_changes, happens_then}
 use Rattle.sim_shared.proofs.shared.Shared.try_one_put.Goals as goal
 
 pub succeed-requires : goal.succeed-requires
@@ -26,3 +28,8 @@ returns-in-Some-clause-fewer c goes =
     let fits : FitsSigned w64 c.in-Some.put.value = search rules in
     put_fewer c.args.self.now c.serve_put.new.self c.args.res c.in-Some.put c.succeed.new.self c.more_puts.result
     _ (to_z-of_z w64 c.in-Some.put.value fits) c.succeed.ensures.follows c.succeed.ensures.happen c.succeed.ensures.rest c.in-Some.ensures
+
+pub returns-in-Some-clause-touched : goal.returns-in-Some-clause-touched
+returns-in-Some-clause-touched c =
+    let served = tried_changes TriesPut c.args.res _ c.args.self.now c.serve_put.new.self c.in-Some.ensures in
+    happens_then (c.args.res ∷ []) c.args.self.now c.serve_put.new.self c.succeed.new.self served c.succeed.ensures.rest

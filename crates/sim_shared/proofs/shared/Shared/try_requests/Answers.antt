@@ -1,4 +1,4 @@
-use Rattle.std.proofs.Common.{rules, subst, ap, ◌∙◌, w64, FitsSigned}
+use Rattle.std.proofs.Common.{rules, subst, ap, ◌∙◌, w64, FitsSigned, [], ◌∷◌}
 use Rattle.std.proofs.lemmas.Int.{to_z-of_z}
 use Rattle.sim_machine.specs.Trying as trying
 use Rattle.sim_machine.specs.Trying.{on_calendar}
@@ -9,6 +9,7 @@ use Rattle.sim_shared_law.proofs.Desks.GrantedSlots.{granted_open, granted_follo
 use Rattle.sim_shared_law.proofs.Waiters.MadeEvents.{makes_none, makes_one}
 use Rattle.sim_shared_law.proofs.Desks.PreemptedSlots.{preempted_open, preempted_follows}
 use Rattle.sim_shared_law.proofs.Desks.TriedDesks.{none_follows}
+use Rattle.sim_shared_law.proofs.Shown.ShownMeasures.{desk_changes, happens_then}
 use Rattle.sim_shared.proofs.shared.Shared.try_requests.Goals as goal
 
 pub succeed-requires : goal.succeed-requires
@@ -41,3 +42,17 @@ returns-in-Preempted-clause-tried c =
     makes_one (trying.try_put c.args.self.now.setup c.args.res) c.args.self.now s.new.self
     (preempted_follows c.args.self.now c.try_first.new.self s.new.self c.args.res w.request w.victim w.process w.since w.ensures.tried follows)
     (s.ensures.spare ∙ ap (λ h. h.spare) w.ensures.happen)
+
+pub returns-in-Granted-clause-touched : goal.returns-in-Granted-clause-touched
+returns-in-Granted-clause-touched c =
+    let tried = desk_changes c.args.res _ c.args.self.now c.try_first.new.self c.in-Granted.ensures.tried in
+    happens_then (c.args.res ∷ []) c.args.self.now c.try_first.new.self c.succeed.new.self tried c.succeed.ensures.rest
+
+pub returns-in-Preempted-clause-touched : goal.returns-in-Preempted-clause-touched
+returns-in-Preempted-clause-touched c =
+    let s = c.succeed_after_preemption in
+    let tried = desk_changes c.args.res _ c.args.self.now c.try_first.new.self c.in-Preempted.ensures.tried in
+    happens_then (c.args.res ∷ []) c.args.self.now c.try_first.new.self s.new.self tried s.ensures.rest
+
+pub returns-in-None-clause-touched : goal.returns-in-None-clause-touched
+returns-in-None-clause-touched c = desk_changes c.args.res _ c.args.self.now c.try_first.new.self c.in-None.ensures.tried

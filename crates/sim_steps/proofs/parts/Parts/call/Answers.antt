@@ -48,13 +48,11 @@ answer-requires-clause-owing g c =
     owing_after _ c.args.self.now c.take_callback.new.self (becomes_taken c.args.self.now c.take_callback.new.self c.args.event c.in-Some.callback c.in-Some.ensures.taken)
     (some_owing g.B.LawfulBody.body c.args.self.now c.requires.stands)
 
-pub returns-in-None : goal.returns-in-None
-returns-in-None g c =
+pub returns-in-None-clause-moves : goal.returns-in-None-clause-moves
+returns-in-None-clause-moves g c =
     let becomes = rw c.in-None.ensures.same at c.settle.ensures.becomes in
-    record { moves = called_moves g.B.LawfulBody.body 0 c.args.self.now c.settle.new.self c.args.event [] c.in-None.ensures.done none_is_few becomes }
+    called_moves g.B.LawfulBody.body 0 c.args.self.now c.settle.new.self c.args.event [] c.in-None.ensures.done none_is_few becomes
 
-pub returns-in-Some : goal.returns-in-Some
-returns-in-Some g c =
-    record {
-      moves = taken_moves g.B.LawfulBody.body c.args.self.now c.take_callback.new.self c.answer.new.self c.args.event c.in-Some.callback c.in-Some.ensures.taken c.answer.ensures.owes;
-    }
+pub returns-in-Some-clause-moves : goal.returns-in-Some-clause-moves
+returns-in-Some-clause-moves g c =
+    taken_moves g.B.LawfulBody.body c.args.self.now c.take_callback.new.self c.answer.new.self c.args.event c.in-Some.callback c.in-Some.ensures.taken c.answer.ensures.owes

@@ -2,8 +2,8 @@ use Rattle.std.proofs.Common.{refl}
 use Rattle.sim_steps_law.proofs.Resources.Moves.{try_put_called}
 use Rattle.sim_steps.proofs.parts.Parts.call_try_put.Goals as goal
 
-pub returns : goal.returns
-returns g c =
+pub returns-clause-becomes : goal.returns-clause-becomes
+returns-clause-becomes g c =
     let tried = c.try_put.ensures.tried in
     let calling = rw (← c.self.view_is) at c.requires.calling in
-    rw (← c.self.view_is) (record { becomes = try_put_called g.B.LawfulBody.body _ _ c.args.event c.args.res calling c.self.invariant.resources (rw tried.turns.left refl) 1 tried })
+    rw (← c.self.view_is) (try_put_called g.B.LawfulBody.body _ _ c.args.event c.args.res calling c.self.invariant.resources (rw tried.turns.left refl) 1 tried)

@@ -2,11 +2,9 @@ use Rattle.std.proofs.Common.{◌∙◌, refl}
 use Rattle.sim_steps_law.proofs.Resources.Moves.{cancelled_becomes}
 use Rattle.sim_steps.proofs.parts.Parts.cancel.Goals as goal
 
-pub returns : goal.returns
-returns g c =
+pub returns-clause-becomes : goal.returns-clause-becomes
+returns-clause-becomes g c =
     let kept = rw (← c.self.view_is) at c.requires.kept in
     let plain = rw (← c.self.view_is) at c.requires.plain in
-    let cancelled = c.cancel.ensures.cancelled in
-    rw (← c.self.view_is) (record {
-      becomes = cancelled_becomes _ c.tell.new.self c.cancel.new.self c.args.cancelled _ kept plain c.cancel.ensures.shown cancelled (c.tell.ensures ∙ rw cancelled.left refl);
-    })
+    let cancelled = c.take_out-place.ensures.cancelled in
+    rw (← c.self.view_is) (cancelled_becomes _ c.tell.new.self c.take_out-place.new.self c.args.cancelled _ kept plain c.take_out-place.ensures.shown cancelled (c.tell.ensures ∙ rw cancelled.left refl))

@@ -8,6 +8,7 @@ use Rattle.sim_steps_model.specs.PartsOf.{PartsOf}
 use Rattle.sim_steps_model.specs.QuietUnits.{with_live}
 use Rattle.sim_steps_law.proofs.Polls.AskedPlaces.{all_stand}
 use Rattle.sim_steps_law.proofs.Kernels.Becoming.{becomes_told}
+use Rattle.sim_steps_law.proofs.Kernels.TouchedPlaces.{touched_after, untouched}
 use Rattle.sim_steps_law.proofs.Ends.DroppableProcesses.{polled_droppable}
 use Rattle.sim_steps_law.proofs.Ends.EndedProcesses.{ended_scopes, polled_open}
 use Rattle.sim_steps_law.proofs.Scopes.HeldScopes.{releases_at}
@@ -423,3 +424,61 @@ drop_process-requires-clause-can g c =
     let a = rw c.in-Drop.is at c.ask-made.ensures.asked in
     let old = with_live a.before.live a.before.control c.args.self.now in
     polled_droppable g.B.LawfulBody.body old c.ask-made.new.self c.args.process a.last.asks.later a.before.stands a.last.owes c.in-Drop.other
+
+pub returns-in-Timeout-clause-touched : goal.returns-in-Timeout-clause-touched
+returns-in-Timeout-clause-touched g c =
+    untouched c.args.places.now c.args.self.now.shared c.timeout.new.self.shared (c.timeout.ensures.resources ∙ c.ask-made.ensures.same_resources)
+
+pub returns-in-Pause-clause-touched : goal.returns-in-Pause-clause-touched
+returns-in-Pause-clause-touched g c =
+    untouched c.args.places.now c.args.self.now.shared c.pause.new.self.shared (c.pause.ensures.resources ∙ c.ask-made.ensures.same_resources)
+
+pub returns-in-Succeed-clause-touched : goal.returns-in-Succeed-clause-touched
+returns-in-Succeed-clause-touched g c =
+    untouched c.args.places.now c.args.self.now.shared c.succeed.new.self.shared (c.succeed.ensures.resources ∙ c.ask-made.ensures.same_resources)
+
+pub returns-in-Fail-clause-touched : goal.returns-in-Fail-clause-touched
+returns-in-Fail-clause-touched g c =
+    untouched c.args.places.now c.args.self.now.shared c.fail.new.self.shared (c.fail.ensures.resources ∙ c.ask-made.ensures.same_resources)
+
+pub returns-in-Interrupt-clause-touched : goal.returns-in-Interrupt-clause-touched
+returns-in-Interrupt-clause-touched g c =
+    untouched c.args.places.now c.args.self.now.shared c.interrupt.new.self.shared (c.interrupt.ensures.resources ∙ c.ask-made.ensures.same_resources)
+
+pub returns-in-Draw-clause-touched : goal.returns-in-Draw-clause-touched
+returns-in-Draw-clause-touched g c =
+    untouched c.args.places.now c.args.self.now.shared c.draw.new.self.shared (c.draw.ensures.resources ∙ c.ask-made.ensures.same_resources)
+
+pub returns-in-Finish-clause-touched : goal.returns-in-Finish-clause-touched
+returns-in-Finish-clause-touched g c =
+    untouched c.args.places.now c.args.self.now.shared c.finish.new.self.shared (c.finish.ensures.resources ∙ c.ask-made.ensures.same_resources)
+
+pub returns-in-Drop-clause-touched : goal.returns-in-Drop-clause-touched
+returns-in-Drop-clause-touched g c =
+    touched_after c.drop_process.new.places c.args.self.now.shared c.ask-made.new.self.shared c.drop_process.new.self.shared
+    c.ask-made.ensures.same_resources c.drop_process.ensures.touched
+
+pub returns-in-Enter-clause-touched : goal.returns-in-Enter-clause-touched
+returns-in-Enter-clause-touched g c =
+    rw (c.push.ensures.new, c.requires.none) (touched_after (c.in-Enter.res ∷ []) c.args.self.now.shared c.ask-made.new.self.shared
+    c.enter.new.self.shared c.ask-made.ensures.same_resources c.enter.ensures.touched)
+
+pub returns-in-Put-clause-touched : goal.returns-in-Put-clause-touched
+returns-in-Put-clause-touched g c =
+    rw (c.push-in-Put.ensures.new, c.requires.none) (touched_after (c.in-Put.res ∷ []) c.args.self.now.shared c.ask-made.new.self.shared
+    c.put.new.self.shared c.ask-made.ensures.same_resources c.put.ensures.touched)
+
+pub returns-in-PutWait-clause-touched : goal.returns-in-PutWait-clause-touched
+returns-in-PutWait-clause-touched g c =
+    rw (c.push-in-PutWait.ensures.new, c.requires.none) (touched_after (c.in-PutWait.res ∷ []) c.args.self.now.shared c.ask-made.new.self.shared
+    c.put_wait.new.self.shared c.ask-made.ensures.same_resources c.put_wait.ensures.touched)
+
+pub returns-in-Get-clause-touched : goal.returns-in-Get-clause-touched
+returns-in-Get-clause-touched g c =
+    rw (c.push-in-Get.ensures.new, c.requires.none) (touched_after (c.in-Get.res ∷ []) c.args.self.now.shared c.ask-made.new.self.shared
+    c.get.new.self.shared c.ask-made.ensures.same_resources c.get.ensures.touched)
+
+pub returns-in-GetWait-clause-touched : goal.returns-in-GetWait-clause-touched
+returns-in-GetWait-clause-touched g c =
+    rw (c.push-in-GetWait.ensures.new, c.requires.none) (touched_after (c.in-GetWait.res ∷ []) c.args.self.now.shared c.ask-made.new.self.shared
+    c.get_wait.new.self.shared c.ask-made.ensures.same_resources c.get_wait.ensures.touched)

@@ -56,8 +56,8 @@ end_process-requires-clause-places g c =
     let control = ap (control_of c.self.inside.mode) told.left ∙ sym (stripped_is c.args.other c.self.inside.mode c.self.inside.shared.happen.left c.args.event c.args.process running) in
     stand_then g.B.LawfulBody.body c.args.other c.in-Some.target c.args.self.now c.stop_waiting.new.happen c.leave_scopes.new.self c.leave_scopes.ensures.leaves c.requires.can stops waits (rw (← c.self.view_is, control) refl) g.B.Body.events_held c.requires.places
 
-pub returns : goal.returns
-returns g c =
+pub returns-clause-becomes : goal.returns-clause-becomes
+returns-clause-becomes g c =
     let told = rw c.happen_mut.ensures.value at c.stop_waiting.ensures.stops in
     let stops : StopsWaiting c.in-Some.target c.args.other c.args.self.now.shared.happen c.stop_waiting.new.happen = rw (← c.self.view_is) told in
     let waits : Some c.in-Some.target ≡ option_map (λ r. r.target) (record_of c.args.other c.args.self.now.live) = rw (← c.self.view_is) c.in-Some.ensures in
@@ -65,6 +65,4 @@ returns g c =
     let control = ap (control_of c.self.inside.mode) told.left ∙ sym (stripped_is c.args.other c.self.inside.mode c.self.inside.shared.happen.left c.args.event c.args.process running) in
     let value : FitsSigned w64 c.args.value = search rules in
     let ends = rw (to_z-of_z w64 c.args.value value) at c.end_process.ensures.becomes in
-    record {
-      becomes = drops_then g.B.LawfulBody.body c.args.other c.in-Some.target c.args.self.now c.stop_waiting.new.happen c.leave_scopes.new.self c.leave_scopes.ensures.leaves c.requires.can stops waits (rw (← c.self.view_is, control) refl) c.args.value c.end_process.new.self c.tell.new.self ends c.tell.ensures;
-    }
+    drops_then g.B.LawfulBody.body c.args.other c.in-Some.target c.args.self.now c.stop_waiting.new.happen c.leave_scopes.new.self c.leave_scopes.ensures.leaves c.requires.can stops waits (rw (← c.self.view_is, control) refl) c.args.value c.end_process.new.self c.tell.new.self ends c.tell.ensures

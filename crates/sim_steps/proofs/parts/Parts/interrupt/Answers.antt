@@ -6,23 +6,19 @@ use Rattle.sim_types.specs.declared.event.Throw.{Throw}
 use Rattle.sim_steps_law.proofs.Polls.Interruptions.{another_ended, another_itself, interrupted_becomes}
 use Rattle.sim_steps.proofs.parts.Parts.interrupt.Goals as goal
 
-pub returns-then-not-is_alive : goal.returns-then-not-is_alive
-returns-then-not-is_alive g c =
+pub returns-then-not-is_alive-clause-becomes : goal.returns-then-not-is_alive-clause-becomes
+returns-then-not-is_alive-clause-becomes g c =
     let ended = sym c.is_alive.ensures ∙ c.if-not-is_alive.true in
-    record { becomes = another_ended c.args.process c.args.other _ _ c.tell.new.self (rw (← c.self.view_is) ended) c.tell.ensures }
+    another_ended c.args.process c.args.other _ _ c.tell.new.self (rw (← c.self.view_is) ended) c.tell.ensures
 
-pub returns-then-other-process : goal.returns-then-other-process
-returns-then-other-process g c =
+pub returns-then-other-process-clause-becomes : goal.returns-then-other-process-clause-becomes
+returns-then-other-process-clause-becomes g c =
     let lives = sym c.is_alive.ensures ∙ c.if-not-is_alive.false in
-    record {
-      becomes = another_itself c.args.process c.args.other _ _ c.tell-then-other-process.new.self (rw (← c.self.view_is) lives) (eq-eqb c.args.other.0 c.args.process.0 c.if-other-process.true) c.tell-then-other-process.ensures;
-    }
+    another_itself c.args.process c.args.other _ _ c.tell-then-other-process.new.self (rw (← c.self.view_is) lives) (eq-eqb c.args.other.0 c.args.process.0 c.if-other-process.true) c.tell-then-other-process.ensures
 
-pub returns-else-other-process : goal.returns-else-other-process
-returns-else-other-process g c =
+pub returns-else-other-process-clause-becomes : goal.returns-else-other-process-clause-becomes
+returns-else-other-process-clause-becomes g c =
     let cause : FitsSigned w64 c.args.cause = search rules in
     let what : Throw = record { kind = interrupt; value = c.args.cause } in
     let made = rw (to_z-of_z w64 c.args.cause cause, c.happen_mut.ensures.value) at c.interrupt.ensures.made in
-    rw (← c.self.view_is) (record {
-      becomes = interrupted_becomes c.args.process c.args.other what _ c.tell-else-other-process.new.self c.interrupt.new.self (sym c.is_alive.ensures ∙ c.if-not-is_alive.false) (is_process-no c.args.other c.args.process c.if-other-process.false) made (c.tell-else-other-process.ensures ∙ rw made.left refl);
-    })
+    rw (← c.self.view_is) (interrupted_becomes c.args.process c.args.other what _ c.tell-else-other-process.new.self c.interrupt.new.self (sym c.is_alive.ensures ∙ c.if-not-is_alive.false) (is_process-no c.args.other c.args.process c.if-other-process.false) made (c.tell-else-other-process.ensures ∙ rw made.left refl))

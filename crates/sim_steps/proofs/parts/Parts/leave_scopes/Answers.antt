@@ -1,37 +1,54 @@
-use Rattle.std.proofs.Common.{sym, arith}
-use Rattle.sim_steps_law.proofs.Scopes.LeavingEach.{gone_few, leaves_start, some_fewer, some_last, some_next}
+use Rattle.std.proofs.Common.{◌<◌, length, refl, sym, arith}
+use Rattle.sim_procs.specs.RecordOf.{record_of}
+use Rattle.sim_steps_law.proofs.Kernels.TouchedPlaces.{pushed_length, touched_before, touched_more, untouched}
+use Rattle.sim_steps_law.proofs.Scopes.LeavingEach.{few_open, gone_few, leaves_start, some_fewer, some_last, some_next}
 use Rattle.sim_steps.proofs.parts.Parts.leave_scopes.Goals as goal
 
-pub loop-process-init : goal.loop-process-init
-loop-process-init g c = record { some = leaves_start c.args.process c.args.self.now c.requires.scopes c.requires.can }
+pub loop-at-init : goal.loop-at-init
+loop-at-init g c =
+    record {
+      some = leaves_start c.args.process c.args.self.now c.requires.scopes c.requires.can;
+      touched = untouched c.args.places.now c.args.self.now.shared c.args.self.now.shared refl;
+      few = rw c.requires.none (omega (arith, few_open (record_of c.args.process c.args.self.now.live) c.requires.scopes));
+    }
 
 pub leave_scope-requires-clause-spare_events : goal.leave_scope-requires-clause-spare_events
 leave_scope-requires-clause-spare_events g c =
-    let some = c.loop-process.invariant.some in
+    let some = c.loop-at.invariant.some in
     omega (arith, some.events, gone_few c.args.process some c.requires.scopes, c.requires.spare_events)
 
 pub leave_scope-requires-clause-spare_callbacks : goal.leave_scope-requires-clause-spare_callbacks
 leave_scope-requires-clause-spare_callbacks g c =
-    let some = c.loop-process.invariant.some in
+    let some = c.loop-at.invariant.some in
     omega (arith, some.callbacks, gone_few c.args.process some c.requires.scopes, c.requires.spare_callbacks)
 
 pub leave_scope-requires-clause-number : goal.leave_scope-requires-clause-number
 leave_scope-requires-clause-number g c =
-    let some = c.loop-process.invariant.some in
+    let some = c.loop-at.invariant.some in
     omega (arith, some.made, gone_few c.args.process some c.requires.scopes, c.requires.number)
 
-pub loop-process-smaller : goal.loop-process-smaller
-loop-process-smaller g c =
-    some_fewer c.args.process c.loop-process.invariant.some c.leave_scope.new.self c.loop-process-test.ensures.leaves (sym c.loop-process-test.ensures.result)
+pub loop-at-smaller : goal.loop-at-smaller
+loop-at-smaller g c =
+    some_fewer c.args.process c.loop-at.invariant.some c.leave_scope.new.self c.in-Some.ensures.leaves (sym c.in-Some.ensures.result)
 
-pub loop-process-preserved : goal.loop-process-preserved
-loop-process-preserved g c =
+pub loop-at-preserved : goal.loop-at-preserved
+loop-at-preserved g c =
+    let some = c.loop-at.invariant.some in
+    let left = c.leave_scope.new.self in
+    let fewer = some_fewer c.args.process some left c.in-Some.ensures.leaves (sym c.in-Some.ensures.result) in
+    let room : length c.loop-at.places < 32 = omega (arith, fewer, c.loop-at.invariant.few) in
     record {
-      some = some_next c.args.process c.loop-process.invariant.some c.leave_scope.new.self c.loop-process-test.ensures.leaves (sym c.loop-process-test.ensures.result);
+      some = some_next c.args.process some left c.in-Some.ensures.leaves (sym c.in-Some.ensures.result);
+      touched = touched_more 32 c.loop-at.places c.in-Some.at c.push.new.self c.push.ensures.new room c.args.self.now.shared c.loop-at.self.shared
+          left.shared c.loop-at.invariant.touched c.in-Some.ensures.touched;
+      few = omega (arith, fewer, c.loop-at.invariant.few, pushed_length 32 c.loop-at.places c.in-Some.at c.push.new.self c.push.ensures.new room);
     }
 
-pub returns : goal.returns
-returns g c =
-    record {
-      leaves = some_last c.args.process c.loop-process.invariant.some c.leave_scope.new.self c.loop-process-test.ensures.leaves (sym c.loop-process-test.ensures.result);
-    }
+pub returns-clause-leaves : goal.returns-clause-leaves
+returns-clause-leaves g c =
+    some_last c.args.process c.loop-at.invariant.some c.leave_scope.new.self c.in_default.ensures.leaves (sym c.in_default.ensures.result)
+
+pub returns-clause-touched : goal.returns-clause-touched
+returns-clause-touched g c =
+    touched_before c.loop-at.places c.args.self.now.shared c.loop-at.self.shared c.leave_scope.new.self.shared c.loop-at.invariant.touched
+    c.in_default.ensures.same_resources

@@ -5,16 +5,16 @@ use Rattle.sim_machine.specs.Effect.{tell_made}
 use Rattle.sim_steps_law.proofs.Kernels.Becoming.{becomes_told}
 use Rattle.sim_steps.proofs.parts.Parts.put.Goals as goal
 
-pub returns-in-Some : goal.returns-in-Some
-returns-in-Some g c =
+pub returns-in-Some-clause-becomes : goal.returns-in-Some-clause-becomes
+returns-in-Some-clause-becomes g c =
     let amount : FitsSigned w64 c.args.amount = search rules in
     let priority : FitsSigned w64 c.args.priority = search rules in
     let made = rw (to_z-of_z w64 c.args.amount amount, to_z-of_z w64 c.args.priority priority) at c.in-Some.ensures.made in
-    record { becomes = made.each 0 tell_made c.tell.new.self (rw c.tell.ensures (becomes_told (signal.Made c.in-Some.put) c.make_put.new.self)) }
+    made.each 0 tell_made c.tell.new.self (rw c.tell.ensures (becomes_told (signal.Made c.in-Some.put) c.make_put.new.self))
 
-pub returns-in-None : goal.returns-in-None
-returns-in-None g c =
+pub returns-in-None-clause-becomes : goal.returns-in-None-clause-becomes
+returns-in-None-clause-becomes g c =
     let amount : FitsSigned w64 c.args.amount = search rules in
     let priority : FitsSigned w64 c.args.priority = search rules in
     let refused = rw (to_z-of_z w64 c.args.amount amount, to_z-of_z w64 c.args.priority priority) at c.in-None.ensures.refused in
-    record { becomes = refused.each tell_made }
+    refused.each tell_made

@@ -1,9 +1,10 @@
-use Rattle.std.proofs.Common.{rules, w64, arith, ◌^◌, ◌+◌, FitsSigned}
+use Rattle.std.proofs.Common.{[], ◌∷◌, rules, w64, arith, ◌^◌, ◌+◌, FitsSigned}
 use Rattle.std.proofs.lemmas.Int.{to_z-of_z}
 use Rattle.sim_machine.specs.Processes.{wait}
 use Rattle.sim_steps_law.proofs.Kernels.Accounting.{owing_after}
 use Rattle.sim_steps_law.proofs.Kernels.Becoming.{becomes_within}
 use Rattle.sim_steps_law.proofs.Kernels.Keeping.{held_by_few}
+use Rattle.sim_steps_law.proofs.Kernels.TouchedPlaces.{touched_before}
 use Rattle.sim_steps.proofs.parts.Parts.put_wait.Goals as goal
 
 pub wait-requires-clause-few : goal.wait-requires-clause-few
@@ -12,16 +13,21 @@ wait-requires-clause-few g c = held_by_few (2 ^ 41 + 0) c.make_put.new.self.shar
 pub wait-requires-clause-owing : goal.wait-requires-clause-owing
 wait-requires-clause-owing g c = owing_after _ c.args.self.now _ c.in-Some.ensures.made.itself c.requires.owing
 
-pub returns-in-Some : goal.returns-in-Some
-returns-in-Some g c =
+pub returns-in-Some-clause-becomes : goal.returns-in-Some-clause-becomes
+returns-in-Some-clause-becomes g c =
     let amount : FitsSigned w64 c.args.amount = search rules in
     let priority : FitsSigned w64 c.args.priority = search rules in
     let made = rw (to_z-of_z w64 c.args.amount amount, to_z-of_z w64 c.args.priority priority) at c.in-Some.ensures.made in
-    record { becomes = made.each 1 (λ e s. wait e c.args.process s) c.wait.new.self c.wait.ensures.becomes }
+    made.each 1 (λ e s. wait e c.args.process s) c.wait.new.self c.wait.ensures.becomes
 
-pub returns-in-None : goal.returns-in-None
-returns-in-None g c =
+pub returns-in-None-clause-becomes : goal.returns-in-None-clause-becomes
+returns-in-None-clause-becomes g c =
     let amount : FitsSigned w64 c.args.amount = search rules in
     let priority : FitsSigned w64 c.args.priority = search rules in
     let refused = rw (to_z-of_z w64 c.args.amount amount, to_z-of_z w64 c.args.priority priority) at c.in-None.ensures.refused in
-    record { becomes = becomes_within 0 1 _ _ _ (omega arith) (refused.each (λ e s. wait e c.args.process s)) }
+    becomes_within 0 1 _ _ _ (omega arith) (refused.each (λ e s. wait e c.args.process s))
+
+pub returns-in-Some-clause-touched : goal.returns-in-Some-clause-touched
+returns-in-Some-clause-touched g c =
+    touched_before (c.args.res ∷ []) c.args.self.now.shared c.make_put.new.self.shared c.wait.new.self.shared c.in-Some.ensures.touched
+    c.wait.ensures.resources

@@ -13,10 +13,8 @@ release-requires-clause-slots g c =
     let takes = rw (← c.self.view_is, ← c.in-Some.ensures) at c.requires.scope in
     rw c.self.invariant.resources takes.slots
 
-pub returns : goal.returns
-returns g c =
+pub returns-clause-becomes : goal.returns-clause-becomes
+returns-clause-becomes g c =
     let own = found_scope (scope_of c.args.request) (record_of c.args.process c.self.inside.processes.live) c.in-Some.scope c.in-Some.ensures in
     let released = c.release.ensures.released in
-    rw (← c.self.view_is) (record {
-      becomes = released_becomes _ c.tell.new.self c.args.process own.0 c.args.request c.in-Some.scope c.release.new.self own.1 own.2 released (c.tell.ensures ∙ rw released.left refl);
-    })
+    rw (← c.self.view_is) (released_becomes _ c.tell.new.self c.args.process own.0 c.args.request c.in-Some.scope c.release.new.self own.1 own.2 released (c.tell.ensures ∙ rw released.left refl))

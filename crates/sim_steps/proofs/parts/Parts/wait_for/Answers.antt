@@ -9,9 +9,7 @@ unhold-requires g c =
       owed = owing_after (wait c.args.on c.args.process) c.args.self.now c.begin_to_wait-left.new.self c.begin_to_wait-left.ensures.owes c.requires.owing;
     }
 
-pub returns : goal.returns
-returns g c =
-    record {
-      becomes = becomes_then (wait c.args.on c.args.process) (λ s. s) c.args.self.now c.begin_to_wait-left.new.self c.unhold.new.self
-          c.begin_to_wait-left.ensures.owes c.unhold.ensures.owes;
-    }
+pub returns-clause-becomes : goal.returns-clause-becomes
+returns-clause-becomes g c =
+    becomes_then (wait c.args.on c.args.process) (λ s. s) c.args.self.now c.begin_to_wait-left.new.self c.unhold.new.self
+    c.begin_to_wait-left.ensures.owes c.unhold.ensures.owes
