@@ -1,3 +1,4 @@
 pub mod Known
 pub mod Absent
 pub mod Moved
+pub mod Opened

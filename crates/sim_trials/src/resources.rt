@@ -60,10 +60,12 @@ fn the_second_request_waits(rt: HostRuntime) -> Result<(), Fail> {
     let (first, second) = (EventId(21), EventId(22));
     joins(&rt, &mut desk, first, key_of(0, 3), ProcId(9));
     joins(&rt, &mut desk, second, key_of(0, 3), ProcId(8));
+    assert_eq!(rt; desk.waiting(), 2);
     assert!(rt; is_granted(desk.attempt(3), first));
     assert!(rt; is_none(desk.attempt(3)));
     assert!(rt; !desk.release(second));
     assert_eq!(rt; desk.count(), 1);
+    assert_eq!(rt; desk.waiting(), 1);
     Ok(())
 }
 

@@ -41,16 +41,24 @@ fn a_get_waits_for_its_amount(rt: HostRuntime) {
     gets(&rt, &mut tank, get, 5);
     assert!(rt; tank.try_get().is_none());
     puts(&rt, &mut tank, put, 2);
+    assert_eq!(rt; tank.waiting(), (1, 1));
     assert!(rt; is_served(tank.try_put(), put, 0));
+    assert_eq!(rt; tank.waiting(), (0, 1));
     assert!(rt; is_served(tank.try_get(), get, 0));
+    assert_eq!(rt; tank.waiting(), (0, 0));
     assert_eq!(rt; tank.level(), 0);
+}
+
+/// A put more at a store, of an item of this value and priority.
+fn brings(rt: &impl Abort, shelf: &mut Shelf, event: EventId, value: i64, priority: i64) {
+    assert!(rt; shelf.reserve().is_ok());
+    assert!(rt; !shelf.cancel(event));
+    shelf.join_put(event, value, priority);
 }
 
 /// An item more in a store, if there is place for it.
 fn deposits(rt: &impl Abort, shelf: &mut Shelf, event: EventId, value: i64, priority: i64) {
-    assert!(rt; shelf.reserve().is_ok());
-    assert!(rt; !shelf.cancel(event));
-    shelf.join_put(event, value, priority);
+    brings(rt, shelf, event, value, priority);
     assert!(rt; is_served(shelf.try_put(), event, 0));
 }
 
@@ -79,4 +87,20 @@ fn each_kind_of_store_gives_another_item(rt: HostRuntime) {
         assert!(rt; is_served(shelf.try_get(), EventId(24), value));
         assert_eq!(rt; shelf.len(), 2);
     }
+}
+
+// A store of one item has one: a put waits until a get has taken it.
+#[test]
+fn a_put_waits_for_place(rt: HostRuntime) {
+    let mut shelf = Shelf::new(rt.alloc(), ShelfKind::Fifo, 1);
+    let (put, get) = (EventId(22), EventId(23));
+    deposits(&rt, &mut shelf, EventId(21), 7, 0);
+    brings(&rt, &mut shelf, put, 8, 0);
+    assert!(rt; shelf.try_put().is_none());
+    takes(&rt, &mut shelf, get, 0, 0);
+    assert_eq!(rt; shelf.waiting(), (1, 1));
+    assert!(rt; is_served(shelf.try_get(), get, 7));
+    assert_eq!(rt; shelf.waiting(), (1, 0));
+    assert!(rt; is_served(shelf.try_put(), put, 0));
+    assert_eq!(rt; shelf.waiting(), (0, 0));
 }

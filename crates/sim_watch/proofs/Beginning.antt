@@ -1,9 +1,7 @@
 -- A run of a scenario: it begins at time 0, each state that it comes to is lawful, and its time never falls.
-use Rattle.std.proofs.Common.{◌≡◌, ◌<◌, ◌≤◌, ◌≤ℤ◌, ℕ, zero, suc, ◌+◌, ℤ, pos, List, [], ◌∷◌, length, refl, sym, ap, ◌∙◌, subst, arith}
+use Rattle.std.proofs.Common.{◌≡◌, ◌<◌, ◌≤◌, ◌≤ℤ◌, ℕ, zero, suc, ◌+◌, ℤ, pos, List, [], ◌∷◌, refl, sym, ◌∙◌, subst, arith}
 use Rattle.std.specs.Prelude.{IsTrue, fold}
-use Rattle.std.specs.List.{AllPass}
 use Rattle.std.proofs.lemmas.Int.{ints}
-use Rattle.sim_types.specs.Limits.{last_time, most_level}
 use Rattle.sim_types.specs.Scenarios.{ScenarioOf}
 use Rattle.sim_types.specs.declared.setup.Arrival.{Arrival}
 use Rattle.sim_types.specs.declared.setup.Start.{Start}
@@ -11,7 +9,7 @@ use Rattle.sim_types.specs.declared.setup.Until.{Until}
 use Rattle.sim_types.specs.declared.setup.Until.TheVariants as until
 use Rattle.sim_machine.specs.State.{Calendar, State, Plan}
 use Rattle.sim_machine.specs.Effect.{calendar}
-use Rattle.sim_machine.specs.Runs.{opening, set_stop, start_process, blank_state}
+use Rattle.sim_machine.specs.Runs.{set_stop, start_process, blank_state}
 use Rattle.sim_machine_law.specs.Courses.{Run, course_after, state_after}
 use Rattle.sim_language.specs.WellFormed.{is_well_formed}
 use Rattle.sim_script_model.specs.Scripts.{Script}

@@ -1,13 +1,13 @@
 -- The units of a walk over scripts are those of the run.
-use Rattle.std.proofs.Common.{◌≡◌, ◌<◌, ◌≤◌, ℕ, zero, suc, ◌+◌, ◌⊎◌, inl, inr, List, [], length, false, Some, None, refl, sym, ap, ◌∙◌, subst, arith, add-zero}
+use Rattle.std.proofs.Common.{◌≡◌, ◌<◌, ◌≤◌, ℕ, zero, suc, ◌+◌, ◌⊎◌, inl, inr, [], length, false, None, refl, sym, ap, ◌∙◌, subst, arith, add-zero}
 use Rattle.std.proofs.lemmas.Bool.{cases_eq}
 use Rattle.sim_types.specs.Scenarios.{ScenarioOf}
 use Rattle.sim_types.specs.declared.line.Measure.{Measure}
 use Rattle.sim_machine.specs.Effect.{calendar}
 use Rattle.sim_machine.specs.Measures.{measure_at}
 use Rattle.sim_machine.specs.Runs.{end_of}
-use Rattle.sim_machine.specs.Units.{Course, unit_of}
-use Rattle.sim_machine_law.specs.Courses.{Run, course_after, state_after}
+use Rattle.sim_machine.specs.Units.{Course}
+use Rattle.sim_machine_law.specs.Courses.{Run, course_after}
 use Rattle.sim_shared_model.specs.Measuring.{is_one_of}
 use Rattle.sim_procs.specs.QuietPolls.{InARow, QuietButLast}
 use Rattle.sim_steps_model.specs.PartsOf.{PartsOf, plan_of}
@@ -67,7 +67,8 @@ module _ (r : Run Script) (parts : PartsOf Script ScenarioOf) (plan : r.plan ≡
           let alike : AreMeasuredAlike r.plan.setup.resources [] m.state later.state = rw plan then.measures in
           ap at (sym now) ∙ (alike.same res within refl ∙ (ap at before.there ∙ before.measures res within n (omega arith)))
 
-      by_last : {X : Type 0} (f : ℕ → X) (i : ℕ) → i ≤ suc n → (i ≡ suc n) ⊎ (i ≡ suc n → ⊥) → (i ≤ n → f (k + i) ≡ f k) → f (k + suc n) ≡ f k → f (k + i) ≡ f k
+      by_last : {X : Type 0} (f : ℕ → X) (i : ℕ) → i ≤ suc n → (i ≡ suc n) ⊎ (i ≡ suc n → ⊥) → (i ≤ n → f (k + i) ≡ f k)
+          → f (k + suc n) ≡ f k → f (k + i) ≡ f k
       by_last f i below (inl is) early last = subst (λ (j : ℕ). f (k + j) ≡ f k) (sym is) last
       by_last f i below (inr differs) early last = early (omega (arith, below, differs))
 

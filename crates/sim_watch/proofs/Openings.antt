@@ -1,6 +1,6 @@
 -- What is watched as a walk begins.
-use Rattle.std.proofs.Common.{◌≡◌, ◌<◌, ◌≤◌, ◌≤ℤ◌, ℕ, zero, suc, ◌+◌, ◌⊎◌, inl, inr, ℤ, pos, List, [], ◌∷◌, ◌++◌, length, get_or, length-append, None, refl, sym, ap, ◌∙◌, subst, arith}
-use Rattle.std.specs.Prelude.{All, IsTrue}
+use Rattle.std.proofs.Common.{◌≡◌, ◌<◌, ◌≤ℤ◌, ℕ, zero, suc, ◌+◌, ◌⊎◌, inl, inr, ℤ, pos, List, [], ◌∷◌, ◌++◌, length, get_or, length-append, refl, sym, ap, ◌∙◌, subst, arith}
+use Rattle.std.specs.Prelude.{IsTrue}
 use Rattle.std.proofs.Math.Seq.{get_or-append_seam}
 use Rattle.std.proofs.lemmas.Bool.{cases_eq}
 use Rattle.std.proofs.lemmas.Int.{ints}
@@ -29,7 +29,7 @@ use Rattle.sim_script_model.specs.Scripts.{Script}
 use Rattle.sim_script_law.specs.ScriptMembers.{script_body}
 use Rattle.sim_lawful.specs.LawfulRuns.{IsRunOf}
 use Rattle.sim_watch.specs.Watched.{WatchedOf, IsWatched}
-use Rattle.sim_watch.specs.Following.{AreUpTo, AreWatched, CanBeMeasured, Follows, IsAtLast, IsAtOpening, IsInRun, run_from, run_of, time_after, measure_after}
+use Rattle.sim_watch.specs.Following.{AreUpTo, AreWatched, CanBeMeasured, Follows, IsAtLast, IsAtOpening, run_from, run_of, time_after, measure_after}
 use Rattle.sim_watch.proofs.Beginning.{is_run, opens_at_0}
 
 -- ---- what is measured is in its range

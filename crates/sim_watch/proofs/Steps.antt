@@ -12,7 +12,7 @@ use Rattle.sim_machine.specs.Runs.{HasEnded, end_of}
 use Rattle.sim_machine.specs.Measures.{row_of}
 use Rattle.sim_machine_law.specs.Courses.{Run, course_after, state_after}
 use Rattle.sim_machine_law.proofs.RunLaws.MadeUnits.{made_where, stays_where}
-use Rattle.sim_steps_model.specs.PartsOf.{IsOpenedAs, plan_of}
+use Rattle.sim_steps_model.specs.PartsOf.{IsOpenedAs}
 use Rattle.sim_steps_model.specs.declared.mode.Units.{Units}
 use Rattle.sim_kernel.specs.Walks.{WalkOf, IsOver, StandsAt, Walks}
 use Rattle.sim_script_model.specs.Scenarios.{watch_rows}

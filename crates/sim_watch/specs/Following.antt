@@ -1,5 +1,5 @@
 -- What is watched at each resource as a walk goes on, over the run that it makes.
-use Rattle.std.specs.Prelude.{◌≡◌, ◌<◌, ◌≤◌, ◌≤ℤ◌, ◌+◌, ℕ, ℤ, false, List, length, map, slice_index_or, None, All}
+use Rattle.std.specs.Prelude.{◌≡◌, ◌<◌, ◌≤◌, ◌≤ℤ◌, ◌+◌, ℕ, ℤ, false, List, length, slice_index_or, None, All}
 use Rattle.std.specs.List.{AllPass}
 use Rattle.sim_types.specs.Scenarios.{ScenarioOf}
 use Rattle.sim_types.specs.Setups.{resource_fits}

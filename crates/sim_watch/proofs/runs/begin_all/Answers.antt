@@ -1,4 +1,4 @@
-use Rattle.std.proofs.Common.{◌≡◌, ◌<◌, ◌+◌, length, refl, sym, ap, subst, ◌∙◌, arith}
+use Rattle.std.proofs.Common.{◌<◌, ◌+◌, length, sym, ap, subst, ◌∙◌, arith}
 use Rattle.sim_watch.specs.Following.{run_from}
 use Rattle.sim_watch.proofs.Openings.{AreBegun, IsMeasuredAt, all_begun, begun_next, none_begun, opened_from_0, opened_to_most}
 use Rattle.sim_watch.proofs.runs.begin_all.Goals as goal

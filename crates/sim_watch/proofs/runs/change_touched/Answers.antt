@@ -1,6 +1,5 @@
-use Rattle.std.proofs.Common.{rules, FitsSigned, to_z, of_z, w64, ℤ, [], ◌≡◌, ◌+◌, get_or, refl, sym, ap, subst, ◌∙◌}
+use Rattle.std.proofs.Common.{rules, FitsSigned, to_z, of_z, w64, ℤ, ◌≡◌, ◌+◌, get_or, refl, sym, ap, subst, ◌∙◌}
 use Rattle.std.proofs.lemmas.Int.{to_z-of_z}
-use Rattle.sim_watch.specs.Watched.{WatchedOf}
 use Rattle.sim_watch.proofs.Changing.{ChangesSo, changed_whole, changes, none_changed, passes}
 use Rattle.sim_watch.proofs.runs.change_touched.Goals.{then-place-watched, else-place-watched}
 use Rattle.sim_watch.proofs.runs.change_touched.Goals as goal

@@ -1,8 +1,8 @@
-use Rattle.std.proofs.Common.{◌≡◌, ◌+◌, refl, sym, ap, subst, ◌∙◌, arith}
+use Rattle.std.proofs.Common.{◌≡◌, ◌+◌, sym, subst, ◌∙◌, arith}
 use Rattle.sim_kernel.specs.Walks.{IsOver, Walks}
 use Rattle.sim_script_law.specs.ScriptMembers.{script_body}
-use Rattle.sim_watch.specs.Following.{AreUpTo, CanBeMeasured, Follows, HasMoved, AreWatched, run_from}
-use Rattle.sim_watch.proofs.Steps.{as_many, can_be_measured, follows_then, some_made, up_to_then}
+use Rattle.sim_watch.specs.Following.{AreUpTo, CanBeMeasured, HasMoved, run_from}
+use Rattle.sim_watch.proofs.Steps.{can_be_measured, follows_then, some_made, up_to_then}
 use Rattle.sim_watch.proofs.runs.follow.Goals as goal
 
 pub change_touched-requires-clause-can : goal.change_touched-requires-clause-can

@@ -1,8 +1,7 @@
-use Rattle.std.proofs.Common.{rules, FitsSigned, to_z, of_z, w64, ℤ, pos, ◌≡◌, map, length, List, refl, sym, ap, subst, ◌∙◌}
+use Rattle.std.proofs.Common.{rules, FitsSigned, w64, pos, ◌≡◌, refl, sym, ap, ◌∙◌}
 use Rattle.std.proofs.lemmas.Int.{to_z-of_z}
-use Rattle.std.proofs.lemmas.Result.{IfOk-weaker, on_ok_weaker}
-use Rattle.sim_watch.specs.Watched.{WatchedOf, row_at}
-use Rattle.sim_watch.specs.Following.{AreUpTo}
+use Rattle.std.proofs.lemmas.Result.{IfOk-weaker}
+use Rattle.sim_watch.specs.Watched.{WatchedOf}
 use Rattle.sim_watch.proofs.Steps.{all_told, at_last, up_to_there}
 use Rattle.sim_watch.proofs.Telling.{whole_slice}
 use Rattle.sim_watch.proofs.runs.rows_of.Goals as goal
