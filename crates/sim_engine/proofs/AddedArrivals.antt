@@ -30,7 +30,7 @@ use Rattle.sim_steps_model.specs.PartsOf.{plan_of}
 use Rattle.sim_script_model.specs.Scripts.{Script}
 use Rattle.sim_script_model.specs.Scenarios.{summary}
 use Rattle.sim_script_law.specs.ScriptMembers.{script_body}
-use Rattle.sim_engine.specs.RunOfScenario.{run_of}
+use Rattle.sim_script_law.specs.ScenarioRuns.{run_of}
 use Rattle.sim_engine.specs.Sessions.{SessionOf, IsAt, GoesOn, IsBusyBetween, IsSettled, steps_in, takes_arrivals, text_of_steps, turn_of, report_of}
 use Rattle.sim_engine.specs.Rounds.{StandsInRun, next_of, text_by}
 use Rattle.sim_engine.specs.declared.runs.Next.TheVariants as next

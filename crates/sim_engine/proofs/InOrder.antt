@@ -29,7 +29,7 @@ use Rattle.sim_script_law.proofs.Laws.ScriptLaw.{script_lawful}
 use Rattle.sim_script_law.proofs.Laws.SetupFits.{fits_code}
 use Rattle.sim_machine.specs.RandomWords.{word_of}
 use Rattle.sim_script_model.specs.Scenarios.{plan_with}
-use Rattle.sim_engine.specs.RunOfScenario.{run_of}
+use Rattle.sim_script_law.specs.ScenarioRuns.{run_of}
 use Rattle.sim_types.specs.Setups.{HavePorts}
 use Rattle.sim_engine.specs.Throughout.{is_of_living, IsInOrder, IsInOrderThroughout}
 

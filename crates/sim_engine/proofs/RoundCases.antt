@@ -1,23 +1,11 @@
 -- What comes next in a run says how its machine stands.
-use Rattle.std.proofs.Common.{◌≡◌, List, [], ◌∷◌, length, Bool, true, false, Some, None, refl, sym, ap, ◌∙◌, arith}
-use Rattle.std.specs.Prelude.{nat_le, is_none, ◌||◌, if◌then◌else◌}
+use Rattle.std.proofs.Common.{◌≡◌, Bool, true, false, refl}
+use Rattle.std.specs.Prelude.{nat_le, if◌then◌else◌}
 use Rattle.std.proofs.lemmas.Bool.{false≢true}
-use Rattle.std.proofs.lemmas.List.Sorted.{length_permutation}
-use Rattle.sim_types.specs.Scenarios.{ScenarioOf}
-use Rattle.sim_types.specs.declared.event.Entry.{Entry}
 use Rattle.sim_types.specs.declared.line.End.TheVariants as end
-use Rattle.sim_types.specs.declared.setup.Arrival.{Arrival}
-use Rattle.sim_machine.specs.State.{Control, Idle, Calling, Active, Over, State, Plan}
-use Rattle.sim_machine.specs.Agenda.{due}
-use Rattle.sim_machine.specs.Effect.{calendar}
-use Rattle.sim_machine.specs.Units.{due_arrival}
-use Rattle.sim_machine.specs.Runs.{end_by}
-use Rattle.sim_steps_model.specs.PartsOf.{PartsOf}
-use Rattle.sim_steps_model.specs.Resting.{rest_of, rest_in, can_arrive}
-use Rattle.sim_steps_model.specs.StandsFor.{StandsFor}
+use Rattle.sim_steps_model.specs.Resting.{rest_in, can_arrive}
 use Rattle.sim_steps_model.specs.declared.mode.Rest.{Rest}
 use Rattle.sim_steps_model.specs.declared.mode.Rest.TheVariants as rest
-use Rattle.sim_script_model.specs.Scripts.{Script}
 use Rattle.sim_engine.specs.Sessions.{SessionOf, turn_at, turn_of, takes_arrivals}
 use Rattle.sim_engine.specs.declared.session.Turn.TheVariants as turn
 

@@ -1,9 +1,8 @@
 -- A turn of a session, and an arrival at it, lead on in its run.
-use Rattle.std.proofs.Common.{◌≡◌, ◌<◌, ◌⊎◌, inl, inr, ℕ, ◌+◌, ◌-◌, List, [], ◌∷◌, length, take, drop, Bool, true, false, Some, None, refl, sym, ap, ◌∙◌, subst, arith, add-one}
+use Rattle.std.proofs.Common.{◌≡◌, ◌<◌, ◌⊎◌, inl, inr, ℕ, ◌+◌, ◌-◌, List, [], ◌∷◌, length, drop, Bool, true, false, Some, None, refl, sym, ap, ◌∙◌, subst, arith, add-one}
 use Rattle.std.specs.Prelude.{nat_le, nat_lt, ◌||◌, if◌then◌else◌}
 use Rattle.std.proofs.lemmas.Bool.{false≢true, cases_eq}
 use Rattle.std.proofs.lemmas.Bool.Decides.{nat_tests}
-use Rattle.std.proofs.lemmas.List.{take_all}
 use Rattle.sim_types.specs.Scenarios.{ScenarioOf}
 use Rattle.sim_types.specs.declared.setup.Arrival.{Arrival}
 use Rattle.sim_machine.specs.State.{State}
@@ -14,7 +13,7 @@ use Rattle.sim_machine_law.specs.Courses.{Run, course_after}
 use Rattle.sim_steps_model.specs.PartsOf.{PartsOf, plan_of}
 use Rattle.sim_script_model.specs.Scripts.{Script}
 use Rattle.sim_script_law.specs.ScriptMembers.{script_body}
-use Rattle.sim_engine.specs.RunOfScenario.{run_of}
+use Rattle.sim_script_law.specs.ScenarioRuns.{run_of}
 use Rattle.sim_engine.specs.Sessions.{SessionOf, IsAt, GoesOn, turn_of, takes_arrivals, steps, steps_in, IsBusyBetween, is_processing}
 use Rattle.sim_engine.specs.Rounds.{next_of, StandsInRun}
 use Rattle.sim_engine.specs.declared.runs.Next.TheVariants as next

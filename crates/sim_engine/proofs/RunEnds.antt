@@ -1,28 +1,26 @@
 -- Where nothing comes next, the session tells what the whole run comes to.
-use Rattle.std.proofs.Common.{◌≡◌, ◌≤◌, ◌<◌, ◌⊎◌, inl, inr, ℕ, ◌+◌, ◌-◌, List, [], ◌∷◌, length, Bool, true, false, Option, Some, None, refl, sym, ap, ◌∙◌, subst, arith}
-use Rattle.std.specs.Prelude.{nat_lt, nat_le, is_none, if◌then◌else◌, unwrap_or}
+use Rattle.std.proofs.Common.{◌≡◌, ◌≤◌, ◌<◌, ◌⊎◌, inl, inr, ℕ, List, [], ◌∷◌, length, Bool, true, false, Option, Some, None, refl, sym, ap, ◌∙◌, subst, arith}
+use Rattle.std.specs.Prelude.{nat_le, if◌then◌else◌, unwrap_or}
 use Rattle.std.proofs.lemmas.Bool.{false≢true}
 use Rattle.std.proofs.lemmas.Bool.Decides.{nat_tests}
 use Rattle.std.proofs.lemmas.Option.{none-some}
 use Rattle.sim_types.specs.Scenarios.{ScenarioOf}
-use Rattle.sim_types.specs.declared.event.Entry.{Entry}
 use Rattle.sim_types.specs.declared.line.End.{End}
 use Rattle.sim_types.specs.declared.line.End.TheVariants as end
 use Rattle.sim_types.specs.declared.setup.Arrival.{Arrival}
-use Rattle.sim_machine.specs.State.{Control, Idle, Calling, Active, Over, State, Plan}
-use Rattle.sim_machine.specs.Agenda.{due}
+use Rattle.sim_machine.specs.State.{Idle}
 use Rattle.sim_machine.specs.Effect.{calendar}
 use Rattle.sim_machine.specs.Units.{Course}
-use Rattle.sim_machine.specs.Runs.{empty_end, end_by, end_of, opening_course}
+use Rattle.sim_machine.specs.Runs.{HasEnded, empty_end, end_by, end_of}
 use Rattle.sim_machine_law.specs.Courses.{Run, course_after}
-use Rattle.sim_machine_law.proofs.RunLaws.MadeUnits.{made_at_most, made_same, made_on, made_whole}
-use Rattle.sim_machine_law.proofs.RunLaws.UnitLaws.{ended_stays_on}
-use Rattle.sim_steps_model.specs.Resting.{rest_of, rest_in, can_arrive}
+use Rattle.sim_machine_law.proofs.RunLaws.MadeUnits.{made_where, stays_where}
+use Rattle.sim_steps_model.specs.Resting.{rest_in, can_arrive}
 use Rattle.sim_steps_model.specs.declared.mode.Rest.{Rest}
 use Rattle.sim_steps_model.specs.declared.mode.Rest.TheVariants as rest
 use Rattle.sim_script_model.specs.Scripts.{Script}
 use Rattle.sim_script_model.specs.Scenarios.{summary}
-use Rattle.sim_engine.specs.RunOfScenario.{run_of, units_of}
+use Rattle.sim_script_law.specs.ScenarioRuns.{run_of}
+use Rattle.sim_engine.specs.RunOfScenario.{units_of}
 use Rattle.sim_engine.specs.Sessions.{SessionOf, turn_of, IsSettled, end_in, report_of}
 use Rattle.sim_engine.specs.Rounds.{next_of, IsRefused, StandsInRun}
 use Rattle.sim_engine.specs.declared.runs.Next.TheVariants as next
@@ -118,15 +116,16 @@ module _ (s : ScenarioOf) (seed : ℕ) (journal left : List Arrival) (x : Sessio
     ends : EndsSo
     ends = ends_at x.refused (rest_in x.parts) refl refl within settled none
 
+    whole : (x.units ≡ x.limit) ⊎ HasEnded r.plan m
+    whole = by ends.whole
+      where
+        by : (x.units ≡ x.limit) ⊎ ((why : End) × (ends.how ≡ Some why)) → (x.units ≡ x.limit) ⊎ HasEnded r.plan m
+        by (inl all) = inl all
+        by (inr over) = inr (λ on. none-some over.0 (sym on ∙ ends.ends ∙ over.1))
+
     -- the run stays as it is
     pub stays_whole : course_after r x.limit ≡ m
-    stays_whole = by ends.whole
-      where
-        by : (x.units ≡ x.limit) ⊎ ((why : End) × (ends.how ≡ Some why)) → course_after r x.limit ≡ m
-        by (inl all) = ap (course_after r) (sym all)
-        by (inr over) =
-            let more : x.units + (x.limit - x.units) ≡ x.limit = omega (arith, within) in
-            subst (λ n. course_after r n ≡ m) more (ended_stays_on r.plan r.turn (opening_course r.plan journal) x.units over.0 (ends.ends ∙ over.1) (x.limit - x.units))
+    stays_whole = stays_where r.plan r.turn journal x.limit x.units within h.under_way whole
 
     pub summary_is : (report_of x).summary ≡ summary s seed journal x.limit
     summary_is =
@@ -135,29 +134,4 @@ module _ (s : ScenarioOf) (seed : ℕ) (journal left : List Arrival) (x : Sessio
 
     -- no unit was made after the end, and none is left out
     pub units_are : x.units ≡ units_of s seed journal x.limit
-    units_are = by (nat_lt x.units made) (nat_lt made x.units) refl refl
-      where
-        made : ℕ
-        made = units_of s seed journal x.limit
-
-        fewer : x.units < made → ⊥
-        fewer below = ends_early ends.whole
-          where
-            ends_early : (x.units ≡ x.limit) ⊎ ((why : End) × (ends.how ≡ Some why)) → ⊥
-            ends_early (inl all) = omega (arith, all, below, made_at_most r.plan r.turn journal x.limit)
-            ends_early (inr over) = none-some over.0 (sym (made_on r.plan r.turn journal x.limit x.units below) ∙ ends.ends ∙ over.1)
-
-        more : made < x.units → ⊥
-        more below = ends_late (made_whole r.plan r.turn journal x.limit)
-          where
-            on : end_of r.plan (course_after r x.limit) ≡ None
-            on = ap (end_of r.plan) (sym (made_same r.plan r.turn journal x.limit)) ∙ h.under_way made below
-
-            ends_late : (made ≡ x.limit) ⊎ (end_of r.plan (course_after r x.limit) ≡ None → ⊥) → ⊥
-            ends_late (inl all) = omega (arith, all, below, within)
-            ends_late (inr over) = over on
-
-        by : (a b : Bool) → nat_lt x.units made ≡ a → nat_lt made x.units ≡ b → x.units ≡ made
-        by true b p q = absurd (fewer (grind (arith, nat_tests)))
-        by false true p q = absurd (more (grind (arith, nat_tests)))
-        by false false p q = grind (arith, nat_tests)
+    units_are = sym (made_where r.plan r.turn journal x.limit x.units within h.under_way whole)

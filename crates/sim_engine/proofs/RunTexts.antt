@@ -19,7 +19,8 @@ use Rattle.sim_machine_law.specs.Courses.{Run, course_after, lines_after}
 use Rattle.sim_machine_law.proofs.RunLaws.LineLaws.{unit_adds}
 use Rattle.sim_script_model.specs.Scripts.{Script}
 use Rattle.sim_script_model.specs.Scenarios.{summary}
-use Rattle.sim_engine.specs.RunOfScenario.{run_of, printed_run}
+use Rattle.sim_script_law.specs.ScenarioRuns.{run_of}
+use Rattle.sim_engine.specs.RunOfScenario.{printed_run}
 use Rattle.sim_engine.specs.Sessions.{SessionOf, GoesOn, turn_of, IsBusyBetween, text_since, text_of_steps}
 use Rattle.sim_engine.specs.Rounds.{next_of, StandsInRun, text_by}
 use Rattle.sim_engine.specs.declared.runs.Next.TheVariants as next

@@ -1,15 +1,12 @@
 -- How far a run has come, and what comes next in it.
-use Rattle.std.specs.Prelude.{◌≡◌, ◌<◌, ◌≤◌, ℕ, nat_le, if◌then◌else◌, List, [], ◌∷◌, length, All, Option, Some, None, IsTrue}
+use Rattle.std.specs.Prelude.{◌≡◌, ◌<◌, ℕ, nat_le, if◌then◌else◌, List, [], ◌∷◌, length, None, IsTrue}
 use Rattle.sim_types.specs.Scenarios.{ScenarioOf}
 use Rattle.sim_types.specs.declared.setup.Arrival.{Arrival}
-use Rattle.sim_machine.specs.State.{State}
-use Rattle.sim_machine.specs.Units.{Course}
 use Rattle.sim_machine.specs.Runs.{end_of}
-use Rattle.sim_machine_law.specs.Courses.{Run, course_after, lines_after}
+use Rattle.sim_machine_law.specs.Courses.{course_after, lines_after}
 use Rattle.sim_steps_model.specs.Resting.{can_arrive, rest_in}
-use Rattle.sim_script_model.specs.Scripts.{Script}
+use Rattle.sim_script_law.specs.ScenarioRuns.{run_of}
 use Rattle.sim_trace.specs.Texts.{trace_text}
-use Rattle.sim_engine.specs.RunOfScenario.{run_of}
 use Rattle.sim_engine.specs.Sessions.{SessionOf, IsAt}
 use Rattle.sim_engine.specs.declared.runs.Next.{Next}
 use Rattle.sim_engine.specs.declared.runs.Next.TheVariants as next

@@ -6,17 +6,14 @@ use Rattle.sim_types.specs.declared.setup.Arrival.{Arrival}
 use Rattle.sim_machine.specs.RandomWords.{word_of}
 use Rattle.sim_machine.specs.Units.{Course}
 use Rattle.sim_machine.specs.Runs.{end_word, units_made}
-use Rattle.sim_machine_law.specs.Courses.{Run, course_after}
+use Rattle.sim_machine_law.specs.Courses.{course_after}
 use Rattle.sim_script_model.specs.Scripts.{Script}
 use Rattle.sim_script_model.specs.Polls.{script_turn}
 use Rattle.sim_script_model.specs.Scenarios.{plan_with, trace}
+use Rattle.sim_script_law.specs.ScenarioRuns.{run_of}
 use Rattle.sim_trace.specs.Texts.{trace_text}
 
--- a run of the scenario with the random words of this seed, at which this arrives
-abbrev pub run_of : ScenarioOf → ℕ → List Arrival → Run Script
-run_of s seed journal = record { plan = plan_with s (word_of seed); turn = script_turn s.code; journal = journal }
-
--- its lines by so many units and the one on its end, as they are printed
+-- the lines of a run by so many units, with the random words of this seed, and the one on its end, as they are printed
 abbrev pub printed_run : ScenarioOf → ℕ → List Arrival → ℕ → List ℕ
 printed_run s seed journal limit = trace_text s.port_names (trace s seed journal limit)
 

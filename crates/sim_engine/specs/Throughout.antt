@@ -14,7 +14,7 @@ use Rattle.sim_machine.specs.Runs.{total}
 use Rattle.sim_machine_law.specs.Courses.{course_after}
 use Rattle.sim_machine_law.specs.Stocks.{amounts_put, amounts_got}
 use Rattle.sim_script_model.specs.Scripts.{Script}
-use Rattle.sim_engine.specs.RunOfScenario.{run_of}
+use Rattle.sim_script_law.specs.ScenarioRuns.{run_of}
 
 -- whether a waiter, if it waits for a slot, is of a process that has not ended; each such request stands in a scope
 abbrev pub is_of_living : State Script → Want → Bool

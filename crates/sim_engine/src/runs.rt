@@ -7,7 +7,7 @@ ghost use Rattle.sim_script_model.specs.Scenarios.{summary};
 ghost use Rattle.sim_trace.specs.Texts.{line_text};
 ghost use Rattle.sim_engine.specs.Counting.{IsWithin};
 ghost use Rattle.sim_engine.specs.EngineFaults.{is_write};
-ghost use Rattle.sim_engine.specs.RunOfScenario.{run_of, printed_run, units_of};
+ghost use Rattle.sim_engine.specs.RunOfScenario.{printed_run, units_of};
 ghost use Rattle.sim_engine.specs.Rounds.{StandsInRun, next_of, text_by};
 ghost use Rattle.sim_engine.specs.Sessions.{IsSettled, turn_of, report_of};
 

@@ -2,7 +2,7 @@
 ghost use Rattle.std.specs.Prelude.{◌≡◌, ◌+◌, ◌-◌, ◌<◌, ◌≤◌, ◌==◌, [], ◌∷◌, length, true, false, ◌+ℤ◌, nat_lt, if◌then◌else◌, IsTrue, IfOk, OnOk};
 ghost use Rattle.sim_types.specs.declared.line.Line.TheVariants as line;
 ghost use Rattle.sim_machine.specs.State.{State};
-ghost use Rattle.sim_machine.specs.Runs.{empty_end, opening, logged, total};
+ghost use Rattle.sim_machine.specs.Runs.{opening, logged, total};
 ghost use Rattle.sim_machine.specs.Units.{arrive};
 ghost use Rattle.sim_outside.specs.Writes.{IsUnflushed, Writes};
 ghost use Rattle.sim_steps_model.specs.PartsOf.{plan_of};
@@ -16,7 +16,7 @@ ghost use Rattle.sim_engine.specs.Sessions.{IsAt, GoesOn, turn_of, takes_arrival
 
 use crate::fault::EngineFault;
 use crate::report::Report;
-use sim_kernel::{Kernel, Rest, Unit};
+use sim_kernel::{Kernel, Rest, Unit, empty_end};
 use sim_outside::{Failed, Sink, write_all};
 use sim_scenario::Scenario;
 use sim_script::Script;
@@ -323,14 +323,4 @@ pub(crate) fn write_line<K: Sink>(
     }
     render(line, ports, buffer);
     write_all(out, buffer.bytes())
-}
-
-/// How a run ends for want of events: one that was to end by an event has starved.
-fn empty_end(until: Until) -> End
-    ensures { result ≡ empty_end until }
-{
-    match until {
-        Until::Event(_) => End::Starved,
-        Until::Never | Until::At(_) => End::Empty,
-    }
 }

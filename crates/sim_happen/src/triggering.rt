@@ -70,6 +70,7 @@ impl Happen {
     }
 
     /// A timeout event: it succeeds, and is popped after this delay.
+    #[inline(always)]
     pub fn timeout(&mut self, delay: i64, value: i64) -> Result<EventId, TimeoutFault>
         requires spare { 0 < self.old.spare.events }
         requires number { length self.old.events < 2 ^ 62 }

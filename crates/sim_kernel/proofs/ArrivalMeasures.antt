@@ -1,5 +1,5 @@
 -- What arrives changes nothing that is measured at resources: that is read off who waits and off the ledger.
-use Rattle.std.proofs.Common.{◌≡◌, ℕ, ℤ, List, refl, ap, length}
+use Rattle.std.proofs.Common.{◌≡◌, ℕ, ℤ, List, refl}
 use Rattle.sim_types.specs.declared.setup.Resource.{Resource}
 use Rattle.sim_types.specs.declared.setup.ResourceKind.{ResourceKind}
 use Rattle.sim_types.specs.declared.setup.ResourceKind.TheVariants as resource

@@ -1,7 +1,6 @@
 -- What comes next in a walk says how its machine stands.
-use Rattle.std.proofs.Common.{◌≡◌, ◌≤◌, ◌<◌, ◌⊎◌, inl, inr, ℕ, ◌-◌, List, [], ◌∷◌, length, take, drop, Bool, true, false, Option, Some, None, refl, sym, ap, ◌∙◌, subst, arith}
+use Rattle.std.proofs.Common.{◌≡◌, ◌≤◌, inl, inr, ℕ, ◌-◌, List, [], ◌∷◌, length, take, drop, Bool, true, false, Option, Some, None, refl, sym, ap, ◌∙◌, arith}
 use Rattle.std.specs.Prelude.{nat_le, ◌||◌, if◌then◌else◌}
-use Rattle.std.proofs.lemmas.Bool.{false≢true}
 use Rattle.std.proofs.lemmas.Bool.Decides.{nat_tests}
 use Rattle.std.proofs.lemmas.List.{take_all}
 use Rattle.std.proofs.lemmas.Option.{none-some}
@@ -16,9 +15,8 @@ use Rattle.sim_steps_model.specs.PartsOf.{PartsOf, plan_of}
 use Rattle.sim_steps_model.specs.Resting.{can_arrive, can_step, rest_in}
 use Rattle.sim_steps_model.specs.declared.mode.Rest.{Rest}
 use Rattle.sim_steps_model.specs.declared.mode.Rest.TheVariants as rest
-use Rattle.sim_kernel.specs.Walks.{WalkOf, StandsAt, StandsAtEnd, IsOver}
+use Rattle.sim_kernel.specs.Walks.{WalkOf, StandsAt, IsOver}
 use Rattle.sim_kernel.specs.Walking.{next_of, next_in}
-use Rattle.sim_kernel.specs.declared.walk.Next.{Next}
 use Rattle.sim_kernel.specs.declared.walk.Next.TheVariants as next
 use Rattle.sim_kernel.proofs.RestingMachines.{stands_idle, stands_empty, due_where, waits_on, goes_on_idle, busy_waits, over_end, busy_end, empty_has_ended}
 

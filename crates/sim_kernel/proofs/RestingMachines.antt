@@ -1,5 +1,5 @@
 -- Where a kernel stands says how its machine stands: whether nothing is being done, what is due, and how a run has ended.
-use Rattle.std.proofs.Common.{◌≡◌, ℕ, List, [], ◌∷◌, length, Bool, true, false, Some, None, refl, ap, ◌∙◌, sym, arith}
+use Rattle.std.proofs.Common.{◌≡◌, List, [], ◌∷◌, length, Bool, true, false, Some, None, refl, ap, ◌∙◌, sym, arith}
 use Rattle.std.specs.Prelude.{nat_le, is_none, ◌||◌, if◌then◌else◌}
 use Rattle.std.proofs.lemmas.Bool.{false≢true}
 use Rattle.std.proofs.lemmas.List.Sorted.{length_permutation}
@@ -14,7 +14,6 @@ use Rattle.sim_machine.specs.Runs.{empty_end, end_by}
 use Rattle.sim_steps_model.specs.PartsOf.{PartsOf}
 use Rattle.sim_steps_model.specs.Resting.{rest_of, rest_in}
 use Rattle.sim_steps_model.specs.StandsFor.{StandsFor}
-use Rattle.sim_steps_model.specs.declared.mode.Rest.{Rest}
 use Rattle.sim_steps_model.specs.declared.mode.Rest.TheVariants as rest
 
 -- nothing is being done, and whether no event is due

@@ -1,7 +1,6 @@
 -- How a walk ends is how the run ends at the course where it stands.
 use Rattle.std.proofs.Common.{◌≡◌, List, [], ◌∷◌, Some, None, refl}
 use Rattle.std.specs.Prelude.{unwrap_or}
-use Rattle.sim_types.specs.declared.line.End.{End}
 use Rattle.sim_types.specs.declared.line.End.TheVariants as end
 use Rattle.sim_types.specs.declared.setup.Arrival.{Arrival}
 use Rattle.sim_machine.specs.State.{Plan}

@@ -1,22 +1,21 @@
 -- Units of a kernel in a row lead on in a run.
-use Rattle.std.proofs.Common.{◌≡◌, ℕ, zero, suc, List, [], ◌∷◌, ◌++◌, append-nil, length, drop, Some, None, refl, sym, ap, ◌∙◌, subst, arith}
+use Rattle.std.proofs.Common.{◌≡◌, ℕ, zero, suc, List, [], append-nil, drop, Some, None, refl, sym, ap, ◌∙◌, subst}
 use Rattle.sim_types.specs.declared.line.Line.{Line}
 use Rattle.sim_types.specs.declared.setup.Arrival.{Arrival}
-use Rattle.sim_machine.specs.State.{Plan, State}
+use Rattle.sim_machine.specs.State.{State}
 use Rattle.sim_machine.specs.Bodies.{BodyOf}
-use Rattle.sim_machine.specs.Effect.{calendar}
-use Rattle.sim_machine.specs.Runs.{end_of}
-use Rattle.sim_machine.specs.Units.{Course, IsUnit, IsUnitAt, arrive, due_arrival, inject}
+use Rattle.sim_machine.specs.Units.{Course, IsUnit, due_arrival, inject}
 use Rattle.sim_procs.specs.QuietPolls.{InARow, QuietButLast}
 use Rattle.sim_steps_model.specs.PartsOf.{PartsOf, IsOpenedAs, plan_of}
-use Rattle.sim_steps_model.specs.Resting.{rest_in}
 use Rattle.sim_steps_model.specs.StandsFor.{StandsFor, LawfulOf, StepOf}
-use Rattle.sim_steps_model.specs.declared.mode.Unit.{Unit}
+use Rattle.sim_steps_model.specs.Touching.{touched_places}
+use Rattle.sim_steps_model.specs.declared.mode.Touched.TheVariants as touched
 use Rattle.sim_steps_model.specs.declared.mode.Unit.TheVariants as unit
+use Rattle.sim_steps_model.specs.declared.mode.Units.{Units}
 use Rattle.sim_kernel.specs.Accounting.{HasAccounts}
 use Rattle.sim_kernel.specs.Arriving.{MakesArrival}
-use Rattle.sim_kernel.specs.Stepping.{AreMeasuredAlike, MakesQuietStep, MakesStep, MakesSteps, StepsFrom}
-use Rattle.sim_kernel.specs.Walks.{WalkOf, StandsAt, LeadsOn, LeadsQuietly, LeadsAtLast}
+use Rattle.sim_kernel.specs.Stepping.{AreMeasuredAlike, MakesQuietStep, MakesSteps, StepsFrom}
+use Rattle.sim_kernel.specs.Walks.{WalkOf, StandsAt, LeadsQuietly, LeadsAtLast}
 use Rattle.sim_kernel.proofs.NextUnits.{GoesOnWith, busy_goes_on}
 use Rattle.sim_steps_law.proofs.Kernels.Accounting.{opened_then}
 
@@ -70,7 +69,7 @@ module _ {B Code : Type 0} (body : BodyOf B Code) (old : WalkOf B Code) (m : Cou
       let step : StepsFrom body from s unit.Quiet [] parts = row.after.makes.each s before.lawful before.stands in
       let then : Course B = record { state = step.state; left = before.later.left } in
       let opened : IsOpenedAs first parts = opened_then first from parts before.opened row.after.opened in
-      let w : WalkOf B Code = record { kernel = record { parts = parts; units = 0; touched = [] }; left = then.left; limit = 0 } in
+      let w : WalkOf B Code = record { kernel = record { parts = parts; units = 0; listed = [] }; left = then.left; limit = 0 } in
       let stands : StandsAt body w then = record { stands = step.stands; lawful = step.lawful; accounts = step.accounts before.accounts; left = refl } in
       let on = busy_goes_on body w then stands row.after.busy in
       record {
@@ -99,15 +98,18 @@ module _ {B Code : Type 0} (body : BodyOf B Code) (old : WalkOf B Code) (m : Cou
       same_plan : (a b : PartsOf B Code) → IsOpenedAs a b → plan_of body b ≡ plan_of body a
       same_plan a b is = rw (is.code, is.setup, is.seed) refl
 
-  pub steps_lead : (n : ℕ) (answer : Unit) (new : WalkOf B Code) → new.left ≡ old.left
-      → MakesSteps body n first answer new.kernel.touched new.kernel.parts
-      → QuietButLast (LeadsQuietly body first) (LeadsAtLast body old new answer) n m
-  steps_lead zero answer new same none = absurd none
-  steps_lead (suc n) answer new same row =
+  abbrev touched_by : Units → WalkOf B Code → List ℕ
+  touched_by units new = touched_places units.touched new.kernel.listed
+
+  last_leads : (units : Units) (new : WalkOf B Code) → new.left ≡ old.left → (n : ℕ)
+      → MakesSteps body n first units.last (touched_by units new) new.kernel.parts
+      → QuietButLast (LeadsQuietly body first) (LeadsAtLast body old new units) n m
+  last_leads units new same zero none = absurd none
+  last_leads units new same (suc n) row =
       let from : PartsOf B Code = row.between in
       let before = after_quiet n from row.before in
       let s : State B = before.later.state in
-      let step : StepsFrom body from s answer new.kernel.touched new.kernel.parts = row.after.each s before.lawful before.stands in
+      let step : StepsFrom body from s units.last (touched_by units new) new.kernel.parts = row.after.each s before.lawful before.stands in
       record {
         between = before.later;
         before = before.row;
@@ -118,17 +120,25 @@ module _ {B Code : Type 0} (body : BodyOf B Code) (old : WalkOf B Code) (m : Cou
             unit = step_is_unit body first before.later step.state before.goes_on.due (opened_step body first from s step.state before.opened step.stepped);
           };
           lines = step.lines;
-          measures = subst (λ rs. AreMeasuredAlike rs new.kernel.touched s step.state) (ap (λ x. x.resources) before.opened.setup) step.measures;
+          measures = subst (λ rs. AreMeasuredAlike rs (touched_by units new) s step.state) (ap (λ x. x.resources) before.opened.setup) step.measures;
           stands = record { stands = step.stands; lawful = step.lawful; accounts = step.accounts before.accounts; left = before.left ∙ (h.left ∙ sym same) };
         };
       }
 
+  pub steps_lead : (units : Units) (new : WalkOf B Code) → new.left ≡ old.left
+      → MakesSteps body units.made first units.last (touched_by units new) new.kernel.parts
+      → QuietButLast (LeadsQuietly body first) (LeadsAtLast body old new units) units.made m
+  steps_lead units new same row = last_leads units new same units.made row
+
+abbrev arrived_units : Line → Units
+arrived_units line = record { made = 1; last = unit.Line line; touched = touched.Nothing }
+
 -- an arrival that is due is a unit that leads on
 pub arrival_leads : {B Code : Type 0} (body : BodyOf B Code) (old : WalkOf B Code) (m : Course B) → StandsAt body old m → (a : Arrival)
-    → GoesOnWith (plan_of body old.kernel.parts) m (Some a) → (line : Line) (new : WalkOf B Code) → new.left ≡ drop 1 old.left → new.kernel.touched ≡ []
+    → GoesOnWith (plan_of body old.kernel.parts) m (Some a) → (line : Line) (new : WalkOf B Code) → new.left ≡ drop 1 old.left
     → MakesArrival body a.port a.value old.kernel.parts line new.kernel.parts
-    → QuietButLast (LeadsQuietly body old.kernel.parts) (LeadsAtLast body old new (unit.Line line)) 1 m
-arrival_leads body old m h a next line new left none makes =
+    → QuietButLast (LeadsQuietly body old.kernel.parts) (LeadsAtLast body old new (arrived_units line)) 1 m
+arrival_leads body old m h a next line new left makes =
     let arrived = makes.each m.state h.lawful h.stands in
     record {
       between = m;
@@ -137,7 +147,7 @@ arrival_leads body old m h a next line new left none makes =
         later = inject (plan_of body old.kernel.parts) a m;
         leads = record { goes_on = next.goes_on; unit = arrival_is_unit body old.kernel.parts m a next.due };
         lines = arrived.lines;
-        measures = rw none arrived.measures;
+        measures = arrived.measures;
         stands = record { stands = arrived.stands; lawful = arrived.lawful; accounts = arrived.accounts h.accounts; left = ap (drop 1) h.left ∙ sym left };
       };
     }

@@ -8,7 +8,7 @@ use Rattle.sim_machine.specs.Units.{Course, IsUnit}
 use Rattle.sim_procs.specs.QuietPolls.{QuietButLast}
 use Rattle.sim_steps_model.specs.PartsOf.{PartsOf, plan_of}
 use Rattle.sim_steps_model.specs.StandsFor.{StandsFor, LawfulOf, lines_of}
-use Rattle.sim_steps_model.specs.declared.mode.Unit.{Unit}
+use Rattle.sim_steps_model.specs.Touching.{touched_places}
 use Rattle.sim_steps_model.specs.declared.mode.Units.{Units}
 use Rattle.sim_kernel.specs.Accounting.{HasAccounts}
 use Rattle.sim_kernel.specs.KernelOf.{KernelOf, IsAsBefore}
@@ -54,19 +54,20 @@ pub record LeadsQuietly {B Code : Type 0} (body : BodyOf B Code) (parts : PartsO
   pub time : (calendar n.state).time ≡ (calendar m.state).time
   pub measures : AreMeasuredAlike parts.setup.resources [] m.state n.state
 
--- the last unit leads from m to a course at which the new walk stands; it adds the line answered, and the same is measured at
--- all resources but those that the walk tells
-pub record LeadsAtLast {B Code : Type 0} (body : BodyOf B Code) (old new : WalkOf B Code) (answer : Unit) (m : Course B) : Type 0 where
+-- the last of these units leads from m to a course at which the new walk stands; it adds the line answered, and the same is
+-- measured at all resources but those touched
+pub record LeadsAtLast {B Code : Type 0} (body : BodyOf B Code) (old new : WalkOf B Code) (units : Units) (m : Course B) : Type 0 where
   pub later : Course B
   pub leads : LeadsOn body old.kernel.parts m later
-  pub lines : later.state.lines ≡ m.state.lines ++ lines_of answer
-  pub measures : AreMeasuredAlike old.kernel.parts.setup.resources new.kernel.touched m.state later.state
+  pub lines : later.state.lines ≡ m.state.lines ++ lines_of units.last
+  pub measures : AreMeasuredAlike old.kernel.parts.setup.resources (touched_places units.touched new.kernel.listed)
+      m.state later.state
   pub stands : StandsAt body new later
 
 -- so many units in a row, at least one, from each course at which the old walk stood: all but the last are quiet
 pub record Walks {B Code : Type 0} (body : BodyOf B Code) (units : Units) (old new : WalkOf B Code) : Type 0 where
   pub each : (m : Course B) → StandsAt body old m →
-      QuietButLast (LeadsQuietly body old.kernel.parts) (LeadsAtLast body old new units.last) units.made m
+      QuietButLast (LeadsQuietly body old.kernel.parts) (LeadsAtLast body old new units) units.made m
 
 -- ---- no unit
 

@@ -1,5 +1,5 @@
 //! A kernel stands for a lawful state of the machine, and makes one unit of it at a time.
-ghost use Rattle.std.specs.Prelude.{◌≡◌, ◌+◌, ◌<◌, ◌≤◌, ◌^◌, [], length, IfOk, OnOk, OnErr};
+ghost use Rattle.std.specs.Prelude.{◌≡◌, ◌+◌, ◌<◌, ◌≤◌, ◌^◌, length, IfOk, OnOk, OnErr};
 ghost use Rattle.sim_machine.specs.Setups.{FitsCode};
 ghost use Rattle.sim_machine.specs.Measures.{measure_at};
 ghost use Rattle.sim_machine.specs.Runs.{opening};
@@ -7,6 +7,7 @@ ghost use Rattle.sim_machine.specs.State.{State};
 ghost use Rattle.sim_steps_model.specs.PartsOf.{IsOpenedAs, plan_of};
 ghost use Rattle.sim_steps_model.specs.Resting.{CanArrive, CanStep, rest_in};
 ghost use Rattle.sim_steps_model.specs.StandsFor.{IsLawfulOpening, StandsFor, StandsForOpening};
+ghost use Rattle.sim_steps_model.specs.Touching.{touched_places};
 ghost use Rattle.sim_kernel.specs.Accounting.{HasAccounts, kept_of};
 ghost use Rattle.sim_kernel.specs.Arriving.{MakesArrival};
 ghost use Rattle.sim_kernel.specs.KernelOf.{IsAsBefore};
@@ -24,8 +25,8 @@ pub struct Kernel<B: Body> {
     parts: Parts<B>,
     /// How many units it has made.
     units: u64,
-    /// The places of the resources that the last units may have changed.
-    touched: Places,
+    /// The places of the resources that the last drop of a process may have changed.
+    listed: Places,
 }
 
 impl<B: Body> Model for Kernel<B> {
@@ -37,7 +38,7 @@ impl<B: Body> Model for Kernel<B> {
     ghost view = { λ a. record {
       parts = a.parts;
       units = a.units;
-      touched = a.touched;
+      listed = a.listed;
     } };
 
     ghost invariant = { λ a. Holds B.body a.units a.parts };
@@ -57,7 +58,6 @@ impl<B: Body> Kernel<B> {
         ensures setup { IfOk result (λ k. k.parts.setup ≡ setup.now) }
         ensures seed { IfOk result (λ k. k.parts.seed ≡ seed) }
         ensures units { IfOk result (λ k. k.units ≡ 0) }
-        ensures touched { IfOk result (λ k. k.touched ≡ []) }
         ensures stands { IfOk result (λ k. StandsForOpening B.body k.parts) }
         ensures lawful { IfOk result (λ k. IsLawfulOpening B.body k.parts) }
         ensures accounts { IfOk result
@@ -70,7 +70,7 @@ impl<B: Body> Kernel<B> {
                 Ok(Kernel {
                     parts,
                     units: 0,
-                    touched: Places::new(),
+                    listed: Places::new(),
                 })
             }
             Err(AllocError) => {
@@ -99,15 +99,15 @@ impl<B: Body> Kernel<B> {
         ensures most { IfOk result (λ units. units.made ≤ most) }
         // From each lawful state that it stood for, and by the invariant there is one.
         ensures steps { IfOk result (λ units. MakesSteps B.body units.made
-            self.old.parts units.last self.new.touched self.new.parts) }
+            self.old.parts units.last (touched_places units.touched self.new.listed)
+            self.new.parts) }
 
         ensures opened { OnOk result (IsOpenedAs self.old.parts self.new.parts) }
         ensures units { IfOk result (λ units. self.new.units ≡ self.old.units + units.made) }
         ensures err { OnErr result (IsAsBefore self.old self.new) }
     {
         self.parts.reserve_for_next(code)?;
-        self.touched.clear();
-        let units = self.parts.units(code, most, &mut self.touched);
+        let units = self.parts.units(code, most, &mut self.listed);
         let _kept = self.parts.slots();
         self.units += u64::from(units.made);
         Ok(units)
@@ -126,7 +126,6 @@ impl<B: Body> Kernel<B> {
 
         ensures opened { OnOk result (IsOpenedAs self.old.parts self.new.parts) }
         ensures units { OnOk result (self.new.units ≡ self.old.units + 1) }
-        ensures touched { OnOk result (self.new.touched ≡ []) }
         ensures err { OnErr result (IsAsBefore self.old self.new) }
     {
         let parts = &mut self.parts;
@@ -134,15 +133,14 @@ impl<B: Body> Kernel<B> {
         let line = parts.arrive(code, port, value);
         let _kept = parts.slots();
         self.units += 1;
-        self.touched.clear();
         Ok(line)
     }
 
-    /// The places of the resources at which the last units in a row, or the last arrival, may have changed what is measured.
-    pub fn touched(&self) -> &[u32]
-        ensures { result.now ≡ self.now.touched }
+    /// The places of the resources at which the last drop of a process may have changed what is measured.
+    pub fn listed(&self) -> &[u32]
+        ensures { result.now ≡ self.now.listed }
     {
-        self.touched.as_slice()
+        self.listed.as_slice()
     }
 
     /// How much waits at a resource and is held there, in the state that the kernel stands for.
@@ -193,7 +191,7 @@ impl<B: Body> Kernel<B> {
         let Kernel {
             parts,
             units: _,
-            touched: _,
+            listed: _,
         } = self;
         let time = parts.now();
         let processed = parts.processed();

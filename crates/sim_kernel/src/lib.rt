@@ -6,5 +6,5 @@ mod opening;
 mod walk;
 
 pub use kernel::Kernel;
-pub use sim_steps::{Rest, Unit, Units};
-pub use walk::Walk;
+pub use sim_steps::{Rest, Touched, Unit, Units};
+pub use walk::{Walk, empty_end};

@@ -12,7 +12,7 @@ ghost use Rattle.sim_kernel.specs.Walks.{BeginsOn, IsOver, StandsAt, WaitsAsBefo
 
 use crate::kernel::Kernel;
 use sim_procs::Body;
-use sim_steps::{Rest, Unit, Units};
+use sim_steps::{Rest, Touched, Unit, Units};
 use sim_types::{Arrival, End, Setup, Until};
 use std::alloc::{AllocError, Global};
 use std::marker::Model;
@@ -113,6 +113,7 @@ impl<'j, B: Body> Walk<'j, B> {
                 Ok(Some(Units {
                     made: 1,
                     last: Unit::Line(line),
+                    touched: Touched::Nothing,
                 }))
             }
         }
@@ -192,7 +193,7 @@ impl<'j, B: Body> Walk<'j, B> {
 }
 
 /// How a run ends for want of events: one that was to end by an event has starved.
-fn empty_end(until: Until) -> End
+pub fn empty_end(until: Until) -> End
     ensures { result ≡ empty_end until }
 {
     match until {

@@ -23,10 +23,10 @@ use Rattle.sim_steps_model.specs.PartsOf.{plan_of}
 use Rattle.sim_script_model.specs.Scripts.{Script}
 use Rattle.sim_script_law.specs.ScriptMembers.{script_body}
 use Rattle.sim_inbox.specs.declared.taken.Taken.{Taken}
+use Rattle.sim_script_law.specs.ScenarioRuns.{run_of}
 use Rattle.sim_engine.specs.declared.fault.EngineFault.{EngineFault}
 use Rattle.sim_engine.specs.declared.session.Turn.TheVariants as turn
 use Rattle.sim_engine.specs.EngineFaults.{is_write}
-use Rattle.sim_engine.specs.RunOfScenario.{run_of}
 use Rattle.sim_engine.specs.Rounds.{StandsInRun}
 use Rattle.sim_engine.specs.Sessions.{SessionOf, IsAt, GoesOn, IsBusyBetween, IsSettled, steps_in, takes_arrivals, text_of_steps, turn_of}
 use Rattle.sim_engine.proofs.AddedArrivals.{processed_later, stands_added, text_added, idle_turn_text, after_idle_turn, last_arrival_text, after_last_arrival, after_last_refusal}

@@ -17,6 +17,7 @@ use Rattle.sim_language.specs.WellFormed.{arrival_fits, is_well_formed}
 use Rattle.sim_replay.specs.Sections.{CanBeJournal, IsWithinLimits, text_with_journal}
 use Rattle.sim_replay.proofs.Texts.TextsWithJournals.{reads_with_journal}
 use Rattle.sim_replay.proofs.Runs.ReplayedRuns.{same_summary, same_trace}
+use Rattle.sim_script_law.specs.ScenarioRuns.{run_of}
 use Rattle.sim_trace.specs.Texts.{trace_text}
 use Rattle.sim_live.specs.Journals.{KeepsSections, post_of, section}
 use Rattle.sim_live.specs.LiveRuns.{LiveOf, IsLive}
@@ -25,7 +26,6 @@ use Rattle.sim_live.proofs.Finishing.{left_posted}
 use Rattle.sim_live.proofs.Journals.{later_all}
 use Rattle.sim_live.proofs.ProcessedByUnits.{processed_by_units}
 use Rattle.sim_live.proofs.Sections.{few_sections, poster_of_section, port_to_post, section_length}
-use Rattle.sim_engine.specs.RunOfScenario.{run_of}
 
 -- an entry of what its poster has to post, with its serial
 abbrev pub IsPosted : ScenarioOf → Arrival → Type 0

@@ -73,6 +73,7 @@ impl<B> Procs<B> {
     }
 
     /// Makes room for one more.
+    #[inline(always)]
     pub fn reserve(&mut self) -> Result<(), AllocError>
         ensures live { self.new.live ≡ self.old.live }
         ensures scopes { self.new.room ≡ self.old.room }
@@ -92,6 +93,7 @@ impl<B> Procs<B> {
 
     /// A process more is alive.
     #[tactic(auto, using(crate::proofs::Records::adding))]
+    #[inline(always)]
     pub fn add(&mut self, id: ProcId, body: B, target: EventId, scopes: Scopes)
         requires room { 1 ≤ self.old.spare }
         requires new { record_of id self.old.live ≡ None }
@@ -254,6 +256,7 @@ impl<B> Procs<B> {
 
     /// The innermost open scope of the process, which is then closed.
     #[tactic(auto, using(crate::proofs::Records::unchanged_where_none))]
+    #[inline(always)]
     pub fn pop_scope(&mut self, id: ProcId) -> Option<Scope>
         ensures result { result
             ≡ option_and_then (λ r. innermost r.scopes) (record_of id self.old.live) }
@@ -268,6 +271,7 @@ impl<B> Procs<B> {
 
     /// Takes the record of a process, which is then no longer alive.
     #[tactic(auto, using(crate::proofs::Records::taking))]
+    #[inline(always)]
     pub fn take(&mut self, id: ProcId) -> Option<ProcRecord<B>>
         ensures taken { result ≡ record_of id self.old.live }
         ensures none { IsNone result → self.new ≡ self.old }

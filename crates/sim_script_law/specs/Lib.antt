@@ -3,3 +3,4 @@ pub mod Walks
 pub mod Framing
 pub mod SoundScripts
 pub mod Ready
+pub mod ScenarioRuns

@@ -177,6 +177,7 @@ impl Shared {
 
     /// A request is made and tried (SimPy's Resource.request), unless it would preempt the process itself. The answer is
     /// the request.
+    #[inline(always)]
     pub fn request(
         &mut self,
         res: u32,
@@ -212,6 +213,7 @@ impl Shared {
 
     /// A put is made and tried (SimPy's Container.put and Store.put), unless its amount is not positive. What is put into
     /// a store is an item of this value and priority, and any value will do. The answer is the put.
+    #[inline(always)]
     pub fn put(&mut self, res: u32, amount: i64, priority: i64) -> Result<EventId, NotPositive>
         requires res { res < length self.old.setup }
         requires stock { IsFalse (takes_requests (resource_at self.old.setup res).kind) }
@@ -240,6 +242,7 @@ impl Shared {
 
     /// A get is made and tried (SimPy's Container.get and Store.get), unless its amount is not positive. From a store an
     /// item is got, from the least to the greatest at a filter store; from a container the least. The answer is the get.
+    #[inline(always)]
     pub fn get(&mut self, res: u32, least: i64, greatest: i64) -> Result<EventId, NotPositive>
         requires res { res < length self.old.setup }
         requires stock { IsFalse (takes_requests (resource_at self.old.setup res).kind) }

@@ -124,6 +124,7 @@ impl Shared {
 
     /// Makes room for all that one unit may take: 40 events, each of which may be a condition, 64 callbacks, and a
     /// place to wait at each resource.
+    #[inline(always)]
     pub fn reserve(&mut self) -> Result<(), AllocError>
         ensures events { OnOk result (40 ≤ self.new.happen.spare.events) }
         ensures callbacks { OnOk result (64 ≤ self.new.happen.spare.callbacks) }

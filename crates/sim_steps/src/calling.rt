@@ -1,5 +1,6 @@
 //! Events are popped, their callbacks are called, and then they are settled (SimPy's Environment.step).
 ghost use Rattle.std.specs.Prelude.{◌≡◌, ◌≢◌, ◌<◌, ◌^◌, [], ◌∷◌, IsTrue, Some, IfNone, IfSome, ◌+◌, ◌≤◌, length};
+ghost use Rattle.std.specs.Option.{option_to_list};
 ghost use Rattle.sim_types.specs.declared.event.Callback.TheVariants as callback;
 ghost use Rattle.sim_machine.specs.State.{Active, Calling, Idle, Over};
 ghost use Rattle.sim_machine.specs.Standing.{left_of};
@@ -26,7 +27,7 @@ use crate::events::told_of;
 use crate::parts::Parts;
 use sim_procs::Body;
 use sim_steps_model::{Mode, Unit};
-use sim_types::{Callback, End, EventId, EventKind, Line, Places, ProcId, Signal};
+use sim_types::{Callback, End, EventId, EventKind, Line, ProcId, Signal};
 
 impl<B: Body> Parts<B> {
     /// Pops the event that is due.
@@ -203,9 +204,9 @@ impl<B: Body> Parts<B> {
     }
 
     // Calls a callback of the event, which was taken out of those that are left to call: what it passes an outcome on to was
-    // held for this.
+    // held for this. The answer is the place of a resource that was tried.
     #[inline(always)]
-    fn answer(&mut self, event: EventId, callback: Callback, places: &mut Places)
+    fn answer(&mut self, event: EventId, callback: Callback) -> Option<u32>
         requires calling { IsCalling event self.old.control }
         requires kept { IsKept self.old.shared.happen.events event }
         requires names { CallsKept callback self.old }
@@ -214,10 +215,10 @@ impl<B: Body> Parts<B> {
         requires waiting { AreAllOpen self.old.shared }
         requires ready { IsTrue (call_takes_room (Some callback)) → AreResourcesReady self.old }
         requires owing { IsOwing B.body (triggered_by callback) self.old }
-        requires none { places.old ≡ [] }
         ensures owes { BecomesOwing B.body (triggered_by callback) [] 0
             (called (plan_of B.body self.old) event callback) self.old self.new }
-        ensures touched { ChangesOnlyAt places.new self.old.shared self.new.shared }
+        ensures touched { ChangesOnlyAt (option_to_list result)
+            self.old.shared self.new.shared }
     {
         match callback {
             Callback::Resume(process) => self.resume(event, process),
@@ -225,33 +226,38 @@ impl<B: Body> Parts<B> {
             Callback::Check(condition) => self.check(condition, event),
             Callback::Build(condition) => self.build(condition),
             Callback::TryPut(res) => {
-                places.push(res);
-                self.call_try_put(event, res)
+                self.call_try_put(event, res);
+                return Some(res);
             }
             Callback::TryGet(res) => {
-                places.push(res);
-                self.call_try_get(event, res)
+                self.call_try_get(event, res);
+                return Some(res);
             }
             Callback::Stop => self.stop(event),
             Callback::Trigger(other) => self.call_trigger(event, other),
         }
+        None
     }
 
-    /// Calls the first callback that is left, or settles the event where none is.
+    /// Calls the first callback that is left, or settles the event where none is. The answer is the place of the resource at
+    /// which what is measured may have changed, if there is one.
     #[inline(always)]
-    pub(crate) fn call(&mut self, event: EventId, places: &mut Places)
+    pub(crate) fn call(&mut self, event: EventId) -> Option<u32>
         requires calling { IsCalling event self.old.control }
         requires stands { StandsForSome B.body self.old }
         requires needed { AreNeeded self.old.shared.happen.events }
         requires room { HasRoomForNext self.old }
         requires events { length self.old.shared.happen.events + 40 ≤ 2 ^ 62 }
-        requires none { places.old ≡ [] }
         ensures moves { Moves B.body self.old Unit.Quiet self.new }
-        ensures touched { ChangesOnlyAt places.new self.old.shared self.new.shared }
+        ensures touched { ChangesOnlyAt (option_to_list result)
+            self.old.shared self.new.shared }
     {
         match self.take_callback(event) {
-            None => self.settle(event),
-            Some(callback) => self.answer(event, callback, places),
+            None => {
+                self.settle(event);
+                None
+            }
+            Some(callback) => self.answer(event, callback),
         }
     }
 }

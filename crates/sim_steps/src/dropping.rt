@@ -14,10 +14,12 @@ ghost use Rattle.sim_steps_model.specs.Becoming.{Becomes};
 ghost use Rattle.sim_steps_model.specs.Dropping.{CanBeDropped, CanLeave, LeavesInnermost, LeavesAll, StopsWaiting};
 ghost use Rattle.sim_steps_model.specs.Holding.{StandInPlaces};
 ghost use Rattle.sim_steps_model.specs.PartsOf.{HasUnitRoom, IsRunningIn, KeepsResources};
+ghost use Rattle.sim_steps_model.specs.Touching.{touched_places};
 
 use crate::parts::Parts;
 use sim_happen::Happen;
 use sim_procs::Body;
+use sim_steps_model::Touched;
 use sim_types::{
     Callback, ENDED_PROCESS, EventId, Outcome, PROCESS_ITSELF, Places, ProcId, Signal,
 };
@@ -57,20 +59,20 @@ impl<B: Body> Parts<B> {
         }
     }
 
-    // All open scopes of a process are left, the innermost first, and the places of their resources are pushed.
-    fn leave_scopes(&mut self, process: ProcId, places: &mut Places)
+    // All open scopes of a process are left, the innermost first. The places of their resources are listed.
+    fn leave_scopes(&mut self, process: ProcId, listed: &mut Places)
         requires scopes { IsSomeAnd (record_of process self.old.live)
             (λ r. length r.scopes ≤ most_scopes) }
         requires can { CanLeave B.body self.old }
         requires spare_events { most_scopes < self.old.shared.happen.spare.events }
         requires spare_callbacks { most_scopes < self.old.shared.happen.spare.callbacks }
         requires number { length self.old.shared.happen.events + most_scopes < 2 ^ 62 }
-        requires none { places.old ≡ [] }
         ensures leaves { LeavesAll B.body process self.old self.new }
-        ensures touched { ChangesOnlyAt places.new self.old.shared self.new.shared }
+        ensures touched { ChangesOnlyAt listed.new self.old.shared self.new.shared }
     {
+        listed.clear();
         while let Some(at) = self.leave_scope(process) {
-            places.push(at);
+            listed.push(at);
         }
     }
 
@@ -81,7 +83,7 @@ impl<B: Body> Parts<B> {
         process: ProcId,
         other: ProcId,
         value: i64,
-        places: &mut Places,
+        listed: &mut Places,
     )
         requires running { IsRunningIn event process self.old.control }
         requires can { IsSomeAnd (record_of other self.old.live)
@@ -90,17 +92,16 @@ impl<B: Body> Parts<B> {
             (λ r. StandInPlaces (B.body.tell self.old.code) (B.events_held r.body) r.body) }
         requires room { HasUnitRoom self.old }
         requires number { length self.old.shared.happen.events + most_scopes < 2 ^ 62 }
-        requires none { places.old ≡ [] }
         ensures becomes { Becomes B.body
             (λ s. processes.tell signal.Done (processes.drop_process other value s))
             self.old self.new }
-        ensures touched { ChangesOnlyAt places.new self.old.shared self.new.shared }
+        ensures touched { ChangesOnlyAt listed.new self.old.shared self.new.shared }
     {
         match self.processes.target(other) {
             Some(target) => stop_waiting(self.shared.happen_mut(), other, target),
             None => unreachable!(),
         }
-        self.leave_scopes(other, places);
+        self.leave_scopes(other, listed);
         self.end_process(other, Outcome::Ok(value));
         self.tell(event, process, Signal::Done);
     }
@@ -114,8 +115,8 @@ impl<B: Body> Parts<B> {
         process: ProcId,
         other: ProcId,
         value: i64,
-        places: &mut Places,
-    )
+        listed: &mut Places,
+    ) -> Touched
         requires running { IsRunningIn event process self.old.control }
         requires can { IfSome (record_of other self.old.live)
             (λ r. CanBeDropped B.body r self.old) }
@@ -123,18 +124,21 @@ impl<B: Body> Parts<B> {
             (λ r. StandInPlaces (B.body.tell self.old.code) (B.events_held r.body) r.body) }
         requires room { HasUnitRoom self.old }
         requires number { length self.old.shared.happen.events + most_scopes < 2 ^ 62 }
-        requires none { places.old ≡ [] }
         ensures becomes { Becomes B.body
             (effect.to_another process other (processes.drop_process other value))
             self.old self.new }
-        ensures touched { ChangesOnlyAt places.new self.old.shared self.new.shared }
+        ensures touched { ChangesOnlyAt (touched_places result listed.new)
+            self.old.shared self.new.shared }
     {
         if !self.processes.is_alive(other) {
             self.tell(event, process, Signal::Raised(ENDED_PROCESS));
+            Touched::Nothing
         } else if other.0 == process.0 {
             self.tell(event, process, Signal::Raised(PROCESS_ITSELF));
+            Touched::Nothing
         } else {
-            self.drop_other(event, process, other, value, places);
+            self.drop_other(event, process, other, value, listed);
+            Touched::Listed
         }
     }
 }

@@ -21,4 +21,4 @@ mod resources;
 mod waiting;
 
 pub use parts::Parts;
-pub use sim_steps_model::{Rest, Unit, Units};
+pub use sim_steps_model::{Rest, Touched, Unit, Units};

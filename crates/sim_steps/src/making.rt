@@ -31,6 +31,7 @@ pub(crate) fn make_named(happen: &mut Happen, named: u64) -> Result<(), AllocErr
 
 /// Makes the event of a process and its init event, which is urgent, is due now, and resumes the process. The answer is
 /// the number of the process, which is that of its event, and the init event.
+#[inline(always)]
 pub(crate) fn make_process(happen: &mut Happen) -> (ProcId, EventId)
     requires events { 2 ≤ happen.old.spare.events }
     requires callbacks { 1 ≤ happen.old.spare.callbacks }

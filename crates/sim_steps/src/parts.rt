@@ -8,12 +8,14 @@ ghost use Rattle.sim_steps_model.specs.Resting.{CanStep, rest_in};
 ghost use Rattle.sim_steps_model.specs.PartsOf.{HasRoomForNext, HasUnitRoom, IsRunningIn, IsRunningAt, KeepsButRoom, next_takes_room};
 ghost use Rattle.sim_steps_model.specs.QuietUnits.{MovesAtLast};
 ghost use Rattle.sim_steps_model.specs.StandsFor.{StandsForSome};
+ghost use Rattle.sim_steps_model.specs.Touching.{touched_places};
 
 use crate::ready::Ready;
+use crate::resources::touched_at;
 use rand_pcg::Pcg64;
 use sim_procs::{Body, Procs};
 use sim_shared::Shared;
-use sim_steps_model::{Mode, Rest, Unit, Units};
+use sim_steps_model::{Mode, Rest, Touched, Unit, Units};
 use sim_types::{Callback, EventId, Places, ProcId, Setup, Signal};
 use std::alloc::{AllocError, Global};
 use std::marker::Model;
@@ -161,10 +163,10 @@ impl<B: Body> Parts<B> {
     }
 
     /// Units in a row, at most so many: an event is popped, a callback is called, an event is settled, or a process is polled;
-    /// one alone, or all but the last are polls in which a process asks for nothing. The places of the resources that are
-    /// touched are pushed: at all others the same is measured as before.
+    /// one alone, or all but the last are polls in which a process asks for nothing. At all resources but those touched the
+    /// same is measured as before. Where a process is dropped their places are listed.
     #[inline(always)]
-    pub fn units(&mut self, code: &B::Code, most: u32, places: &mut Places) -> Units
+    pub fn units(&mut self, code: &B::Code, most: u32, listed: &mut Places) -> Units
         requires some { 1 ≤ most }
         requires code { code.now ≡ self.old.code }
         requires stands { StandsForSome B.body self.old }
@@ -174,26 +176,28 @@ impl<B: Body> Parts<B> {
         requires few { AreFew (2 ^ 40) (held self.old.shared.happen) }
         requires events { length self.old.shared.happen.events + 40 ≤ 2 ^ 62 }
         requires processed { self.old.processed < 2 ^ 62 }
-        requires none { places.old ≡ [] }
         ensures most { result.made ≤ most }
         ensures moves { MovesAtLast B.body result.made self.old result.last self.new }
-        ensures touched { ChangesOnlyAt places.new self.old.shared self.new.shared }
+        ensures touched { ChangesOnlyAt (touched_places result.touched listed.new)
+            self.old.shared self.new.shared }
     {
         let _slots = self.slots();
         match self.mode {
             Mode::Idle => Units {
                 made: 1,
                 last: self.pop(),
+                touched: Touched::Nothing,
             },
             Mode::Calling(event) => {
-                self.call(event, places);
+                let touched = touched_at(self.call(event));
                 Units {
                     made: 1,
                     last: Unit::Quiet,
+                    touched,
                 }
             }
             Mode::Active(event, process, told) => {
-                self.poll(code, event, process, told, most, places)
+                self.poll(code, event, process, told, most, listed)
             }
             Mode::Over(_, _) => unreachable!(),
         }

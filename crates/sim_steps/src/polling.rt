@@ -13,11 +13,13 @@ ghost use Rattle.sim_steps_model.specs.PartsOf.{HasUnitRoom, IsRunning, IsRunnin
 ghost use Rattle.sim_steps_model.specs.Polling.{NamesKept, event_placed, place_changed, place_given};
 ghost use Rattle.sim_steps_model.specs.QuietUnits.{AsksAtLast, AsksOwingAtLast, DoesAskedAtLast, MovesAtLast};
 ghost use Rattle.sim_steps_model.specs.Resources.{AreResourcesReady};
+ghost use Rattle.sim_steps_model.specs.Touching.{touched_places};
 ghost use Rattle.sim_steps_model.specs.StandsFor.{StandsForSome};
 
 use crate::parts::Parts;
+use crate::resources::touched_at;
 use sim_procs::Body;
-use sim_steps_model::{Mode, Unit, Units};
+use sim_steps_model::{Mode, Touched, Unit, Units};
 use sim_types::{EventId, Line, Op, Places, ProcId, Signal};
 
 // Whether a process that is told this may put an event into a place.
@@ -130,7 +132,7 @@ impl<B: Body> Parts<B> {
         told: Signal,
         place: Option<u8>,
         most: u32,
-        places: &mut Places,
+        listed: &mut Places,
     ) -> Units
         requires code { code.now ≡ self.old.code }
         requires stands { StandsForSome B.body self.old }
@@ -144,15 +146,16 @@ impl<B: Body> Parts<B> {
         requires few { AreFew (2 ^ 40) (held self.old.shared.happen) }
         requires needed { AreNeeded self.old.shared.happen.events }
         requires events { length self.old.shared.happen.events + 40 ≤ 2 ^ 62 }
-        requires none { places.old ≡ [] }
         ensures most { result.made ≤ most }
         ensures does { DoesAskedAtLast B.body event process result.made
             (event_placed B.events_held place (record_of process self.old.live))
             self.old result.last self.new }
-        ensures touched { ChangesOnlyAt places.new self.old.shared self.new.shared }
+        ensures touched { ChangesOnlyAt (touched_places result.touched listed.new)
+            self.old.shared self.new.shared }
     {
         let mut asked = Op::Nop;
         let made = self.ask(code, event, process, told, place, most, &mut asked);
+        let mut touched = Touched::Nothing;
         match asked {
             Op::Nop => self.tell_done(),
             Op::Timeout(delay, value) => self.timeout(event, process, delay, value),
@@ -163,34 +166,36 @@ impl<B: Body> Parts<B> {
             Op::Fail(triggered, value) => self.fail(event, process, triggered, value),
             Op::Spawn(kind, args) => self.spawn(code, event, process, kind, args),
             Op::Interrupt(other, cause) => self.interrupt(event, process, other, cause),
-            Op::Drop(other, value) => self.drop_process(event, process, other, value, places),
+            Op::Drop(other, value) => {
+                touched = self.drop_process(event, process, other, value, listed)
+            }
             Op::Chain(source, other) => self.chain(event, process, source, other),
             Op::AllOf(ref members) => self.make_condition(event, process, true, members),
             Op::AnyOf(ref members) => self.make_condition(event, process, false, members),
             Op::Has(condition, other) => self.has(event, process, condition, other),
             Op::Enter(res, priority, preempts) => {
-                places.push(res);
+                touched = Touched::One(res);
                 self.enter(event, process, res, priority, preempts)
             }
-            Op::Leave => self.leave(event, process, places),
-            Op::Release(request) => self.release(event, process, request, places),
+            Op::Leave => touched = touched_at(self.leave(event, process)),
+            Op::Release(request) => touched = Touched::One(self.release(event, process, request)),
             Op::Put(res, amount, priority) => {
-                places.push(res);
+                touched = Touched::One(res);
                 self.put(event, process, res, amount, priority)
             }
             Op::PutWait(res, amount, priority) => {
-                places.push(res);
+                touched = Touched::One(res);
                 self.put_wait(event, process, res, amount, priority)
             }
             Op::Get(res, least, greatest) => {
-                places.push(res);
+                touched = Touched::One(res);
                 self.get(event, process, res, least, greatest)
             }
             Op::GetWait(res, least, greatest) => {
-                places.push(res);
+                touched = Touched::One(res);
                 self.get_wait(event, process, res, least, greatest)
             }
-            Op::Cancel(cancelled) => self.cancel(event, process, cancelled, places),
+            Op::Cancel(cancelled) => touched = touched_at(self.cancel(event, process, cancelled)),
             Op::Count(res) => self.count(event, process, res),
             Op::Draw(lo, hi) => self.draw(event, process, lo, hi),
             Op::Finish(value) => self.finish(event, process, value),
@@ -203,11 +208,19 @@ impl<B: Body> Parts<B> {
                     process,
                     value,
                 });
-                return Units { made, last };
+                return Units {
+                    made,
+                    last,
+                    touched,
+                };
             }
         }
         let last = Unit::Quiet;
-        Units { made, last }
+        Units {
+            made,
+            last,
+            touched,
+        }
     }
 
     /// Polls the running process, at most so many times in a row, does what it asks for in the last, and gives back what its
@@ -221,7 +234,7 @@ impl<B: Body> Parts<B> {
         process: ProcId,
         told: Signal,
         most: u32,
-        places: &mut Places,
+        listed: &mut Places,
     ) -> Units
         requires some { 1 ≤ most }
         requires code { code.now ≡ self.old.code }
@@ -232,15 +245,15 @@ impl<B: Body> Parts<B> {
         requires few { AreFew (2 ^ 40) (held self.old.shared.happen) }
         requires needed { AreNeeded self.old.shared.happen.events }
         requires events { length self.old.shared.happen.events + 40 ≤ 2 ^ 62 }
-        requires none { places.old ≡ [] }
         ensures most { result.made ≤ most }
         ensures moves { MovesAtLast B.body result.made self.old result.last self.new }
-        ensures touched { ChangesOnlyAt places.new self.old.shared self.new.shared }
+        ensures touched { ChangesOnlyAt (touched_places result.touched listed.new)
+            self.old.shared self.new.shared }
     {
         let place = self.place_told(code, process, told);
         let left = self.event_in(process, place);
         let most = if fills_place(told) { 1 } else { most };
-        let units = self.do_asked(code, event, process, told, place, most, places);
+        let units = self.do_asked(code, event, process, told, place, most, listed);
         self.unhold(left);
         units
     }

@@ -1,5 +1,6 @@
 //! What processes ask of resources, and the tries that follow (SimPy's "Shared resources").
-ghost use Rattle.std.specs.Prelude.{◌≡◌, ◌<◌, ◌^◌, [], ◌∷◌, length, option_and_then, None, IsSome, IsSomeAnd, IfNone, IfSome};
+ghost use Rattle.std.specs.Prelude.{◌≡◌, ◌<◌, ◌^◌, ℕ, List, [], ◌∷◌, length, option_and_then, None, IsSome, IsSomeAnd, IfNone, IfSome};
+ghost use Rattle.std.specs.Option.{option_to_list};
 ghost use Rattle.sim_types.specs.declared.event.Callback.TheVariants as callback;
 ghost use Rattle.sim_types.specs.declared.op.Op.TheVariants as op;
 ghost use Rattle.sim_machine.specs.Effect as effect;
@@ -13,22 +14,23 @@ ghost use Rattle.sim_steps_model.specs.Becoming.{AreFew, Becomes, BecomesWith, I
 ghost use Rattle.sim_steps_model.specs.Calling.{called};
 ghost use Rattle.sim_steps_model.specs.Dropping.{CanLeave};
 ghost use Rattle.sim_steps_model.specs.PartsOf.{HasUnitRoom, IsCalling, IsRunningIn, KeepsResources, plan_of};
+ghost use Rattle.sim_steps_model.specs.Touching.{touched_places};
 ghost use Rattle.sim_steps_model.specs.Resources.{AreResourcesReady, TakesMoves, TakesRequests, MakesMove, RefusesMove};
 
 use crate::parts::Parts;
 use sim_procs::Body;
 use sim_shared::{NotPositive, OwnVictim};
-use sim_types::{AMOUNT_NOT_POSITIVE, EventId, PROCESS_ITSELF, Places, ProcId, Scope, Signal};
+use sim_steps_model::Touched;
+use sim_types::{AMOUNT_NOT_POSITIVE, EventId, PROCESS_ITSELF, ProcId, Scope, Signal};
 
-// Adds the place of a resource that was touched, if one was.
+/// What is touched where this is the place of the one resource that is, if one is.
 #[inline(always)]
-fn add_place(places: &mut Places, place: Option<u32>)
-    requires none { places.old ≡ [] }
-    ensures some { IfSome place (λ at. places.new ≡ at ∷ []) }
-    ensures none { IfNone place (places.new ≡ []) }
+pub(crate) fn touched_at(place: Option<u32>) -> Touched
+    ensures { (listed : List ℕ) → touched_places result listed ≡ option_to_list place }
 {
-    if let Some(at) = place {
-        places.push(at);
+    match place {
+        Some(at) => Touched::One(at),
+        None => Touched::Nothing,
     }
 }
 
@@ -240,21 +242,20 @@ impl<B: Body> Parts<B> {
         event: EventId,
         process: ProcId,
         cancelled: EventId,
-        places: &mut Places,
-    )
+    ) -> Option<u32>
         requires running { IsRunningIn event process self.old.control }
         requires kept { IsKept self.old.shared.happen.events cancelled }
         requires plain { (kept_at self.old.shared.happen.events cancelled).event.condition ≡ None }
         requires ready { AreResourcesReady self.old }
-        requires none { places.old ≡ [] }
         ensures becomes { Becomes B.body
             (effect.effect (plan_of B.body self.old) process (op.Cancel cancelled))
             self.old self.new }
-        ensures touched { ChangesOnlyAt places.new self.old.shared self.new.shared }
+        ensures touched { ChangesOnlyAt (option_to_list result)
+            self.old.shared self.new.shared }
     {
         let place = self.shared.take_out(cancelled);
-        add_place(places, place);
         self.tell(event, process, Signal::Done);
+        place
     }
 
     /// The running process is told a request that is made, and whose scope is open from now on. One that would preempt the
@@ -292,50 +293,43 @@ impl<B: Body> Parts<B> {
     /// The innermost open scope of the running process is left: its request is cancelled where it waits, and is released in
     /// any case.
     #[inline(never)]
-    pub(crate) fn leave(&mut self, event: EventId, process: ProcId, places: &mut Places)
+    pub(crate) fn leave(&mut self, event: EventId, process: ProcId) -> Option<u32>
         requires running { IsRunningIn event process self.old.control }
         requires alive { IsSome (record_of process self.old.live) }
         requires can { CanLeave B.body self.old }
         requires room { HasUnitRoom self.old }
         requires number { length self.old.shared.happen.events < 2 ^ 62 }
-        requires none { places.old ≡ [] }
         ensures becomes { Becomes B.body
             (effect.effect (plan_of B.body self.old) process op.Leave)
             self.old self.new }
-        ensures touched { ChangesOnlyAt places.new self.old.shared self.new.shared }
+        ensures touched { ChangesOnlyAt (option_to_list result)
+            self.old.shared self.new.shared }
     {
         let place = self.leave_scope(process);
-        add_place(places, place);
         self.tell(event, process, Signal::Done);
+        place
     }
 
     /// A request in an open scope of the running process is released early. Its scope stays open.
     #[inline(never)]
-    pub(crate) fn release(
-        &mut self,
-        event: EventId,
-        process: ProcId,
-        request: EventId,
-        places: &mut Places,
-    )
+    pub(crate) fn release(&mut self, event: EventId, process: ProcId, request: EventId) -> u32
         requires running { IsRunningIn event process self.old.control }
         requires scope { IsSomeAnd
             (option_and_then (λ r. scope_of request r.scopes) (record_of process self.old.live))
             (λ x. TakesRequests x.res self.old) }
         requires ready { AreResourcesReady self.old }
-        requires none { places.old ≡ [] }
         ensures becomes { Becomes B.body
             (effect.effect (plan_of B.body self.old) process (op.Release request))
             self.old self.new }
-        ensures touched { ChangesOnlyAt places.new self.old.shared self.new.shared }
+        ensures touched { ChangesOnlyAt (result ∷ []) self.old.shared self.new.shared }
     {
         match self.processes.scope(process, request) {
             Some(scope) => {
                 self.shared.release(scope.res, request);
-                places.push(scope.res);
+                self.tell(event, process, Signal::Done);
+                scope.res
             }
             None => unreachable!(),
         }
-        self.tell(event, process, Signal::Done);
     }
 }

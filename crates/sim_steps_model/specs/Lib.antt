@@ -10,4 +10,5 @@ pub mod Polling
 pub mod QuietUnits
 pub mod Waiting
 pub mod Resting
+pub mod Touching
 pub mod Opening

@@ -4,4 +4,4 @@
 
 mod mode;
 
-pub use mode::{Mode, Rest, Unit, Units};
+pub use mode::{Mode, Rest, Touched, Unit, Units};

@@ -35,6 +35,17 @@ pub enum Unit {
     Line(Line),
 }
 
+/// At which resources what is measured may have changed.
+#[derive(Clone, Copy, Debug, PartialEq, Eq)]
+pub enum Touched {
+    /// At none.
+    Nothing,
+    /// At the one in this place.
+    One(u32),
+    /// At those in the places that are listed beside it: a dropped process left their scopes.
+    Listed,
+}
+
 /// Units that were made in a row. In all but the last a process that ran asked for nothing, and they write nothing.
 #[derive(Clone, Copy, Debug, PartialEq, Eq)]
 pub struct Units {
@@ -42,4 +53,6 @@ pub struct Units {
     pub made: u32,
     /// What the last answers.
     pub last: Unit,
+    /// At which resources the last may have changed what is measured.
+    pub touched: Touched,
 }

@@ -20,7 +20,8 @@ use Rattle.sim_lawful.specs.LawfulRuns.{IsRunOf, LawfulAt}
 use Rattle.sim_lawful.proofs.Units.PassingTime.{time_never_falls_in_unit}
 use Rattle.sim_lawful.proofs.Units.WholeRuns.{run_stays_lawful}
 use Rattle.sim_types.specs.Setups.{HavePorts}
-use Rattle.sim_watch.specs.Following.{run_of, time_after}
+use Rattle.sim_script_law.specs.ScenarioRuns.{run_of}
+use Rattle.sim_watch.specs.Following.{time_after}
 
 -- ---- it begins at time 0
 

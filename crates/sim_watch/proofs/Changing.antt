@@ -27,7 +27,7 @@ pub record AreChanged (r : Run Script) (k n : ℕ) (places : List ℕ) (rows : L
   pub others : (res : ℕ) (d : WatchedOf) → res < length rows → is_one_of res places ≡ false
       → IsWatched (time_after r) (measure_after r res) k (get_or rows res d)
 
-module _ (r : Run Script) (k n : ℕ) (kernel : KernelOf Script ScenarioOf) (moved : HasMoved r k n kernel) where
+module _ (r : Run Script) (k n : ℕ) (touched : List ℕ) (kernel : KernelOf Script ScenarioOf) (moved : HasMoved r k n touched kernel) where
   steady : (res : ℕ) → res < length r.plan.setup.resources → IsSteady (time_after r) (measure_after r res) k n
   steady res within = record { same_time = moved.same_time; same_measure = moved.same_measures res within }
 
@@ -41,19 +41,19 @@ module _ (r : Run Script) (k n : ℕ) (kernel : KernelOf Script ScenarioOf) (mov
       }
 
   -- behind the last place
-  pub all_changed : (rows : List WatchedOf) → AreChanged r k n kernel.touched rows → AreWatched r (k + n) rows
-  all_changed rows h = record { all = h.all; each = λ res d within. by res d within (is_one_of res kernel.touched) refl }
+  pub all_changed : (rows : List WatchedOf) → AreChanged r k n touched rows → AreWatched r (k + n) rows
+  all_changed rows h = record { all = h.all; each = λ res d within. by res d within (is_one_of res touched) refl }
     where
-      by : (res : ℕ) (d : WatchedOf) → res < length rows → (b : Bool) → is_one_of res kernel.touched ≡ b
+      by : (res : ℕ) (d : WatchedOf) → res < length rows → (b : Bool) → is_one_of res touched ≡ b
           → IsWatched (time_after r) (measure_after r res) (k + n) (get_or rows res d)
       by res d within true is = h.changed res d within is
       by res d within false is =
           let there : res < length r.plan.setup.resources = rw h.all at within in
           stays_watched (time_after r) (measure_after r res) k (get_or rows res d) (h.others res d within is) n (steady res there) moved.some (moved.others res there is)
 
-  pub changed_whole : (rows : List WatchedOf) (i : ℕ) → length kernel.touched ≤ i → AreChanged r k n (take i kernel.touched) rows
+  pub changed_whole : (rows : List WatchedOf) (i : ℕ) → length touched ≤ i → AreChanged r k n (take i touched) rows
       → AreWatched r (k + n) rows
-  changed_whole rows i past h = all_changed rows (subst (λ places. AreChanged r k n places rows) (take_all i kernel.touched past) h)
+  changed_whole rows i past h = all_changed rows (subst (λ places. AreChanged r k n places rows) (take_all i touched past) h)
 
   -- a place more
   module _ (places : List ℕ) (i p d0 : ℕ) (below : i < length places) (item : p ≡ get_or places i d0) (rows : List WatchedOf)
@@ -130,25 +130,19 @@ module _ (r : Run Script) (k n : ℕ) (kernel : KernelOf Script ScenarioOf) (mov
 -- ---- as the places are gone through
 
 -- as many as are in their places in the kernel, none of which tells of a later time, those at the first i places changed
-pub record ChangesSo (kernel : KernelOf Script ScenarioOf) (now : ℤ) (old : List WatchedOf) (i : ℕ) (rows : List WatchedOf) : Type 0 where
+pub record ChangesSo (kernel : KernelOf Script ScenarioOf) (touched : List ℕ) (now : ℤ) (old : List WatchedOf) (i : ℕ) (rows : List WatchedOf) : Type 0 where
   pub all : length rows ≡ length kernel.parts.setup.resources
   pub up_to : AreUpTo now rows
-  pub changed : (r : Run Script) (k n : ℕ) → HasMoved r k n kernel → AreWatched r k old → AreChanged r k n (take i kernel.touched) rows
+  pub changed : (r : Run Script) (k n : ℕ) → HasMoved r k n touched kernel → AreWatched r k old → AreChanged r k n (take i touched) rows
 
-module _ (kernel : KernelOf Script ScenarioOf) (now : ℤ) (old : List WatchedOf) (i p d0 : ℕ) (items : List ℕ) (same : items ≡ kernel.touched)
-    (below : i < length items) (item : p ≡ get_or items i d0) (rows : List WatchedOf) (h : ChangesSo kernel now old i rows) where
-  there : i < length kernel.touched
-  there = subst (λ places. i < length places) same below
-
-  item_there : p ≡ get_or kernel.touched i d0
-  item_there = subst (λ places. p ≡ get_or places i d0) same item
-
-  pub passes : length rows ≤ p → ChangesSo kernel now old (i + 1) rows
+module _ (kernel : KernelOf Script ScenarioOf) (now : ℤ) (old : List WatchedOf) (i p d0 : ℕ) (items : List ℕ)
+    (below : i < length items) (item : p ≡ get_or items i d0) (rows : List WatchedOf) (h : ChangesSo kernel items now old i rows) where
+  pub passes : length rows ≤ p → ChangesSo kernel items now old (i + 1) rows
   passes past =
       record {
         all = h.all;
         up_to = h.up_to;
-        changed = λ r k n moved watched. none_there r k n kernel moved kernel.touched i p d0 there item_there rows (h.changed r k n moved watched) past;
+        changed = λ r k n moved watched. none_there r k n items kernel moved items i p d0 below item rows (h.changed r k n moved watched) past;
       }
 
   pub changes : (before then : WatchedOf) (measure : Measure) → p < length rows → before ≡ get_or rows p before
@@ -157,7 +151,7 @@ module _ (kernel : KernelOf Script ScenarioOf) (now : ℤ) (old : List WatchedOf
       → ((time : ℕ → ℤ) (m : ℕ → Measure) (k n : ℕ) → IsWatched time m k before → IsSteady time m k n → 1 ≤ n → time (k + n) ≡ now → m (k + n) ≡ measure
       → IsWatched time m (k + n) then)
       → ((time : ℕ → ℤ) (m : ℕ → Measure) (k : ℕ) → IsWatched time m k before → time k ≡ now → m k ≡ measure → IsWatched time m k then)
-      → ChangesSo kernel now old (i + 1) (set rows p then)
+      → ChangesSo kernel items now old (i + 1) (set rows p then)
   changes before then measure within was now_is since measured first again =
       record {
         all = length-set rows p then ∙ h.all;
@@ -168,8 +162,8 @@ module _ (kernel : KernelOf Script ScenarioOf) (now : ℤ) (old : List WatchedOf
             let measure_is : measure_after r p (k + n) ≡ measure =
             sym (measured (state_after r (k + n)) moved.stands ∙ ap (λ rs. measure_at rs p (state_after r (k + n)).facilities) (sym resources)) in
             let inside : p < length r.plan.setup.resources = subst (λ rs. p < length rs) (sym resources) (rw h.all at within) in
-            one_changed r k n kernel moved kernel.touched i p d0 there item_there rows (h.changed r k n moved watched) then before within (sym was)
-            (λ w. first (time_after r) (measure_after r p) k n w (steady r k n kernel moved p inside) moved.some time_is measure_is)
+            one_changed r k n items kernel moved items i p d0 below item rows (h.changed r k n moved watched) then before within (sym was)
+            (λ w. first (time_after r) (measure_after r p) k n w (steady r k n items kernel moved p inside) moved.some time_is measure_is)
             (λ w. again (time_after r) (measure_after r p) (k + n) w time_is measure_is);
       }
     where

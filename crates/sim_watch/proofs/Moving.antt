@@ -1,5 +1,5 @@
 -- The units of a walk over scripts are those of the run.
-use Rattle.std.proofs.Common.{◌≡◌, ◌<◌, ◌≤◌, ℕ, zero, suc, ◌+◌, ◌⊎◌, inl, inr, [], length, false, None, refl, sym, ap, ◌∙◌, subst, arith, add-zero}
+use Rattle.std.proofs.Common.{◌≡◌, ◌<◌, ◌≤◌, ℕ, zero, suc, ◌+◌, ◌⊎◌, inl, inr, [], length, false, None, refl, sym, ap, ◌∙◌, subst, arith, add-zero, List}
 use Rattle.std.proofs.lemmas.Bool.{cases_eq}
 use Rattle.sim_types.specs.Scenarios.{ScenarioOf}
 use Rattle.sim_types.specs.declared.line.Measure.{Measure}
@@ -11,7 +11,8 @@ use Rattle.sim_machine_law.specs.Courses.{Run, course_after}
 use Rattle.sim_shared_model.specs.Measuring.{is_one_of}
 use Rattle.sim_procs.specs.QuietPolls.{InARow, QuietButLast}
 use Rattle.sim_steps_model.specs.PartsOf.{PartsOf, plan_of}
-use Rattle.sim_steps_model.specs.declared.mode.Unit.{Unit}
+use Rattle.sim_steps_model.specs.Touching.{touched_places}
+use Rattle.sim_steps_model.specs.declared.mode.Units.{Units}
 use Rattle.sim_kernel.specs.Stepping.{AreMeasuredAlike}
 use Rattle.sim_kernel.specs.Walks.{WalkOf, StandsAt, LeadsOn, LeadsQuietly, LeadsAtLast}
 use Rattle.sim_script_model.specs.Polls.{script_turn}
@@ -94,18 +95,18 @@ module _ (r : Run Script) (parts : PartsOf Script ScenarioOf) (plan : r.plan ≡
   led_quietly (suc n) m row = quiet_next n row.between m (led_quietly n row.between row.before) row.after
 
   -- so many units led on from the run after so many, at least one: before the last of them nothing changed
-  pub record LedOn (old new : WalkOf Script ScenarioOf) (n : ℕ) : Type 0 where
+  pub record LedOn (old new : WalkOf Script ScenarioOf) (places : List ℕ) (n : ℕ) : Type 0 where
     pub some : 1 ≤ n
     pub time : (i : ℕ) → i < n → time_after r (k + i) ≡ time_after r k
     pub measures : (res : ℕ) → res < length r.plan.setup.resources → (i : ℕ) → i < n → measure_after r res (k + i) ≡ measure_after r res k
     pub goes_on : (i : ℕ) → i < n → end_of r.plan (course_after r (k + i)) ≡ None
-    pub others : (res : ℕ) → res < length r.plan.setup.resources → is_one_of res new.kernel.touched ≡ false
+    pub others : (res : ℕ) → res < length r.plan.setup.resources → is_one_of res places ≡ false
         → measure_after r res (k + n) ≡ measure_after r res k
     pub stands : StandsAt script_body new (course_after r (k + n))
 
-  last_on : (old new : WalkOf Script ScenarioOf) (answer : Unit) (n : ℕ) (m : Course Script) → old.kernel.parts ≡ parts → LedQuietly n m
-      → LeadsAtLast script_body old new answer m → LedOn old new (suc n)
-  last_on old new answer n m same before then =
+  last_on : (old new : WalkOf Script ScenarioOf) (units : Units) (n : ℕ) (m : Course Script) → old.kernel.parts ≡ parts → LedQuietly n m
+      → LeadsAtLast script_body old new units m → LedOn old new (touched_places units.touched new.kernel.listed) (suc n)
+  last_on old new units n m same before then =
       record {
         some = omega arith;
         time = λ i below. before.time i (omega (arith, below));
@@ -121,11 +122,12 @@ module _ (r : Run Script) (parts : PartsOf Script ScenarioOf) (plan : r.plan ≡
       now : then.later ≡ course_after r (k + suc n)
       now = leads_to_next n m then.later before.there leads
 
-      others : (res : ℕ) → res < length r.plan.setup.resources → is_one_of res new.kernel.touched ≡ false
+      others : (res : ℕ) → res < length r.plan.setup.resources → is_one_of res (touched_places units.touched new.kernel.listed) ≡ false
           → measure_after r res (k + suc n) ≡ measure_after r res k
       others res within other =
           let at : Course Script → Measure = λ (c : Course Script). measure_at r.plan.setup.resources res c.state.facilities in
-          let alike : AreMeasuredAlike r.plan.setup.resources new.kernel.touched m.state then.later.state = rw (plan, ← same) then.measures in
+          let alike : AreMeasuredAlike r.plan.setup.resources (touched_places units.touched new.kernel.listed) m.state then.later.state =
+          rw (plan, ← same) then.measures in
           ap at (sym now) ∙ (alike.same res within other ∙ (ap at before.there ∙ before.measures res within n (omega arith)))
 
       goes_on_by : (i : ℕ) → i < suc n → (i ≡ n) ⊎ (i ≡ n → ⊥) → end_of r.plan (course_after r (k + i)) ≡ None
@@ -133,7 +135,8 @@ module _ (r : Run Script) (parts : PartsOf Script ScenarioOf) (plan : r.plan ≡
           subst (λ (j : ℕ). end_of r.plan (course_after r (k + j)) ≡ None) (sym is) (goes_on_there n m then.later before.there leads)
       goes_on_by i below (inr differs) = before.goes_on i (omega (arith, below, differs))
 
-  pub led_on : (old new : WalkOf Script ScenarioOf) (answer : Unit) (n : ℕ) → old.kernel.parts ≡ parts
-      → QuietButLast (LeadsQuietly script_body parts) (LeadsAtLast script_body old new answer) n (course_after r k) → LedOn old new n
-  led_on old new answer zero same row = absurd row
-  led_on old new answer (suc n) same row = last_on old new answer n row.between same (led_quietly n row.between row.before) row.after
+  pub led_on : (old new : WalkOf Script ScenarioOf) (units : Units) (n : ℕ) → old.kernel.parts ≡ parts
+      → QuietButLast (LeadsQuietly script_body parts) (LeadsAtLast script_body old new units) n (course_after r k)
+      → LedOn old new (touched_places units.touched new.kernel.listed) n
+  led_on old new units zero same row = absurd row
+  led_on old new units (suc n) same row = last_on old new units n row.between same (led_quietly n row.between row.before) row.after

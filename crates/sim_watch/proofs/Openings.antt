@@ -28,8 +28,9 @@ use Rattle.sim_script_model.specs.Scenarios.{summary}
 use Rattle.sim_script_model.specs.Scripts.{Script}
 use Rattle.sim_script_law.specs.ScriptMembers.{script_body}
 use Rattle.sim_lawful.specs.LawfulRuns.{IsRunOf}
+use Rattle.sim_script_law.specs.ScenarioRuns.{run_of}
 use Rattle.sim_watch.specs.Watched.{WatchedOf, IsWatched}
-use Rattle.sim_watch.specs.Following.{AreUpTo, AreWatched, CanBeMeasured, Follows, IsAtLast, IsAtOpening, run_from, run_of, time_after, measure_after}
+use Rattle.sim_watch.specs.Following.{AreUpTo, AreWatched, CanBeMeasured, Follows, IsAtLast, IsAtOpening, run_from, time_after, measure_after}
 use Rattle.sim_watch.proofs.Beginning.{is_run, opens_at_0}
 
 -- ---- what is measured is in its range

@@ -13,6 +13,7 @@ use Rattle.sim_machine.specs.Measures.{row_of}
 use Rattle.sim_machine_law.specs.Courses.{Run, course_after, state_after}
 use Rattle.sim_machine_law.proofs.RunLaws.MadeUnits.{made_where, stays_where}
 use Rattle.sim_steps_model.specs.PartsOf.{IsOpenedAs}
+use Rattle.sim_steps_model.specs.Touching.{touched_places}
 use Rattle.sim_steps_model.specs.declared.mode.Units.{Units}
 use Rattle.sim_kernel.specs.Walks.{WalkOf, IsOver, StandsAt, Walks}
 use Rattle.sim_script_model.specs.Scenarios.{watch_rows}
@@ -38,8 +39,11 @@ module _ (s : ScenarioOf) (r : Run Script) (run : IsRunOf script_body s r) (old 
   abbrev n : ℕ
   n = units.made
 
-  led : LedOn r old.kernel.parts h.walk.plan h.walk.turn k old new n
-  led = led_on r old.kernel.parts h.walk.plan h.walk.turn k old new units.last n refl (walks.each (course_after r k) h.walk.at)
+  abbrev places : List ℕ
+  places = touched_places units.touched new.kernel.listed
+
+  led : LedOn r old.kernel.parts h.walk.plan h.walk.turn k old new places n
+  led = led_on r old.kernel.parts h.walk.plan h.walk.turn k old new units n refl (walks.each (course_after r k) h.walk.at)
 
   pub some_made : 1 ≤ units.made
   some_made = led.some
@@ -47,7 +51,7 @@ module _ (s : ScenarioOf) (r : Run Script) (run : IsRunOf script_body s r) (old 
   setup_is : r.plan.setup ≡ new.kernel.parts.setup
   setup_is = ap (λ g. g.setup) h.walk.plan ∙ sym opened.setup
 
-  pub has_moved : HasMoved r k n new.kernel
+  pub has_moved : HasMoved r k n places new.kernel
   has_moved =
       record {
         setup = setup_is;
@@ -86,7 +90,7 @@ module _ (s : ScenarioOf) (r : Run Script) (run : IsRunOf script_body s r) (old 
             let there : k + (i - k) ≡ i = omega (arith, late) in
             subst (λ (j : ℕ). end_of r.plan (course_after r j) ≡ None) there (led.goes_on (i - k) (omega (arith, late, below)))
 
-    pub follows_then : ((q : Run Script) (j m : ℕ) → HasMoved q j m new.kernel → AreWatched q j rows → AreWatched q (j + m) then)
+    pub follows_then : ((q : Run Script) (j m : ℕ) → HasMoved q j m places new.kernel → AreWatched q j rows → AreWatched q (j + m) then)
         → AreUpTo new.kernel.parts.shared.happen.time then → Follows r new then
     follows_then watched up_to =
         record {

@@ -4,11 +4,9 @@ use Rattle.std.specs.List.{AllPass}
 use Rattle.sim_types.specs.Scenarios.{ScenarioOf}
 use Rattle.sim_types.specs.Setups.{resource_fits}
 use Rattle.sim_types.specs.declared.line.Measure.{Measure}
-use Rattle.sim_types.specs.declared.setup.Arrival.{Arrival}
 use Rattle.sim_machine.specs.State.{State}
 use Rattle.sim_machine.specs.Effect.{calendar}
 use Rattle.sim_machine.specs.Measures.{measure_at}
-use Rattle.sim_machine.specs.RandomWords.{word_of}
 use Rattle.sim_machine.specs.Runs.{end_of}
 use Rattle.sim_machine_law.specs.Courses.{Run, course_after, state_after}
 use Rattle.sim_lawful.specs.LawfulRuns.{IsRunOf}
@@ -18,16 +16,12 @@ use Rattle.sim_steps_model.specs.StandsFor.{StandsFor, LawfulOf}
 use Rattle.sim_kernel.specs.KernelOf.{KernelOf}
 use Rattle.sim_kernel.specs.Walks.{WalkOf, StandsAt, BeginsOn}
 use Rattle.sim_script_model.specs.Polls.{script_turn}
-use Rattle.sim_script_model.specs.Scenarios.{plan_with}
 use Rattle.sim_script_model.specs.Scripts.{Script}
+use Rattle.sim_script_law.specs.ScenarioRuns.{run_of}
 use Rattle.sim_script_law.specs.ScriptMembers.{script_body}
 use Rattle.sim_watch.specs.Watched.{WatchedOf, IsWatched}
 
 -- ---- the run
-
--- the run of a scenario with the random words of this seed, at which this arrives
-abbrev pub run_of : ScenarioOf → ℕ → List Arrival → Run Script
-run_of s seed journal = record { plan = plan_with s (word_of seed); turn = script_turn s.code; journal = journal }
 
 -- the run that a walk makes, which stands at its beginning
 abbrev pub run_from : ScenarioOf → WalkOf Script ScenarioOf → Run Script
@@ -70,15 +64,15 @@ pub record CanBeMeasured (kernel : KernelOf Script ScenarioOf) : Type 0 where
   pub fits : AllPass resource_fits kernel.parts.setup.resources
 
 -- the kernel stands where the run does n units after the first k: before the last of them neither the time changes nor what is
--- measured, and by the last it changes at these places alone that the kernel tells
-pub record HasMoved (r : Run Script) (k n : ℕ) (kernel : KernelOf Script ScenarioOf) : Type 0 where
+-- measured, and by the last it changes at these places alone
+pub record HasMoved (r : Run Script) (k n : ℕ) (places : List ℕ) (kernel : KernelOf Script ScenarioOf) : Type 0 where
   pub setup : r.plan.setup ≡ kernel.parts.setup
   pub stands : StandsFor kernel.parts (state_after r (k + n))
   pub some : 1 ≤ n
   pub same_time : (i : ℕ) → i < n → time_after r (k + i) ≡ time_after r k
   pub same_measures : (res : ℕ) → res < length r.plan.setup.resources → (i : ℕ) → i < n
       → measure_after r res (k + i) ≡ measure_after r res k
-  pub others : (res : ℕ) → res < length r.plan.setup.resources → is_one_of res kernel.touched ≡ false
+  pub others : (res : ℕ) → res < length r.plan.setup.resources → is_one_of res places ≡ false
       → measure_after r res (k + n) ≡ measure_after r res k
 
 -- ---- what is watched

@@ -3,6 +3,7 @@ ghost use Rattle.std.specs.Prelude.{◌≡◌, ◌+◌, ◌≤◌, ◌≤ℤ◌,
 ghost use Rattle.sim_types.specs.Limits.{last_time};
 ghost use Rattle.sim_types.specs.Setups.{HavePorts};
 ghost use Rattle.sim_machine_law.specs.Courses.{Run};
+ghost use Rattle.sim_steps_model.specs.Touching.{touched_places};
 ghost use Rattle.sim_kernel.specs.Walks.{IsOver};
 ghost use Rattle.sim_script_model.specs.Scenarios.{summary, watch_rows};
 ghost use Rattle.sim_script_model.specs.Scripts.{Script};
@@ -11,7 +12,7 @@ ghost use Rattle.sim_watch.specs.Watched.{row_at};
 ghost use Rattle.sim_watch.specs.Following.{AreUpTo, AreWatched, CanBeMeasured, Follows, HasMoved, IsAtLast, IsAtOpening, run_from};
 
 use crate::watched::Watched;
-use sim_kernel::{Kernel, Walk};
+use sim_kernel::{Kernel, Touched, Walk};
 use sim_scenario::Scenario;
 use sim_script::Script;
 use sim_types::{Arrival, End, List, WatchRow};
@@ -114,23 +115,40 @@ fn follow(
     ensures limit { walk.new.limit ≡ walk.old.limit }
     ensures within { walk.new.kernel.units ≤ walk.new.limit }
 {
-    while let Some(_units) = walk.units(scenario)? {
-        change_touched(walk.kernel(), watched);
+    while let Some(units) = walk.units(scenario)? {
+        change_touched(walk.kernel(), units.touched, watched);
     }
     Ok(())
 }
 
 /// The resources that the last units touched are measured.
-fn change_touched(kernel: &Kernel<Script>, watched: &mut [Watched])
+fn change_touched(kernel: &Kernel<Script>, touched: Touched, watched: &mut [Watched])
     requires can { CanBeMeasured kernel.now }
     requires all { length watched.old ≡ length kernel.now.parts.setup.resources }
     requires up_to { AreUpTo kernel.now.parts.shared.happen.time watched.old }
-    ensures watched { (r : Run Script) (k n : ℕ) → HasMoved r k n kernel.now →
+    ensures watched { (r : Run Script) (k n : ℕ) →
+        HasMoved r k n (touched_places touched kernel.now.listed) kernel.now →
+        AreWatched r k watched.old → AreWatched r (k + n) watched.new }
+    ensures up_to { AreUpTo kernel.now.parts.shared.happen.time watched.new }
+{
+    match touched {
+        Touched::Nothing => {}
+        Touched::One(res) => change_each(kernel, &[res], watched),
+        Touched::Listed => change_each(kernel, kernel.listed(), watched),
+    }
+}
+
+/// The resources in these places are measured.
+fn change_each(kernel: &Kernel<Script>, places: &[u32], watched: &mut [Watched])
+    requires can { CanBeMeasured kernel.now }
+    requires all { length watched.old ≡ length kernel.now.parts.setup.resources }
+    requires up_to { AreUpTo kernel.now.parts.shared.happen.time watched.old }
+    ensures watched { (r : Run Script) (k n : ℕ) → HasMoved r k n places.now kernel.now →
         AreWatched r k watched.old → AreWatched r (k + n) watched.new }
     ensures up_to { AreUpTo kernel.now.parts.shared.happen.time watched.new }
 {
     let now = kernel.now();
-    for res in kernel.touched() {
+    for res in places {
         let place = *res as usize;
         if place < watched.len() {
             watched[place].change(now, kernel.measure(*res));

@@ -1,30 +1,21 @@
 -- Where the same is measured as before: at all places but those of the resources that were touched.
 use Rattle.std.proofs.Common.{◌≡◌, ◌==◌, ◌<◌, ◌+◌, ◌∙◌, ◌||◌, ℕ, false, List, [], ◌∷◌, ◌++◌, length, refl, sym, ap, subst}
-use Rattle.std.specs.Prelude.{slice_get}
-use Rattle.std.specs.Option.{option_map}
 use Rattle.std.proofs.lemmas.Bool.{lt-ltb, or_parts}
 use Rattle.std.proofs.lemmas.List.{length-append}
 use Rattle.std.proofs.lemmas.List.Folds.{list_any-append}
 use Rattle.sim_types.specs.Few.{pushed_within}
-use Rattle.sim_shared_model.specs.Measuring.{ChangesOnlyAt, is_one_of, measure_of}
+use Rattle.sim_shared_model.specs.Measuring.{ChangesOnlyAt, is_one_of}
 use Rattle.sim_shared_model.specs.SharedOf.{SharedOf}
-
--- where the resources stay, the same is measured at each place
-pub untouched : (places : List ℕ) (old new : SharedOf) → new.resources ≡ old.resources → ChangesOnlyAt places old new
-untouched places old new same = record { others = λ at _. ap (λ xs. option_map measure_of (slice_get xs at)) same }
+use Rattle.sim_shared_law.proofs.Shown.ShownMeasures.{changes_then, nothing_changes}
 
 -- some are touched before the resources stay, or after it
 pub touched_before : (places : List ℕ) (old mid new : SharedOf) → ChangesOnlyAt places old mid → new.resources ≡ mid.resources →
     ChangesOnlyAt places old new
-touched_before places old mid new touched same = record {
-  others = λ at other. ap (λ xs. option_map measure_of (slice_get xs at)) same ∙ touched.others at other;
-}
+touched_before places old mid new touched same = changes_then places old mid new touched (nothing_changes places mid new same)
 
 pub touched_after : (places : List ℕ) (old mid new : SharedOf) → mid.resources ≡ old.resources → ChangesOnlyAt places mid new →
     ChangesOnlyAt places old new
-touched_after places old mid new same touched = record {
-  others = λ at other. touched.others at other ∙ ap (λ xs. option_map measure_of (slice_get xs at)) same;
-}
+touched_after places old mid new same touched = changes_then places old mid new (nothing_changes places old mid same) touched
 
 -- these are touched, and then those
 pub touched_then : (first second : List ℕ) (old mid new : SharedOf) → ChangesOnlyAt first old mid → ChangesOnlyAt second mid new →

@@ -8,7 +8,8 @@ use Rattle.sim_machine_law.specs.Courses.{course_after}
 use Rattle.sim_engine.specs.EngineFaults.{is_write}
 use Rattle.sim_trace.specs.Texts.{trace_text}
 use Rattle.sim_script_model.specs.Scenarios.{summary}
-use Rattle.sim_engine.specs.RunOfScenario.{run_of, units_of}
+use Rattle.sim_script_law.specs.ScenarioRuns.{run_of}
+use Rattle.sim_engine.specs.RunOfScenario.{units_of}
 use Rattle.sim_types.specs.Setups.{HavePorts}
 use Rattle.sim_engine.specs.Rounds.{StandsInRun, text_by}
 use Rattle.sim_engine.specs.Sessions.{IsAt, report_of}

@@ -8,46 +8,46 @@ use Rattle.sim_engine.proofs.session.Session.go_on.Goals as goal
 
 pub returns-in-Quiet-clause-busy : goal.returns-in-Quiet-clause-busy
 returns-in-Quiet-clause-busy g c =
-    busy_until _ c.args.self.now c.self.view_is c.in_ok-units.units.made c.in_ok-units.units.last c.units.new.self.touched c.units.new.self.parts c.in_ok-units.ensures.steps
+    busy_until _ c.args.self.now c.self.view_is c.in_ok-units.units.made c.in_ok-units.units.last _ c.units.new.self.parts c.in_ok-units.ensures.steps
     (c.self.inside.units + c.in_ok-units.units.made) refl
 
 pub returns-in-Quiet-clause-steps : goal.returns-in-Quiet-clause-steps
 returns-in-Quiet-clause-steps g c =
-    quiet_at _ c.args.self.now c.self.view_is c.in_ok-units.units.made c.in_ok-units.units.last c.units.new.self.touched c.units.new.self.parts c.in_ok-units.ensures.steps
+    quiet_at _ c.args.self.now c.self.view_is c.in_ok-units.units.made c.in_ok-units.units.last _ c.units.new.self.parts c.in_ok-units.ensures.steps
     c.in-Quiet.is
 
 pub returns-in-Quiet-clause-writes : goal.returns-in-Quiet-clause-writes
 returns-in-Quiet-clause-writes g c t at =
     none_to_write is_write _ _ _
-    (quiet_text _ c.args.self.now c.self.view_is c.in_ok-units.units.made c.in_ok-units.units.last c.units.new.self.touched c.units.new.self.parts c.in_ok-units.ensures.steps
+    (quiet_text _ c.args.self.now c.self.view_is c.in_ok-units.units.made c.in_ok-units.units.last _ c.units.new.self.parts c.in_ok-units.ensures.steps
     c.in-Quiet.is c.args.scenario.now.port_names t at)
 
 pub returns-in_ok-tell-in-Line-clause-busy : goal.returns-in_ok-tell-in-Line-clause-busy
 returns-in_ok-tell-in-Line-clause-busy g c =
-    line_busy _ c.args.self.now c.self.view_is c.in_ok-units.units.made c.in_ok-units.units.last c.units.new.self.touched c.units.new.self.parts c.in_ok-units.ensures.steps
+    line_busy _ c.args.self.now c.self.view_is c.in_ok-units.units.made c.in_ok-units.units.last _ c.units.new.self.parts c.in_ok-units.ensures.steps
     c.in-Line.line c.in-Line.is c.tell.new.self c.tell.ensures.logs
 
 pub returns-in_ok-tell-in-Line-clause-steps : goal.returns-in_ok-tell-in-Line-clause-steps
 returns-in_ok-tell-in-Line-clause-steps g c =
-    line_at _ c.args.self.now c.self.view_is c.in_ok-units.units.made c.in_ok-units.units.last c.units.new.self.touched c.units.new.self.parts c.in_ok-units.ensures.steps
+    line_at _ c.args.self.now c.self.view_is c.in_ok-units.units.made c.in_ok-units.units.last _ c.units.new.self.parts c.in_ok-units.ensures.steps
     c.in-Line.line c.in-Line.is c.tell.new.self c.tell.ensures.logs
 
 pub returns-in_ok-tell-in-Line-clause-writes : goal.returns-in_ok-tell-in-Line-clause-writes
 returns-in_ok-tell-in-Line-clause-writes g c t at =
     let text =
-    line_text_at _ c.args.self.now c.self.view_is c.in_ok-units.units.made c.in_ok-units.units.last c.units.new.self.touched c.units.new.self.parts c.in_ok-units.ensures.steps
+    line_text_at _ c.args.self.now c.self.view_is c.in_ok-units.units.made c.in_ok-units.units.last _ c.units.new.self.parts c.in_ok-units.ensures.steps
     c.in-Line.line c.in-Line.is c.tell.new.self c.tell.ensures.logs c.args.scenario.now.port_names t at in
     as_well (λ _. true) is_write _ _ _ _ _ _ c.in_ok-tell-in-Line.ensures.writes (sym text)
 
 pub returns-in_err-tell-in-Line-clause-busy : goal.returns-in_err-tell-in-Line-clause-busy
 returns-in_err-tell-in-Line-clause-busy g c =
-    line_busy _ c.args.self.now c.self.view_is c.in_ok-units.units.made c.in_ok-units.units.last c.units.new.self.touched c.units.new.self.parts c.in_ok-units.ensures.steps
+    line_busy _ c.args.self.now c.self.view_is c.in_ok-units.units.made c.in_ok-units.units.last _ c.units.new.self.parts c.in_ok-units.ensures.steps
     c.in-Line.line c.in-Line.is c.tell.new.self c.tell.ensures.logs
 
 pub returns-in_err-tell-in-Line-clause-writes : goal.returns-in_err-tell-in-Line-clause-writes
 returns-in_err-tell-in-Line-clause-writes g c t at =
     let text =
-    line_text_at _ c.args.self.now c.self.view_is c.in_ok-units.units.made c.in_ok-units.units.last c.units.new.self.touched c.units.new.self.parts c.in_ok-units.ensures.steps
+    line_text_at _ c.args.self.now c.self.view_is c.in_ok-units.units.made c.in_ok-units.units.last _ c.units.new.self.parts c.in_ok-units.ensures.steps
     c.in-Line.line c.in-Line.is c.tell.new.self c.tell.ensures.logs c.args.scenario.now.port_names t at in
     told_err is_write _ _ _ c.from_residual-in_err-tell-in-Line.result _ c.from_residual-in_err-tell-in-Line.ensures.1
     (λ why is. as_failed (λ _. true) is_write _ _ _ why _ [] _ c.in_err-tell-in-Line.ensures.writes

@@ -1,4 +1,5 @@
 -- Room is made, and then units in a row.
+use Rattle.sim_steps_model.specs.Touching.{touched_places}
 use Rattle.sim_steps_law.proofs.Kernels.Rooms.{roomier_stands_for_some}
 use Rattle.sim_kernel.proofs.QuietUnits.{after_units}
 use Rattle.sim_kernel.proofs.UnitSteps.{roomier_holds, stands_for_some}
@@ -20,7 +21,8 @@ invariant_of-self-2 g c =
     rw c.from.ensures
     (after_units g.B.LawfulBody.body c.self.inside.units old c.self.invariant (g.B.LawfulBody.lawful old.code)
     c.reserve_for_next.new.self c.reserve_for_next.ensures.kept
-    c.units-units.result.made c.units-units.result.last c.units-units.new.places c.units-units.new.self c.units-units.ensures.moves
+    c.units-units.result.made c.units-units.result.last
+    (touched_places c.units-units.result.touched c.units-units.new.listed) c.units-units.new.self c.units-units.ensures.moves
     c.units-units.ensures.touched c.slots-kept.ensures.resources).holds
 
 pub returns-clause-steps : goal.returns-clause-steps
@@ -29,7 +31,8 @@ returns-clause-steps g c =
     rw (← c.self.view_is)
     ((after_units g.B.LawfulBody.body c.self.inside.units old c.self.invariant (g.B.LawfulBody.lawful old.code)
     c.reserve_for_next.new.self c.reserve_for_next.ensures.kept
-    c.units-units.result.made c.units-units.result.last c.units-units.new.places c.units-units.new.self c.units-units.ensures.moves
+    c.units-units.result.made c.units-units.result.last
+    (touched_places c.units-units.result.touched c.units-units.new.listed) c.units-units.new.self c.units-units.ensures.moves
     c.units-units.ensures.touched c.slots-kept.ensures.resources).steps c.slots-kept.ensures.needed)
 
 pub returns-clause-opened : goal.returns-clause-opened
@@ -38,5 +41,6 @@ returns-clause-opened g c =
     rw (← c.self.view_is)
     (after_units g.B.LawfulBody.body c.self.inside.units old c.self.invariant (g.B.LawfulBody.lawful old.code)
     c.reserve_for_next.new.self c.reserve_for_next.ensures.kept
-    c.units-units.result.made c.units-units.result.last c.units-units.new.places c.units-units.new.self c.units-units.ensures.moves
+    c.units-units.result.made c.units-units.result.last
+    (touched_places c.units-units.result.touched c.units-units.new.listed) c.units-units.new.self c.units-units.ensures.moves
     c.units-units.ensures.touched c.slots-kept.ensures.resources).opened

@@ -1,5 +1,5 @@
 -- What comes next is made: units of the kernel, an arrival, or nothing.
-use Rattle.std.proofs.Common.{rules, FitsSigned, w64, refl, sym, ap, ◌∙◌}
+use Rattle.std.proofs.Common.{rules, FitsSigned, w64, refl, sym, ◌∙◌}
 use Rattle.std.proofs.lemmas.Int.{to_z-of_z}
 use Rattle.sim_kernel.proofs.NextUnits.{arrival_is_next, end_is_next, rest_is, step_is_next}
 use Rattle.sim_kernel.proofs.WalkedCourses.{arrival_leads, steps_lead}
@@ -16,7 +16,7 @@ returns-in_ok-units-in-Step-clause-walks g c =
     (record {
       each = λ m stands.
           steps_lead g.B.LawfulBody.body _ m stands (step_is_next g.B.LawfulBody.body _ m stands (rw (← c.self.view_is) at comes))
-          c.in_ok-units-in-Step.units.made c.in_ok-units-in-Step.units.last _ refl c.in_ok-units-in-Step.ensures.steps;
+          c.in_ok-units-in-Step.units _ refl c.in_ok-units-in-Step.ensures.steps;
     })
 
 pub returns-in_ok-line-in-Arrival-clause-walks : goal.returns-in_ok-line-in-Arrival-clause-walks
@@ -28,5 +28,5 @@ returns-in_ok-line-in-Arrival-clause-walks g c =
     (record {
       each = λ m stands.
           arrival_leads g.B.LawfulBody.body _ m stands c.in-Arrival.arrival (arrival_is_next g.B.LawfulBody.body _ m stands c.in-Arrival.arrival (rw (← c.self.view_is) at comes))
-          c.in_ok-line-in-Arrival.line _ (rest_is c.self.inside.left.now) c.in_ok-line-in-Arrival.ensures.touched makes;
+          c.in_ok-line-in-Arrival.line _ (rest_is c.self.inside.left.now) makes;
     })

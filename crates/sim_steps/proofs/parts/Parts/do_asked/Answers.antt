@@ -1,14 +1,17 @@
 use Rattle.std.proofs.Common.{[], ◌∷◌, rules, w64, FitsSigned, ◌∙◌, ap, refl, arith, true}
 use Rattle.std.proofs.lemmas.Int.{to_z-of_z}
+use Rattle.std.specs.Option.{option_to_list}
 use Rattle.sim_types.specs.declared.event.Signal.TheVariants as signal
 use Rattle.sim_types.specs.declared.op.Op.TheVariants as op
 use Rattle.sim_steps_model.specs.declared.mode.Unit.TheVariants as unit
 use Rattle.sim_steps_model.specs.Opening.{most_begun}
 use Rattle.sim_steps_model.specs.PartsOf.{PartsOf}
 use Rattle.sim_steps_model.specs.QuietUnits.{with_live}
+use Rattle.sim_steps_model.specs.Touching.{touched_places}
 use Rattle.sim_steps_law.proofs.Polls.AskedPlaces.{all_stand}
 use Rattle.sim_steps_law.proofs.Kernels.Becoming.{becomes_told}
-use Rattle.sim_steps_law.proofs.Kernels.TouchedPlaces.{touched_after, untouched}
+use Rattle.sim_shared_law.proofs.Shown.ShownMeasures.{nothing_changes}
+use Rattle.sim_steps_law.proofs.Kernels.TouchedPlaces.{touched_after}
 use Rattle.sim_steps_law.proofs.Ends.DroppableProcesses.{polled_droppable}
 use Rattle.sim_steps_law.proofs.Ends.EndedProcesses.{ended_scopes, polled_open}
 use Rattle.sim_steps_law.proofs.Scopes.HeldScopes.{releases_at}
@@ -206,7 +209,7 @@ returns-in-Chain-clause-does g c =
 pub returns-in-Drop-clause-does : goal.returns-in-Drop-clause-does
 returns-in-Drop-clause-does g c =
     let value : FitsSigned w64 c.in-Drop.value = search rules in
-    let becomes = rw (to_z-of_z w64 c.in-Drop.value value) at c.drop_process.ensures.becomes in
+    let becomes = rw (to_z-of_z w64 c.in-Drop.value value) at c.drop_process-touched.ensures.becomes in
     does_at_last g.B.LawfulBody.body c.args.event c.args.process _ _ c.args.self.now c.ask-made.new.self _ 0 (op.Drop c.in-Drop.other c.in-Drop.value)
     unit.Quiet (rw c.in-Drop.is at c.ask-made.ensures.asked) refl (omega arith) becomes
 
@@ -409,8 +412,8 @@ die-requires-clause-places g c =
     all_stand g.B.LawfulBody.body g.B.Body.events_held place old c.args.process c.args.event a.before.told reads (g.B.LawfulBody.lawful old.code)
     a.before.stands (omega (arith, c.requires.events)) a.before.running c.ask-made.new.self _ a.last.asks c.args.process
 
-pub drop_process-requires-clause-places : goal.drop_process-requires-clause-places
-drop_process-requires-clause-places g c =
+pub drop_process-touched-requires-clause-places : goal.drop_process-touched-requires-clause-places
+drop_process-touched-requires-clause-places g c =
     let a = rw c.in-Drop.is at c.ask-made.ensures.asked in
     let old = with_live a.before.live a.before.control c.args.self.now in
     let place = g.B.Body.told_place old.code in
@@ -419,66 +422,81 @@ drop_process-requires-clause-places g c =
     all_stand g.B.LawfulBody.body g.B.Body.events_held place old c.args.process c.args.event a.before.told reads (g.B.LawfulBody.lawful old.code)
     a.before.stands (omega (arith, c.requires.events)) a.before.running c.ask-made.new.self _ a.last.asks c.in-Drop.other
 
-pub drop_process-requires-clause-can : goal.drop_process-requires-clause-can
-drop_process-requires-clause-can g c =
+pub drop_process-touched-requires-clause-can : goal.drop_process-touched-requires-clause-can
+drop_process-touched-requires-clause-can g c =
     let a = rw c.in-Drop.is at c.ask-made.ensures.asked in
     let old = with_live a.before.live a.before.control c.args.self.now in
     polled_droppable g.B.LawfulBody.body old c.ask-made.new.self c.args.process a.last.asks.later a.before.stands a.last.owes c.in-Drop.other
 
 pub returns-in-Timeout-clause-touched : goal.returns-in-Timeout-clause-touched
 returns-in-Timeout-clause-touched g c =
-    untouched c.args.places.now c.args.self.now.shared c.timeout.new.self.shared (c.timeout.ensures.resources ∙ c.ask-made.ensures.same_resources)
+    nothing_changes [] c.args.self.now.shared c.timeout.new.self.shared (c.timeout.ensures.resources ∙ c.ask-made.ensures.same_resources)
 
 pub returns-in-Pause-clause-touched : goal.returns-in-Pause-clause-touched
 returns-in-Pause-clause-touched g c =
-    untouched c.args.places.now c.args.self.now.shared c.pause.new.self.shared (c.pause.ensures.resources ∙ c.ask-made.ensures.same_resources)
+    nothing_changes [] c.args.self.now.shared c.pause.new.self.shared (c.pause.ensures.resources ∙ c.ask-made.ensures.same_resources)
 
 pub returns-in-Succeed-clause-touched : goal.returns-in-Succeed-clause-touched
 returns-in-Succeed-clause-touched g c =
-    untouched c.args.places.now c.args.self.now.shared c.succeed.new.self.shared (c.succeed.ensures.resources ∙ c.ask-made.ensures.same_resources)
+    nothing_changes [] c.args.self.now.shared c.succeed.new.self.shared (c.succeed.ensures.resources ∙ c.ask-made.ensures.same_resources)
 
 pub returns-in-Fail-clause-touched : goal.returns-in-Fail-clause-touched
 returns-in-Fail-clause-touched g c =
-    untouched c.args.places.now c.args.self.now.shared c.fail.new.self.shared (c.fail.ensures.resources ∙ c.ask-made.ensures.same_resources)
+    nothing_changes [] c.args.self.now.shared c.fail.new.self.shared (c.fail.ensures.resources ∙ c.ask-made.ensures.same_resources)
 
 pub returns-in-Interrupt-clause-touched : goal.returns-in-Interrupt-clause-touched
 returns-in-Interrupt-clause-touched g c =
-    untouched c.args.places.now c.args.self.now.shared c.interrupt.new.self.shared (c.interrupt.ensures.resources ∙ c.ask-made.ensures.same_resources)
+    nothing_changes [] c.args.self.now.shared c.interrupt.new.self.shared (c.interrupt.ensures.resources ∙ c.ask-made.ensures.same_resources)
 
 pub returns-in-Draw-clause-touched : goal.returns-in-Draw-clause-touched
 returns-in-Draw-clause-touched g c =
-    untouched c.args.places.now c.args.self.now.shared c.draw.new.self.shared (c.draw.ensures.resources ∙ c.ask-made.ensures.same_resources)
+    nothing_changes [] c.args.self.now.shared c.draw.new.self.shared (c.draw.ensures.resources ∙ c.ask-made.ensures.same_resources)
 
 pub returns-in-Finish-clause-touched : goal.returns-in-Finish-clause-touched
 returns-in-Finish-clause-touched g c =
-    untouched c.args.places.now c.args.self.now.shared c.finish.new.self.shared (c.finish.ensures.resources ∙ c.ask-made.ensures.same_resources)
+    nothing_changes [] c.args.self.now.shared c.finish.new.self.shared (c.finish.ensures.resources ∙ c.ask-made.ensures.same_resources)
 
 pub returns-in-Drop-clause-touched : goal.returns-in-Drop-clause-touched
 returns-in-Drop-clause-touched g c =
-    touched_after c.drop_process.new.places c.args.self.now.shared c.ask-made.new.self.shared c.drop_process.new.self.shared
-    c.ask-made.ensures.same_resources c.drop_process.ensures.touched
+    touched_after (touched_places c.drop_process-touched.result c.drop_process-touched.new.listed) c.args.self.now.shared c.ask-made.new.self.shared
+    c.drop_process-touched.new.self.shared c.ask-made.ensures.same_resources c.drop_process-touched.ensures.touched
 
 pub returns-in-Enter-clause-touched : goal.returns-in-Enter-clause-touched
 returns-in-Enter-clause-touched g c =
-    rw (c.push.ensures.new, c.requires.none) (touched_after (c.in-Enter.res ∷ []) c.args.self.now.shared c.ask-made.new.self.shared
-    c.enter.new.self.shared c.ask-made.ensures.same_resources c.enter.ensures.touched)
+    touched_after (c.in-Enter.res ∷ []) c.args.self.now.shared c.ask-made.new.self.shared c.enter.new.self.shared c.ask-made.ensures.same_resources
+    c.enter.ensures.touched
 
 pub returns-in-Put-clause-touched : goal.returns-in-Put-clause-touched
 returns-in-Put-clause-touched g c =
-    rw (c.push-in-Put.ensures.new, c.requires.none) (touched_after (c.in-Put.res ∷ []) c.args.self.now.shared c.ask-made.new.self.shared
-    c.put.new.self.shared c.ask-made.ensures.same_resources c.put.ensures.touched)
+    touched_after (c.in-Put.res ∷ []) c.args.self.now.shared c.ask-made.new.self.shared c.put.new.self.shared c.ask-made.ensures.same_resources
+    c.put.ensures.touched
 
 pub returns-in-PutWait-clause-touched : goal.returns-in-PutWait-clause-touched
 returns-in-PutWait-clause-touched g c =
-    rw (c.push-in-PutWait.ensures.new, c.requires.none) (touched_after (c.in-PutWait.res ∷ []) c.args.self.now.shared c.ask-made.new.self.shared
-    c.put_wait.new.self.shared c.ask-made.ensures.same_resources c.put_wait.ensures.touched)
+    touched_after (c.in-PutWait.res ∷ []) c.args.self.now.shared c.ask-made.new.self.shared c.put_wait.new.self.shared c.ask-made.ensures.same_resources
+    c.put_wait.ensures.touched
 
 pub returns-in-Get-clause-touched : goal.returns-in-Get-clause-touched
 returns-in-Get-clause-touched g c =
-    rw (c.push-in-Get.ensures.new, c.requires.none) (touched_after (c.in-Get.res ∷ []) c.args.self.now.shared c.ask-made.new.self.shared
-    c.get.new.self.shared c.ask-made.ensures.same_resources c.get.ensures.touched)
+    touched_after (c.in-Get.res ∷ []) c.args.self.now.shared c.ask-made.new.self.shared c.get.new.self.shared c.ask-made.ensures.same_resources
+    c.get.ensures.touched
 
 pub returns-in-GetWait-clause-touched : goal.returns-in-GetWait-clause-touched
 returns-in-GetWait-clause-touched g c =
-    rw (c.push-in-GetWait.ensures.new, c.requires.none) (touched_after (c.in-GetWait.res ∷ []) c.args.self.now.shared c.ask-made.new.self.shared
-    c.get_wait.new.self.shared c.ask-made.ensures.same_resources c.get_wait.ensures.touched)
+    touched_after (c.in-GetWait.res ∷ []) c.args.self.now.shared c.ask-made.new.self.shared c.get_wait.new.self.shared c.ask-made.ensures.same_resources
+    c.get_wait.ensures.touched
+
+pub returns-in-Release-clause-touched : goal.returns-in-Release-clause-touched
+returns-in-Release-clause-touched g c =
+    touched_after (c.release.result ∷ []) c.args.self.now.shared c.ask-made.new.self.shared c.release.new.self.shared
+    c.ask-made.ensures.same_resources c.release.ensures.touched
+
+pub returns-in-Leave-clause-touched : goal.returns-in-Leave-clause-touched
+returns-in-Leave-clause-touched g c =
+    rw c.touched_at-touched.ensures (touched_after (option_to_list c.leave.result) c.args.self.now.shared c.ask-made.new.self.shared c.leave.new.self.shared
+    c.ask-made.ensures.same_resources c.leave.ensures.touched)
+
+pub returns-in-Cancel-clause-touched : goal.returns-in-Cancel-clause-touched
+returns-in-Cancel-clause-touched g c =
+    rw c.touched_at-touched-in-Cancel.ensures (touched_after (option_to_list c.cancel.result) c.args.self.now.shared c.ask-made.new.self.shared c.cancel.new.self.shared
+    c.ask-made.ensures.same_resources c.cancel.ensures.touched)

@@ -1,6 +1,7 @@
 use Rattle.std.proofs.Common.{◌<◌, length, refl, sym, arith}
 use Rattle.sim_procs.specs.RecordOf.{record_of}
-use Rattle.sim_steps_law.proofs.Kernels.TouchedPlaces.{pushed_length, touched_before, touched_more, untouched}
+use Rattle.sim_shared_law.proofs.Shown.ShownMeasures.{nothing_changes}
+use Rattle.sim_steps_law.proofs.Kernels.TouchedPlaces.{pushed_length, touched_before, touched_more}
 use Rattle.sim_steps_law.proofs.Scopes.LeavingEach.{few_open, gone_few, leaves_start, some_fewer, some_last, some_next}
 use Rattle.sim_steps.proofs.parts.Parts.leave_scopes.Goals as goal
 
@@ -8,8 +9,8 @@ pub loop-at-init : goal.loop-at-init
 loop-at-init g c =
     record {
       some = leaves_start c.args.process c.args.self.now c.requires.scopes c.requires.can;
-      touched = untouched c.args.places.now c.args.self.now.shared c.args.self.now.shared refl;
-      few = rw c.requires.none (omega (arith, few_open (record_of c.args.process c.args.self.now.live) c.requires.scopes));
+      touched = nothing_changes _ c.args.self.now.shared c.args.self.now.shared refl;
+      few = rw c.clear.ensures (omega (arith, few_open (record_of c.args.process c.args.self.now.live) c.requires.scopes));
     }
 
 pub leave_scope-requires-clause-spare_events : goal.leave_scope-requires-clause-spare_events
@@ -36,12 +37,12 @@ loop-at-preserved g c =
     let some = c.loop-at.invariant.some in
     let left = c.leave_scope.new.self in
     let fewer = some_fewer c.args.process some left c.in-Some.ensures.leaves (sym c.in-Some.ensures.result) in
-    let room : length c.loop-at.places < 32 = omega (arith, fewer, c.loop-at.invariant.few) in
+    let room : length c.loop-at.listed < 32 = omega (arith, fewer, c.loop-at.invariant.few) in
     record {
       some = some_next c.args.process some left c.in-Some.ensures.leaves (sym c.in-Some.ensures.result);
-      touched = touched_more 32 c.loop-at.places c.in-Some.at c.push.new.self c.push.ensures.new room c.args.self.now.shared c.loop-at.self.shared
+      touched = touched_more 32 c.loop-at.listed c.in-Some.at c.push.new.self c.push.ensures.new room c.args.self.now.shared c.loop-at.self.shared
           left.shared c.loop-at.invariant.touched c.in-Some.ensures.touched;
-      few = omega (arith, fewer, c.loop-at.invariant.few, pushed_length 32 c.loop-at.places c.in-Some.at c.push.new.self c.push.ensures.new room);
+      few = omega (arith, fewer, c.loop-at.invariant.few, pushed_length 32 c.loop-at.listed c.in-Some.at c.push.new.self c.push.ensures.new room);
     }
 
 pub returns-clause-leaves : goal.returns-clause-leaves
@@ -50,5 +51,5 @@ returns-clause-leaves g c =
 
 pub returns-clause-touched : goal.returns-clause-touched
 returns-clause-touched g c =
-    touched_before c.loop-at.places c.args.self.now.shared c.loop-at.self.shared c.leave_scope.new.self.shared c.loop-at.invariant.touched
+    touched_before c.loop-at.listed c.args.self.now.shared c.loop-at.self.shared c.leave_scope.new.self.shared c.loop-at.invariant.touched
     c.in_default.ensures.same_resources

@@ -1,0 +1,4 @@
+pub mod AlikeBodies
+pub mod AlikeStates
+pub mod AlikeOperations
+pub mod AlikeRuns

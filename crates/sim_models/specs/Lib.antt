@@ -1,0 +1,5 @@
+pub mod Variables
+pub mod Bank
+pub mod Shop
+pub mod Wash
+pub mod Models
