@@ -6,7 +6,7 @@ use Rattle.std.proofs.lemmas.Bool.Decides.{nat_tests}
 use Rattle.sim_machine.specs.State.{State}
 use Rattle.sim_types.specs.declared.line.End.TheVariants as end
 use Rattle.sim_steps_model.specs.PartsOf.{plan_of}
-use Rattle.sim_steps_model.specs.Resting.{rest_in}
+use Rattle.sim_steps_model.specs.Resting.{CanStep, rest_in}
 use Rattle.sim_steps_model.specs.declared.mode.Rest.{Rest}
 use Rattle.sim_steps_model.specs.declared.mode.Rest.TheVariants as rest
 use Rattle.sim_script_model.specs.Scripts.{Script}
@@ -15,6 +15,7 @@ use Rattle.sim_script_law.specs.ScriptMembers.{script_body}
 use Rattle.sim_engine.specs.Sessions.{SessionOf, IsAt, GoesOn, turn_at, turn_of, is_busy, is_processing, steps_in, IsBusyBetween, text_of_steps}
 use Rattle.sim_engine.specs.declared.session.Turn.TheVariants as turn
 use Rattle.sim_engine.proofs.QuietSteps.{busy_stands}
+use Rattle.sim_engine.proofs.RoundCases.{idle_where}
 use Rattle.sim_engine.proofs.StepTexts.{steps_on, same_steps, steps_text}
 
 -- ---- what goes on
@@ -44,6 +45,9 @@ idle_left false late (rest.Over why) h = absurd (cc)
 pub left_where : (x : SessionOf) → turn_of x ≡ turn.Idle → x.units < x.limit
 left_where x h = let late = idle_left x.refused (nat_le x.limit x.units) (rest_in x.parts) h in grind (arith, nat_tests, late)
 
+pub can_where : (x : SessionOf) → turn_of x ≡ turn.Idle → CanStep x.parts
+can_where x h = rw (idle_where x h) refl
+
 -- ---- units more
 
 module _ (old now later : SessionOf) (kept : GoesOn old now) (from : old.units ≤ now.units) (on : now.units ≤ later.units)
@@ -63,8 +67,8 @@ module _ (old now later : SessionOf) (kept : GoesOn old now) (from : old.units �
       let u : State Script = steps_in old.parts (now.units - old.units) t in
       subst (IsAt later) (steps_after (later.units - old.units) (later.units - now.units) t (omega (arith, from, on))) (after u (before t at))
 
-  -- an event was being processed before them, and all the while between them
-  pub busy_more : is_busy (rest_in now.parts) ≡ true
+  -- an event was being processed before them, where some were made before, and all the while between them
+  pub busy_more : (old.units < now.units → is_busy (rest_in now.parts) ≡ true)
       → ((t : State Script) → IsAt old t → IsBusyBetween old.parts (now.units - old.units) t)
       → ((t : State Script) → IsAt now t → IsBusyBetween now.parts (later.units - now.units) t)
       → (t : State Script) → IsAt old t → IsBusyBetween old.parts (later.units - old.units) t
@@ -76,7 +80,7 @@ module _ (old now later : SessionOf) (kept : GoesOn old now) (from : old.units �
         where
           at_least : (i ≡ now.units - old.units) ⊎ ((i ≡ now.units - old.units) → ⊥) → is_processing (steps_in old.parts i t).control ≡ true
           at_least (inl same) =
-              subst (λ n. is_processing (steps_in old.parts n t).control ≡ true) (sym same) (busy_stands now.parts (steps_in old.parts (now.units - old.units) t) (before t at).stands busy)
+              subst (λ n. is_processing (steps_in old.parts n t).control ≡ true) (sym same) (busy_stands now.parts (steps_in old.parts (now.units - old.units) t) (before t at).stands (busy (omega (arith, above, same))))
           at_least (inr differs) =
               let u : State Script = steps_in old.parts (now.units - old.units) t in
               let j : ℕ = i - (now.units - old.units) in

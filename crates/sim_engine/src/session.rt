@@ -140,11 +140,13 @@ impl Session {
             (self.new.units - self.old.units) t) }
         ensures unflushed { IsUnflushed (K.tells out.old) (K.tells out.new) }
     {
-        self.go_on(scenario, out)?;
-        while self.is_under_way() {
+        // (called at one place alone, since all of it is put in there)
+        loop {
             self.go_on(scenario, out)?;
+            if !self.is_under_way() {
+                return Ok(self.state());
+            }
         }
-        Ok(self.state())
     }
 
     /// A value comes in by a port, if a unit is left for that: whether one was. The line is written. After a fault it may
