@@ -1,0 +1,2 @@
+pub mod WashScripts
+pub mod WashPlaces

@@ -1,0 +1,2 @@
+pub mod WashStages
+pub mod WashTurns
