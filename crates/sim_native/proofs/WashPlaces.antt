@@ -40,31 +40,35 @@ zeros (suc n) zero = refl
 zeros (suc n) (suc k) = zeros n k
 
 module _ (me : ProcId) (val : ℤ) where
-  car_holds : (id : ℤ) (request : EventId) (c : CarAt) (at : ℕ) → (at ≡ 2 → ⊥) → slice_index_or (script_holds (script_of me val (stage.Car id request c))) at none ≡ none
+  -- what stands in a place of such a process
+  abbrev event_at : Stage → ℕ → EventId
+  event_at s at = slice_index_or (script_holds (script_of me val s)) at none
+
+  car_holds : (id : ℤ) (request : EventId) (c : CarAt) (at : ℕ) → (at ≡ 2 → ⊥) → event_at (stage.Car id request c) at ≡ none
   car_holds id request c zero differs = refl
   car_holds id request c (suc zero) differs = refl
   car_holds id request c (suc (suc zero)) differs = absurd (differs refl)
   car_holds id request c (suc (suc (suc k))) differs = zeros 61 k
 
-  street_holds : (next gap : ℤ) (c : StreetAt) (at : ℕ) → slice_index_or (script_holds (script_of me val (stage.Street next gap c))) at none ≡ none
+  street_holds : (next gap : ℤ) (c : StreetAt) (at : ℕ) → event_at (stage.Street next gap c) at ≡ none
   street_holds next gap c zero = refl
   street_holds next gap c (suc zero) = refl
   street_holds next gap c (suc (suc zero)) = refl
   street_holds next gap c (suc (suc (suc k))) = zeros 61 k
 
-  holds_by : (s : Stage) (at : ℕ) (b : Bool) → (at == 2) ≡ b → slice_index_or (script_holds (script_of me val s)) at none ≡ stage_holds s b
+  holds_by : (s : Stage) (at : ℕ) (b : Bool) → (at == 2) ≡ b → event_at s at ≡ stage_holds s b
   holds_by (stage.Car id request c) at true is = rw (eqb-true at 2 is) refl
   holds_by (stage.Car id request c) at false is = car_holds id request c at (eqb-false at 2 is)
   holds_by (stage.Street next gap c) at true is = street_holds next gap c at
   holds_by (stage.Street next gap c) at false is = street_holds next gap c at
 
-  pub holds_is : (s : Stage) (at : ℕ) → slice_index_or (script_holds (script_of me val s)) at none ≡ stage_holds s (at == 2)
+  pub holds_is : (s : Stage) (at : ℕ) → event_at s at ≡ stage_holds s (at == 2)
   holds_is s at = holds_by s at (at == 2) refl
 
-  pub car_rest : (id : ℤ) (request : EventId) (c : CarAt) (at : ℕ) → 3 ≤ at → slice_index_or (script_holds (script_of me val (stage.Car id request c))) at none ≡ none
+  pub car_rest : (id : ℤ) (request : EventId) (c : CarAt) (at : ℕ) → 3 ≤ at → event_at (stage.Car id request c) at ≡ none
   car_rest id request c at past = car_holds id request c at (λ is. omega (arith, past, is))
 
-  pub street_rest : (next gap : ℤ) (c : StreetAt) (at : ℕ) → 0 ≤ at → slice_index_or (script_holds (script_of me val (stage.Street next gap c))) at none ≡ none
+  pub street_rest : (next gap : ℤ) (c : StreetAt) (at : ℕ) → 0 ≤ at → event_at (stage.Street next gap c) at ≡ none
   street_rest next gap c at past = street_holds next gap c at
 
   pub told_is : (s : Stage) → script_told_place wash (script_of me val s) ≡ stage_told s

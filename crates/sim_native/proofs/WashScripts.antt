@@ -30,7 +30,8 @@ module _ (me : ProcId) (time : ℤ) where
 
   -- whatever the number of the next car comes to
   counted : (val next gap : ℤ) (a : Answer)
-      → remember (op.Nop, answer_to 1 a (set_place 10 (script_of me val (stage.Street next gap street.Sent)))) ≡ (op.Nop, script_of me val (street_counted next gap a))
+      → remember (op.Nop, answer_to 1 a (set_place 10 (script_of me val (stage.Street next gap street.Sent))))
+      ≡ (op.Nop, script_of me val (street_counted next gap a))
   counted val next gap (Number n) = refl
   counted val next gap (Error n) = refl
 
