@@ -1,10 +1,9 @@
 -- The three models: the text of each, and what it says.
-use Rattle.std.specs.Prelude.{List, [], ◌∷◌, ◌++◌, ℕ}
+use Rattle.std.specs.Prelude.{List, ℕ}
 use Rattle.sim_types.specs.Scenarios.{ScenarioOf}
-use Rattle.sim_language.specs.Lines.{Word}
 use Rattle.sim_shop.specs.Shop.{shop_text, text_of_lines}
 use Rattle.sim_models.specs.Bank.{bank, bank_lines}
-use Rattle.sim_models.specs.Shop.{shop}
+use Rattle.sim_models.specs.Shop.{shop_of}
 use Rattle.sim_models.specs.Wash.{wash, wash_lines}
 use Rattle.sim_models.specs.declared.texts.Model.{Model}
 use Rattle.sim_models.specs.declared.texts.Model.TheVariants as model
@@ -18,5 +17,5 @@ text_of model.Wash = text_of_lines wash_lines
 -- the scenario that it says
 abbrev pub scenario_of : Model → ScenarioOf
 scenario_of model.Bank = bank
-scenario_of model.Shop = shop
+scenario_of model.Shop = shop_of 5
 scenario_of model.Wash = wash

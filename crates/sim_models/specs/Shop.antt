@@ -1,5 +1,5 @@
--- The machine shop (after SimPy's example "Machine Shop") of five machines.
-use Rattle.std.specs.Prelude.{List, [], ◌∷◌, ◌++◌, pos, true, false, None}
+-- The machine shop (after SimPy's example "Machine Shop"), for each number of machines.
+use Rattle.std.specs.Prelude.{ℕ, List, [], ◌∷◌, ◌++◌, pos, true, false, None}
 use Rattle.sim_types.specs.Scenarios.{ScenarioOf}
 use Rattle.sim_types.specs.declared.script.Arith.TheVariants as arith
 use Rattle.sim_types.specs.declared.script.Num.TheVariants as num
@@ -10,6 +10,7 @@ use Rattle.sim_types.specs.declared.script.Stmt.TheVariants as stmt
 use Rattle.sim_types.specs.declared.setup.Class.TheVariants as class
 use Rattle.sim_types.specs.declared.setup.ResourceKind.TheVariants as resource
 use Rattle.sim_types.specs.declared.setup.Until.TheVariants as until
+use Rattle.sim_shop.specs.Shop.{crews_of}
 use Rattle.sim_models.specs.Variables.{with_val}
 
 -- a breaker breaks its machine again and again
@@ -70,28 +71,29 @@ filler_code =
     ∷ stmt.EndProcess
     ∷ []
 
--- the chief starts one filler and five machines, which are numbered from 0
-abbrev pub chief_code : List Stmt
-chief_code =
-    stmt.Repeat (num.Lit (pos 1)) 46
+-- the chief starts as many fillers as there are crews, and then so many machines, which are numbered from 0
+abbrev pub chief_code : ℕ → List Stmt
+chief_code n =
+    stmt.Repeat (num.Lit (pos (crews_of n))) 46
     ∷ stmt.Spawn None 2 []
     ∷ stmt.EndRepeat 44
     ∷ stmt.Let 1 arith.Only (num.Lit (pos 0)) (num.Lit (pos 0))
-    ∷ stmt.Repeat (num.Lit (pos 5)) 51
+    ∷ stmt.Repeat (num.Lit (pos n)) 51
     ∷ stmt.Spawn None 1 (arg.Num (num.Var 1) ∷ [])
     ∷ stmt.Let 1 arith.Add (num.Var 1) (num.Lit (pos 1))
     ∷ stmt.EndRepeat 48
     ∷ stmt.EndProcess
     ∷ []
 
-abbrev pub shop : ScenarioOf
-shop =
+-- the shop of so many machines
+abbrev pub shop_of : ℕ → ScenarioOf
+shop_of n =
     record {
       setup =
           record {
             until = until.At (pos 1000);
             events = 0;
-            resources = record { kind = resource.Preemptive; capacity = pos 1; opening = pos 0 } ∷ [];
+            resources = record { kind = resource.Preemptive; capacity = pos (crews_of n); opening = pos 0 } ∷ [];
             ports = [];
             starts = record { kind = 3; args = [] } ∷ [];
           };
@@ -107,7 +109,7 @@ shop =
           ∷ record { params = 0; first = 33; classes = with_val (class.Request ∷ class.Number ∷ class.Number ∷ []) }
           ∷ record { params = 0; first = 43; classes = with_val [] }
           ∷ [];
-      code = breaker_code ++ (machine_code ++ (filler_code ++ chief_code));
+      code = breaker_code ++ (machine_code ++ (filler_code ++ chief_code n));
       journal = [];
       posters = [];
     }

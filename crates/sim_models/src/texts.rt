@@ -74,6 +74,19 @@ start source
 /// How many machines the shop has.
 const MACHINES: u32 = 5;
 
+impl Model {
+    /// The seed that its text says.
+    pub fn seed(self) -> u64
+        ensures { result ≡ (scenario_of self).seed }
+    {
+        match self {
+            Model::Bank => 7,
+            Model::Shop => 1,
+            Model::Wash => 3,
+        }
+    }
+}
+
 /// The text of a model.
 #[tactic(auto, using(crate::proofs::ModelsAreRead::models_are_read))]
 pub fn model_text(alloc: Global, model: Model) -> Result<Vec<u8>, AllocError>

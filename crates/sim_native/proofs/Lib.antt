@@ -1,2 +1,13 @@
+pub mod Absent
+pub mod BankScripts
+pub mod BankPlaces
+pub mod ShopPolls
+pub mod BreakerScripts
+pub mod MachineScripts
+pub mod FillerScripts
+pub mod ChiefScripts
+pub mod ShopScripts
+pub mod ShopPlaces
 pub mod WashScripts
 pub mod WashPlaces
+pub mod NativeRuns

@@ -1,8 +1,7 @@
 -- How a process of the car wash begins, and what stands in its places.
-use Rattle.std.proofs.Common.{◌≡◌, ◌≤◌, ℕ, zero, suc, ℤ, pos, negsuc, Bool, true, false, List, [], ◌∷◌, replicate, refl, arith}
-use Rattle.std.specs.Prelude.{◌==◌, IsTrue, nat_lt, slice_index_or}
+use Rattle.std.proofs.Common.{◌≡◌, ◌≤◌, ℕ, zero, suc, ℤ, pos, negsuc, Bool, true, false, List, [], ◌∷◌, refl, arith}
+use Rattle.std.specs.Prelude.{◌==◌, IsTrue, slice_index_or}
 use Rattle.std.proofs.lemmas.Bool.{and_parts, eqb-true, eqb-false, false≢true}
-use Rattle.std.proofs.lemmas.Bool.Decides.{nat_tests}
 use Rattle.sim_types.specs.declared.event.EventId.{EventId}
 use Rattle.sim_types.specs.declared.event.ProcId.{ProcId}
 use Rattle.sim_machine.specs.BodyLaw.{may_begin}
@@ -13,14 +12,9 @@ use Rattle.sim_native.specs.declared.wash.StreetAt.{StreetAt}
 use Rattle.sim_native.specs.declared.wash.Stage.{Stage}
 use Rattle.sim_native.specs.declared.wash.Stage.TheVariants as stage
 use Rattle.sim_native.specs.WashStages.{script_of, stage_begun, stage_holds, stage_told}
-
-abbrev none : EventId
-none = record { 0 = 0 }
+use Rattle.sim_native.proofs.Absent.{no_kind, none, zeros}
 
 -- ---- its beginning
-
-no_kind : (kind : ℕ) → nat_lt (suc (suc kind)) 2 ≡ true → ⊥
-no_kind kind h = grind (arith, nat_tests, h)
 
 pub begins : (kind : ℕ) (args : List ℤ) → IsTrue (may_begin (script_facts wash) kind args)
     → begun_script wash kind args ≡ script_of (record { 0 = 0 }) (pos 0) (stage_begun args)
@@ -33,11 +27,6 @@ begins (suc zero) (x ∷ args) may = absurd (false≢true may)
 begins (suc (suc kind)) args may = absurd (no_kind kind (and_parts _ _ may).0)
 
 -- ---- its places
-
-zeros : (n k : ℕ) → slice_index_or (replicate n none) k none ≡ none
-zeros zero k = refl
-zeros (suc n) zero = refl
-zeros (suc n) (suc k) = zeros n k
 
 module _ (me : ProcId) (val : ℤ) where
   -- what stands in a place of such a process

@@ -21,7 +21,8 @@ use Rattle.sim_native.specs.declared.wash.StreetAt.TheVariants as street
 use Rattle.sim_native.specs.declared.wash.Stage.{Stage}
 use Rattle.sim_native.specs.declared.wash.Stage.TheVariants as stage
 use Rattle.sim_native.specs.WashStages.{script_of}
-use Rattle.sim_native.specs.WashTurns.{street_counted, value_by, wash_turn}
+use Rattle.sim_native.specs.Told.{value_by}
+use Rattle.sim_native.specs.WashTurns.{street_counted, wash_turn}
 
 module _ (me : ProcId) (time : ℤ) where
   -- the script that a process stands for after this

@@ -17,17 +17,7 @@ use Rattle.sim_native.specs.declared.wash.StreetAt.{StreetAt}
 use Rattle.sim_native.specs.declared.wash.StreetAt.TheVariants as street
 use Rattle.sim_native.specs.declared.wash.Stage.{Stage}
 use Rattle.sim_native.specs.declared.wash.Stage.TheVariants as stage
-
--- what is thrown at a process that is told this, if anything is
-abbrev pub thrown_by : Signal → Option Throw
-thrown_by (signal.Thrown what) = Some what
-thrown_by (signal.Raised n) = Some (record { kind = error; value = pos n })
-thrown_by told = None
-
--- the value that it was told last
-abbrev pub value_by : Signal → ℤ → ℤ
-value_by (signal.Value v) val = v
-value_by told val = val
+use Rattle.sim_native.specs.Told.{thrown_by}
 
 -- ---- a car
 

@@ -4,8 +4,9 @@ ghost use Rattle.sim_types.specs.declared.script.Arith.TheVariants as arith;
 ghost use Rattle.sim_script_model.specs.Arithmetic.{compute};
 ghost use Rattle.sim_models.specs.Wash.{wash};
 ghost use Rattle.sim_native.specs.WashStages.{car_told, stage_begun, stage_holds, stage_told, street_told};
-ghost use Rattle.sim_native.specs.WashTurns.{car_next, car_thrown, street_counted, street_next, street_thrown, thrown_by, value_by, wash_turn};
+ghost use Rattle.sim_native.specs.WashTurns.{car_next, car_thrown, street_counted, street_next, street_thrown, wash_turn};
 
+use crate::told::{keep_value, thrown_by};
 use sim_machine::LawfulBody;
 use sim_procs::Body;
 use sim_types::{Args, ERROR, EventId, OVERFLOW, Op, ProcId, Signal, Throw};
@@ -136,20 +137,6 @@ impl Model for WashBody {
     ghost Value = { Script };
 
     ghost view = { λ a. script_of a.me a.val.value a.stage };
-}
-
-/// What is thrown at a process that is told this, if anything is.
-fn thrown_by(told: Signal) -> Option<Throw>
-    ensures { result ≡ thrown_by told }
-{
-    match told {
-        Signal::Thrown(what) => Some(what),
-        Signal::Raised(error) => Some(Throw {
-            kind: ERROR,
-            value: i64::from(error),
-        }),
-        _ => None,
-    }
 }
 
 /// What a car asks for at which this is thrown, and where it stands then.
@@ -395,15 +382,6 @@ fn begun(args: &[i64]) -> Stage
     match args.first() {
         Some(id) => Stage::Car(*id, EventId(0), CarAt::Came),
         None => Stage::Street(0, 0, StreetAt::Opens),
-    }
-}
-
-/// A process is told this: a value is kept.
-fn keep_value(told: Signal, val: &mut Snapshot<i64>)
-    ensures { val.new.value ≡ value_by told val.old.value }
-{
-    if let Signal::Value(value) = told {
-        *val = Snapshot::of(&value);
     }
 }
 
