@@ -10,5 +10,3 @@ pub mod SessionLaws
 pub mod StepTexts
 pub mod StepUnits
 pub mod TurnSteps
-pub mod Unheard
-pub mod Wanting

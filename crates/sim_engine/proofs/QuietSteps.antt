@@ -20,7 +20,8 @@ use Rattle.sim_script_model.specs.Scripts.{Script}
 use Rattle.sim_script_law.specs.ScriptMembers.{script_body}
 use Rattle.sim_trace.specs.Texts.{line_text, trace_text}
 use Rattle.sim_engine.specs.Sessions.{SessionOf, IsAt, is_busy, is_processing, steps_in, IsBusyBetween, text_of_steps}
-use Rattle.sim_engine.proofs.StepTexts.{same_steps, text_is, trace_one}
+use Rattle.sim_writing.proofs.WrittenUnits.{trace_one}
+use Rattle.sim_engine.proofs.StepTexts.{same_steps, text_is}
 use Rattle.sim_engine.proofs.StepUnits.{UnitStands, unit_stands, now_at}
 
 -- ---- what is being done

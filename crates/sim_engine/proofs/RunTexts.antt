@@ -1,17 +1,14 @@
 -- The text of a run, as it grows.
 use Rattle.std.proofs.Common.{◌≡◌, ◌≤◌, ℕ, ℤ, zero, suc, ◌+◌, ◌-◌, List, [], ◌∷◌, ◌++◌, refl, sym, ap, ◌∙◌, subst, arith, add-zero, append-nil}
-use Rattle.std.specs.Prelude.{fold, nat_lt, Bool, true, false, if◌then◌else◌}
+use Rattle.std.specs.Prelude.{nat_lt, Bool, true, false, if◌then◌else◌}
 use Rattle.std.proofs.lemmas.Bool.Decides.{nat_tests}
 use Rattle.std.proofs.Math.Nat.{add-suc}
 use Rattle.sim_types.specs.Scenarios.{ScenarioOf}
 use Rattle.sim_types.specs.declared.line.Line.{Line}
 use Rattle.sim_types.specs.declared.line.Line.TheVariants as line
 use Rattle.sim_types.specs.declared.setup.Arrival.{Arrival}
-use Rattle.sim_types.specs.declared.setup.Start.{Start}
 use Rattle.sim_types.specs.declared.line.Summary.{Summary}
 use Rattle.sim_trace.specs.Texts.{line_text}
-use Rattle.sim_machine.specs.State.{State, Plan}
-use Rattle.sim_machine.specs.Runs.{start_process}
 use Rattle.sim_machine.specs.Units.{arrive}
 use Rattle.sim_steps_model.specs.PartsOf.{plan_of}
 use Rattle.sim_script_law.specs.ScriptMembers.{script_body}
@@ -24,14 +21,9 @@ use Rattle.sim_engine.specs.RunOfScenario.{printed_run}
 use Rattle.sim_engine.specs.Sessions.{SessionOf, GoesOn, turn_of, IsBusyBetween, text_since, text_of_steps}
 use Rattle.sim_engine.specs.Rounds.{next_of, StandsInRun, text_by}
 use Rattle.sim_engine.specs.declared.runs.Next.TheVariants as next
-use Rattle.sim_engine.proofs.StepTexts.{LinesBehind, behind_none, behind_both, text_is, text_behind, trace_append, trace_one}
+use Rattle.sim_engine.proofs.StepTexts.{LinesBehind, behind_none, behind_both, text_is, text_behind}
+use Rattle.sim_writing.proofs.WrittenUnits.{opens_without_lines, trace_append, trace_one}
 use Rattle.sim_engine.proofs.Rounds.{turn_comes_to, arrival_comes_to}
-
--- ---- no line is written before the first unit
-
-pub starts_write_none : (g : Plan Script) (t : State Script) (starts : List Start) → (fold (start_process g) t starts).lines ≡ t.lines
-starts_write_none g t [] = refl
-starts_write_none g t (x ∷ starts) = starts_write_none g (start_process g t x) starts
 
 -- the line on the end of a run that came to this
 abbrev pub end_text : Summary → List ℕ
@@ -42,7 +34,7 @@ module _ (s : ScenarioOf) (seed : ℕ) (journal : List Arrival) where
   r = run_of s seed journal
 
   pub none_before : (course_after r 0).state.lines ≡ []
-  none_before = starts_write_none r.plan _ s.setup.starts
+  none_before = opens_without_lines r.plan
 
   pub text_before : text_by s seed journal 0 ≡ []
   text_before = rw none_before refl

@@ -9,7 +9,7 @@ use Rattle.sim_types.specs.declared.event.ProcId.{ProcId}
 use Rattle.sim_types.specs.declared.line.Line.{Line}
 use Rattle.sim_types.specs.declared.line.Line.TheVariants as line
 use Rattle.sim_machine.specs.State.{Control, Idle, Calling, Active, Over, State}
-use Rattle.sim_machine.specs.Runs.{opening, logged, total, blank_state}
+use Rattle.sim_machine.specs.Runs.{opening, logged, total}
 use Rattle.sim_machine.specs.Units.{arrive}
 use Rattle.sim_lawful.proofs.Opening.OpeningLaws.{starts_open}
 use Rattle.sim_steps_model.specs.PartsOf.{PartsOf, plan_of}
@@ -21,8 +21,8 @@ use Rattle.sim_script_law.specs.ScriptMembers.{script_body}
 use Rattle.sim_trace.specs.Texts.{line_text}
 use Rattle.sim_engine.specs.Counting.{LogsAtMost}
 use Rattle.sim_engine.specs.Sessions.{SessionOf, IsAt, IsSettled, is_busy}
-use Rattle.sim_engine.proofs.RunTexts.{starts_write_none}
-use Rattle.sim_engine.proofs.StepTexts.{text_is, trace_one}
+use Rattle.sim_writing.proofs.WrittenUnits.{opens_without_lines, trace_one}
+use Rattle.sim_engine.proofs.StepTexts.{text_is}
 
 -- ---- what is counted of a line
 
@@ -80,7 +80,7 @@ pub opens_at : (x : SessionOf) → StandsForOpening script_body x.parts → IsLa
     → IsAt x (opening (plan_of script_body x.parts))
 opens_at x stands lawful logs sum =
     let g = plan_of script_body x.parts in
-    let none : (opening g).lines ≡ [] = starts_write_none g (blank_state g) g.setup.starts in
+    let none : (opening g).lines ≡ [] = opens_without_lines g in
     record {
       stands = stands;
       lawful = lawful;

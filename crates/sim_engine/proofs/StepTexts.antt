@@ -1,11 +1,10 @@
 -- Steps one after another, and the text of their lines.
-use Rattle.std.proofs.Common.{◌≡◌, ℕ, zero, suc, ◌+◌, List, [], ◌∷◌, ◌++◌, length, drop, refl, sym, ap, ◌∙◌, append-nil, append_assoc, add-zero}
+use Rattle.std.proofs.Common.{◌≡◌, ℕ, zero, suc, ◌+◌, List, [], ◌++◌, length, drop, refl, sym, ap, ◌∙◌, append-nil, append_assoc, add-zero}
 use Rattle.std.proofs.Math.Nat.{add-suc}
 use Rattle.std.proofs.Math.Seq.{drop-append_seam}
-use Rattle.std.proofs.lemmas.Grind.{flat_map-append}
 use Rattle.sim_types.specs.Scenarios.{ScenarioOf}
 use Rattle.sim_types.specs.declared.line.Line.{Line}
-use Rattle.sim_trace.specs.Texts.{line_text, trace_text}
+use Rattle.sim_trace.specs.Texts.{trace_text}
 use Rattle.sim_machine.specs.State.{State, Plan}
 use Rattle.sim_machine.specs.Steps.{TurnFunction, step_of}
 use Rattle.sim_machine.specs.Units.{Course}
@@ -14,6 +13,7 @@ use Rattle.sim_steps_model.specs.PartsOf.{PartsOf, IsOpenedAs, plan_of}
 use Rattle.sim_script_model.specs.Scripts.{Script}
 use Rattle.sim_script_model.specs.Polls.{script_turn}
 use Rattle.sim_script_law.specs.ScriptMembers.{script_body}
+use Rattle.sim_writing.proofs.WrittenUnits.{trace_append}
 use Rattle.sim_engine.specs.Sessions.{steps, steps_in, text_since, text_of_steps}
 
 -- ---- steps after steps
@@ -49,12 +49,6 @@ steps_behind g turn zero t = behind_none t
 steps_behind g turn (suc k) t = behind_both t (steps g turn k t) (steps g turn (suc k) t) (steps_behind g turn k t) (step_behind g turn (steps g turn k t))
 
 -- ---- their text
-
-pub trace_append : (ports : List (List ℕ)) (xs ys : List Line) → trace_text ports (xs ++ ys) ≡ trace_text ports xs ++ trace_text ports ys
-trace_append ports xs ys = flat_map-append (line_text ports) xs ys
-
-pub trace_one : (ports : List (List ℕ)) (x : Line) → trace_text ports (x ∷ []) ≡ line_text ports x
-trace_one ports x = append-nil (line_text ports x)
 
 -- the text of the lines that are known to stand behind
 pub text_is : (ports : List (List ℕ)) (t u : State Script) (more : List Line) → u.lines ≡ t.lines ++ more → text_since ports t u ≡ trace_text ports more

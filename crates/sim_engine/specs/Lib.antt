@@ -1,5 +1,4 @@
 pub mod Counting
-pub mod EngineFaults
 pub mod Rounds
 pub mod RunOfScenario
 pub mod Sessions

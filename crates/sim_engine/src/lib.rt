@@ -1,14 +1,13 @@
 //! Whole runs: a scenario is run, and its trace is written.
 #![tactic(auto)]
 
-mod fault;
 mod refusal;
 mod report;
 mod runs;
 mod session;
 
-pub use fault::EngineFault;
 pub use refusal::refuse;
 pub use report::Report;
 pub use runs::{replicate, run, write_end};
 pub use session::{Session, Turn};
+pub use sim_writing::RunFault as EngineFault;

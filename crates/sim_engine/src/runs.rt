@@ -1,23 +1,22 @@
 //! Whole runs, as loops over a run under way.
 ghost use Rattle.std.specs.Prelude.{◌≡◌, [], IfOk, OnOk};
 ghost use Rattle.sim_types.specs.declared.line.Line.TheVariants as line;
+ghost use Rattle.sim_trace.specs.Texts.{line_text};
 ghost use Rattle.sim_types.specs.Setups.{HavePorts};
 ghost use Rattle.sim_outside.specs.Writes.{IsUnflushed, Writes};
 ghost use Rattle.sim_script_model.specs.Scenarios.{summary};
-ghost use Rattle.sim_trace.specs.Texts.{line_text};
 ghost use Rattle.sim_engine.specs.Counting.{IsWithin};
-ghost use Rattle.sim_engine.specs.EngineFaults.{is_write};
+ghost use Rattle.sim_writing.specs.RunFaults.{is_write};
 ghost use Rattle.sim_engine.specs.RunOfScenario.{printed_run, units_of};
 ghost use Rattle.sim_engine.specs.Rounds.{StandsInRun, next_of, text_by};
 ghost use Rattle.sim_engine.specs.Sessions.{IsSettled, turn_of, report_of};
 
-use crate::fault::EngineFault;
 use crate::report::Report;
-use crate::session::{Session, Turn, write_line};
+use crate::session::{Session, Turn};
 use sim_outside::{NullSink, Sink};
 use sim_scenario::Scenario;
-use sim_trace::LineBuf;
-use sim_types::{Arrival, Line, Summary};
+use sim_types::{Arrival, Summary};
+use sim_writing::RunFault as EngineFault;
 use std::alloc::{AllocError, Global};
 
 /// Runs the scenario with the random words of the seed, at most so many units, while the journal's entries arrive, and
@@ -114,16 +113,10 @@ fn next_of(session: &Session, left: &[Arrival]) -> Next
 /// Writes the line on the end of a run that came to this.
 pub fn write_end<K: Sink>(summary: &Summary, out: &mut K) -> Result<(), EngineFault>
     ensures writes { Writes is_write (K.tells out.old) (K.tells out.new) result
-        (line_text [] (Line.Finish summary.now.time summary.now.processed summary.now.end)) }
+        (line_text [] (line.Finish summary.now.time summary.now.processed summary.now.end)) }
     ensures unflushed { IsUnflushed (K.tells out.old) (K.tells out.new) }
 {
-    let line = Line::Finish {
-        end: summary.end,
-        time: summary.time,
-        processed: summary.processed,
-    };
-    write_line(&line, &[], &mut LineBuf::new(), out)?;
-    Ok(())
+    sim_writing::write_end(summary.end, summary.time, summary.processed, out)
 }
 
 /// What the same run comes to. Nothing is written.

@@ -9,19 +9,19 @@ ghost use Rattle.sim_steps_model.specs.PartsOf.{plan_of};
 ghost use Rattle.sim_steps_model.specs.Resting.{CanStep, rest_in};
 ghost use Rattle.sim_script_model.specs.Scripts.{Script};
 ghost use Rattle.sim_script_law.specs.ScriptMembers.{script_body};
-ghost use Rattle.sim_trace.specs.Texts.{AreNamesShort, line_text};
+ghost use Rattle.sim_trace.specs.Texts.{line_text};
 ghost use Rattle.sim_engine.specs.Counting.{IsWithin};
-ghost use Rattle.sim_engine.specs.EngineFaults.{is_write};
+ghost use Rattle.sim_writing.specs.RunFaults.{is_write};
 ghost use Rattle.sim_engine.specs.Sessions.{IsAt, GoesOn, turn_of, takes_arrivals, IsSettled, is_under_way, steps_in, IsBusyBetween, text_of_steps, end_in, report_of};
 
-use crate::fault::EngineFault;
 use crate::report::Report;
 use sim_kernel::{Kernel, Rest, Unit, empty_end};
-use sim_outside::{Failed, Sink, write_all};
+use sim_outside::{Failed, Sink};
 use sim_scenario::Scenario;
 use sim_script::Script;
-use sim_trace::{LineBuf, render};
-use sim_types::{End, Line, Name, Summary, Until};
+use sim_trace::LineBuf;
+use sim_types::{End, Line, Summary, Until};
+use sim_writing::{RunFault as EngineFault, write_line};
 use std::alloc::{AllocError, Global};
 use std::marker::Model;
 
@@ -306,23 +306,4 @@ impl Session {
         }
         write_line(line, scenario.port_names(), &mut self.buffer, out)
     }
-}
-
-/// Writes a line by way of the buffer, unless nothing comes of it.
-pub(crate) fn write_line<K: Sink>(
-    line: &Line,
-    ports: &[Name],
-    buffer: &mut LineBuf,
-    out: &mut K,
-) -> Result<(), Failed>
-    requires names { AreNamesShort ports.now }
-    ensures writes { Writes (λ _. true) (K.tells out.old) (K.tells out.new) result
-        (line_text ports.now line.now) }
-    ensures unflushed { IsUnflushed (K.tells out.old) (K.tells out.new) }
-{
-    if out.ignores_bytes() {
-        return Ok(());
-    }
-    render(line, ports, buffer);
-    write_all(out, buffer.bytes())
 }

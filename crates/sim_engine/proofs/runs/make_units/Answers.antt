@@ -5,7 +5,7 @@ use Rattle.std.proofs.lemmas.List.Elements.{All-head, All-tail}
 use Rattle.sim_types.specs.declared.setup.Arrival.{Arrival}
 use Rattle.sim_outside.proofs.Written.{told_err, none_to_write, as_well, as_failed, both_written, cut_behind}
 use Rattle.sim_machine_law.specs.Courses.{course_after}
-use Rattle.sim_engine.specs.EngineFaults.{is_write}
+use Rattle.sim_writing.specs.RunFaults.{is_write}
 use Rattle.sim_trace.specs.Texts.{trace_text}
 use Rattle.sim_script_model.specs.Scenarios.{summary}
 use Rattle.sim_script_law.specs.ScenarioRuns.{run_of}

@@ -1,8 +1,8 @@
 use Rattle.std.proofs.Common.{◌≡◌, ◌≤◌, ◌+◌, ◌-◌, Ok}
 use Rattle.std.specs.Prelude.{if◌then◌else◌}
 use Rattle.sim_outside.specs.Writes.{IsUnflushed, Writes}
-use Rattle.sim_engine.specs.declared.fault.EngineFault.{EngineFault}
-use Rattle.sim_engine.specs.EngineFaults.{is_write}
+use Rattle.sim_writing.specs.declared.fault.RunFault.{RunFault}
+use Rattle.sim_writing.specs.RunFaults.{is_write}
 use Rattle.sim_types.specs.Setups.{HavePorts}
 use Rattle.sim_engine.specs.Rounds.{StandsInRun, text_by}
 use Rattle.sim_engine.specs.Sessions.{IsSettled}
@@ -18,7 +18,7 @@ invariant-loop-session g l =
       within : l.session.units ≤ l.session.limit;
       settled : IsSettled l.session;
       written :
-          Writes {T = Unit {0}} {E = EngineFault} is_write (g.K.Sink.tells l.fn.out) (g.K.Sink.tells l.out) (Ok tt)
+          Writes {T = Unit {0}} {E = RunFault} is_write (g.K.Sink.tells l.fn.out) (g.K.Sink.tells l.out) (Ok tt)
           (text_by l.scenario l.fn.session.parts.seed l.journal l.session.units);
       unflushed : IsUnflushed (g.K.Sink.tells l.fn.out) (g.K.Sink.tells l.out);
     }

@@ -1,6 +1,6 @@
 use Rattle.std.proofs.Common.{[], refl, sym, subst, ap, ◌∙◌, append-nil}
 use Rattle.sim_outside.proofs.Written.{told_err, none_written, as_failed, both_written, cut_behind}
-use Rattle.sim_engine.specs.EngineFaults.{is_write}
+use Rattle.sim_writing.specs.RunFaults.{is_write}
 use Rattle.sim_engine.specs.Rounds.{StandsInRun}
 use Rattle.sim_engine.proofs.Rounds.{at_opening}
 use Rattle.sim_engine.proofs.RunTexts.{text_told}

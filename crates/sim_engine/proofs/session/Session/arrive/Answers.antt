@@ -7,7 +7,7 @@ use Rattle.sim_outside.proofs.Written.{told_err, as_well, as_failed}
 use Rattle.sim_kernel.specs.Arriving.{MakesArrival}
 use Rattle.sim_script_law.specs.ScriptMembers.{script_body}
 use Rattle.sim_trace.specs.Texts.{line_text}
-use Rattle.sim_engine.specs.EngineFaults.{is_write}
+use Rattle.sim_writing.specs.RunFaults.{is_write}
 use Rattle.sim_engine.proofs.RoundCases.{takes_where}
 use Rattle.sim_engine.proofs.SessionLaws.{arrived_idle, arrived_text, idle_settles}
 use Rattle.sim_engine.proofs.StepUnits.{arrives_at}

@@ -2,7 +2,7 @@
 use Rattle.std.proofs.Common.{◌+◌, [], refl, sym, ap, ◌∙◌, append-nil, true}
 use Rattle.sim_outside.proofs.Written.{told_err, none_to_write, as_well, as_failed}
 use Rattle.sim_trace.specs.Texts.{line_text}
-use Rattle.sim_engine.specs.EngineFaults.{is_write}
+use Rattle.sim_writing.specs.RunFaults.{is_write}
 use Rattle.sim_engine.proofs.QuietSteps.{busy_until, quiet_at, quiet_text, line_busy, line_at, line_text_at}
 use Rattle.sim_engine.proofs.session.Session.go_on.Goals as goal
 

@@ -4,7 +4,7 @@ use Rattle.std.proofs.lemmas.Bool.{and_parts}
 use Rattle.std.proofs.lemmas.Bool.Decides.{nat_tests}
 use Rattle.sim_outside.proofs.Written.{told_err, none_to_write, as_failed, both_written, cut_behind}
 use Rattle.sim_steps_model.specs.Resting.{rest_in}
-use Rattle.sim_engine.specs.EngineFaults.{is_write}
+use Rattle.sim_writing.specs.RunFaults.{is_write}
 use Rattle.sim_engine.specs.Sessions.{IsAt, is_busy, steps_in, text_of_steps}
 use Rattle.sim_engine.proofs.StepTexts.{text_none}
 use Rattle.sim_engine.proofs.TurnSteps.{goes_on_both, steps_more, busy_more, text_more, left_where, can_where}

@@ -3,8 +3,8 @@ use Rattle.sim_machine.specs.State.{State}
 use Rattle.sim_steps_model.specs.Resting.{CanStep, rest_in}
 use Rattle.sim_outside.specs.Writes.{IsUnflushed, Writes}
 use Rattle.sim_script_model.specs.Scripts.{Script}
-use Rattle.sim_engine.specs.declared.fault.EngineFault.{EngineFault}
-use Rattle.sim_engine.specs.EngineFaults.{is_write}
+use Rattle.sim_writing.specs.declared.fault.RunFault.{RunFault}
+use Rattle.sim_writing.specs.RunFaults.{is_write}
 use Rattle.sim_engine.specs.Sessions.{IsAt, GoesOn, is_busy, steps_in, IsBusyBetween, text_of_steps}
 use Rattle.sim_engine.proofs.session.Session.turn.Given as goal
 
@@ -23,7 +23,7 @@ invariant-loop-self g l =
       steps : (t : State Script) → IsAt l.fn.self t → IsAt l.self (steps_in l.fn.self.parts (l.self.units - l.fn.self.units) t);
       written :
           (t : State Script) → IsAt l.fn.self t →
-          Writes {T = Unit {0}} {E = EngineFault} is_write (g.K.Sink.tells l.fn.out) (g.K.Sink.tells l.out) (Ok tt)
+          Writes {T = Unit {0}} {E = RunFault} is_write (g.K.Sink.tells l.fn.out) (g.K.Sink.tells l.out) (Ok tt)
           (text_of_steps l.scenario.port_names l.fn.self.parts (l.self.units - l.fn.self.units) t);
       unflushed : IsUnflushed (g.K.Sink.tells l.fn.out) (g.K.Sink.tells l.out);
     }

@@ -1,6 +1,6 @@
 use Rattle.std.proofs.Common.{◌∙◌, sym}
-use Rattle.sim_engine.proofs.Unheard.{left_out}
-use Rattle.sim_engine.proofs.session.write_line.Goals as goal
+use Rattle.sim_writing.proofs.Unheard.{left_out}
+use Rattle.sim_writing.proofs.lines.write_line.Goals as goal
 
 pub returns-then-ignores_bytes-clause-writes : goal.returns-then-ignores_bytes-clause-writes
 returns-then-ignores_bytes-clause-writes g c =

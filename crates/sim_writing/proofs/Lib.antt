@@ -1,0 +1,5 @@
+pub mod HasWrittenOn
+pub mod Unheard
+pub mod Wanting
+pub mod WrittenUnits
+pub mod WrittenEnds

@@ -1,0 +1,2 @@
+pub mod RunFaults
+pub mod WrittenRuns
