@@ -1,7 +1,8 @@
 -- Words that are a command, and words that are none.
 use Rattle.std.specs.Prelude.{◌≡◌, refl, [], ◌∷◌, codes, Some, None}
-use Rattle.sim_command.specs.declared.commands.Command.TheVariants.{Check, Run, Batch, Watch, Load}
+use Rattle.sim_command.specs.declared.commands.Command.TheVariants.{Check, Run, Batch, Watch, Load, Native}
 use Rattle.sim_command.specs.Commands.{command, live_limit, most_units}
+use Rattle.sim_models.specs.declared.texts.Model.TheVariants as model
 
 check : command (codes "check" ∷ []) ≡ Some Check
 check = refl
@@ -66,6 +67,28 @@ too_many_machines = refl
 
 shop_of_no_machines : command (codes "load" ∷ codes "0" ∷ []) ≡ None
 shop_of_no_machines = refl
+
+native_bank : command (codes "native" ∷ codes "bank" ∷ codes "10000000" ∷ []) ≡ Some (Native model.Bank 10000000)
+unfolding most_units
+native_bank = refl
+
+native_shop : command (codes "native" ∷ codes "shop" ∷ codes "1" ∷ []) ≡ Some (Native model.Shop 1)
+unfolding most_units
+native_shop = refl
+
+native_wash : command (codes "native" ∷ codes "wash" ∷ codes "009" ∷ []) ≡ Some (Native model.Wash 9)
+unfolding most_units
+native_wash = refl
+
+native_of_no_model : command (codes "native" ∷ codes "ward" ∷ codes "5" ∷ []) ≡ None
+native_of_no_model = refl
+
+native_limit_too_great : command (codes "native" ∷ codes "wash" ∷ codes "10000001" ∷ []) ≡ None
+unfolding most_units
+native_limit_too_great = refl
+
+native_without_limit : command (codes "native" ∷ codes "wash" ∷ []) ≡ None
+native_without_limit = refl
 
 live_is_no_command : command (codes "live" ∷ codes "5" ∷ []) ≡ None
 live_is_no_command = refl

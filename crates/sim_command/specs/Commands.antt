@@ -3,9 +3,11 @@
 --     live_limit words   how many units a live run may make, if the words ask for one
 use Rattle.std.specs.Prelude.{ℕ, Bool, true, false, if◌then◌else◌, List, [], ◌∷◌, codes, Option, Some, None, option_map}
 use Rattle.sim_command.specs.declared.commands.Command.{Command}
-use Rattle.sim_command.specs.declared.commands.Command.TheVariants.{Check, Run, Batch, Watch, Load}
+use Rattle.sim_command.specs.declared.commands.Command.TheVariants.{Check, Run, Batch, Watch, Load, Native}
 use Rattle.sim_language.specs.Lines.{Word, same}
 use Rattle.sim_language.specs.Numbers.{decimal_within}
+use Rattle.sim_models.specs.declared.texts.Model.{Model}
+use Rattle.sim_models.specs.declared.texts.Model.TheVariants as model
 
 -- how many units a run may make, at most
 unfoldable pub most_units : ℕ
@@ -24,6 +26,19 @@ abbrev pub batch_of : Option ℕ → Option ℕ → Option Command
 batch_of (Some count) (Some limit) = Some (Batch count limit)
 batch_of count limit = None
 
+-- the model of this name
+abbrev pub model_named : Word → Option Model
+model_named name =
+    if same name (codes "bank") then Some model.Bank
+    else if same name (codes "shop") then Some model.Shop
+    else if same name (codes "wash") then Some model.Wash
+    else None
+
+-- `MODEL LIMIT`
+abbrev pub native_of : Option Model → Option ℕ → Option Command
+native_of (Some m) (Some limit) = Some (Native m limit)
+native_of m limit = None
+
 -- a command with one number
 abbrev pub command_with_number : Word → Word → Option Command
 command_with_number name number =
@@ -32,12 +47,18 @@ command_with_number name number =
     else if same name (codes "load") then option_map Load (decimal_within 1 most_machines number)
     else None
 
--- `check`, `run LIMIT`, `watch LIMIT`, `load SIZE`, or `batch COUNT LIMIT`
+-- a command with two words
+abbrev pub command_with_two : Word → Word → Word → Option Command
+command_with_two name first second =
+    if same name (codes "batch") then batch_of (decimal_within 1 most_runs first) (decimal_within 1 most_units second)
+    else if same name (codes "native") then native_of (model_named first) (decimal_within 1 most_units second)
+    else None
+
+-- `check`, `run LIMIT`, `watch LIMIT`, `load SIZE`, `batch COUNT LIMIT`, or `native MODEL LIMIT`
 abbrev pub command : List Word → Option Command
 command (name ∷ []) = if same name (codes "check") then Some Check else None
 command (name ∷ number ∷ []) = command_with_number name number
-command (name ∷ runs ∷ units ∷ []) =
-    if same name (codes "batch") then batch_of (decimal_within 1 most_runs runs) (decimal_within 1 most_units units) else None
+command (name ∷ first ∷ second ∷ []) = command_with_two name first second
 command words = None
 
 -- whether a text is read for it
@@ -47,6 +68,7 @@ is_on_text (Run limit) = true
 is_on_text (Batch count limit) = true
 is_on_text (Watch limit) = true
 is_on_text (Load size) = false
+is_on_text (Native m limit) = false
 
 -- `live LIMIT`, which is no command: a call of its own carries it out
 abbrev pub live_limit : List Word → Option ℕ

@@ -1,5 +1,7 @@
 //! The commands of the program.
 
+use sim_models::Model;
+
 /// A command of the program, with its numbers.
 #[derive(Clone, Copy)]
 pub enum Command {
@@ -13,4 +15,6 @@ pub enum Command {
     Watch(u32),
     /// What the run of a machine shop with so many machines comes to. No text is read.
     Load(u32),
+    /// The trace of the run of a model that is written by hand, of so many units at most. No text is read.
+    Native(Model, u32),
 }

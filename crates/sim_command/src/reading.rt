@@ -1,10 +1,11 @@
 //! Which command the words say.
 ghost use Rattle.std.specs.Prelude.{◌≡◌};
-ghost use Rattle.sim_command.specs.Commands.{command, is_on_text, live_limit, most_units};
+ghost use Rattle.sim_command.specs.Commands.{command, is_on_text, live_limit, model_named, most_units};
 ghost use Rattle.sim_language.specs.Numbers.{decimal_within};
 
 use crate::commands::Command;
 use crate::word::Word;
+use sim_models::Model;
 use sim_words::decimal_within;
 
 /// How many runs a batch may have, at most.
@@ -44,6 +45,11 @@ pub fn command(words: &[Word]) -> Option<Command>
             let limit = number_within(most_units(), units)?;
             Some(Command::Batch { count, limit })
         }
+        [name, model, units] if name.bytes() == b"native".as_slice() => {
+            let model = model_named(model)?;
+            let limit = number_within(most_units(), units)?;
+            Some(Command::Native(model, limit))
+        }
         _ => None,
     }
 }
@@ -67,8 +73,20 @@ impl Command {
     {
         match self {
             Command::Check | Command::Run(_) | Command::Batch { .. } | Command::Watch(_) => true,
-            Command::Load(_) => false,
+            Command::Load(_) | Command::Native(..) => false,
         }
+    }
+}
+
+/// The model that the word names, if it names one.
+fn model_named(word: &Word) -> Option<Model>
+    ensures { result ≡ model_named word.now }
+{
+    match word.bytes() {
+        name if name == b"bank".as_slice() => Some(Model::Bank),
+        name if name == b"shop".as_slice() => Some(Model::Shop),
+        name if name == b"wash".as_slice() => Some(Model::Wash),
+        _ => None,
     }
 }
 

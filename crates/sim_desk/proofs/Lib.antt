@@ -4,3 +4,4 @@ pub mod Replicating
 pub mod RowsOfRun
 pub mod Summing
 pub mod Telling
+pub mod Models

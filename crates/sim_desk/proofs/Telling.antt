@@ -1,5 +1,5 @@
 -- What a call on a text has written and answers.
-use Rattle.std.proofs.Common.{◌≡◌, ℕ, ◌+◌, ◌^◌, ◌<◌, true, false, List, [], refl, sym, subst, ap, ◌∙◌, Option, Some, Result, Ok, Err}
+use Rattle.std.proofs.Common.{◌≡◌, ◌≢◌, ℕ, ◌+◌, ◌^◌, ◌<◌, true, false, List, [], refl, sym, subst, ap, ◌∙◌, Option, Some, Result, Ok, Err}
 use Rattle.std.specs.Prelude.{IfSome, IsOk, IsTrue}
 use Rattle.std.specs.Io.KnownBytes.{Appends}
 use Rattle.std.proofs.KnownBytes.{Appends-nil}
@@ -14,8 +14,13 @@ use Rattle.sim_command.specs.Commands.{most_units, is_on_text}
 use Rattle.sim_types.specs.declared.fault.Fault.{Fault}
 use Rattle.sim_command.specs.declared.status.Status.{Status}
 use Rattle.sim_command.specs.declared.status.Status.TheVariants as status
-use Rattle.sim_command.specs.Endings.{is_whole}
+use Rattle.sim_command.specs.Endings.{is_whole, status_of_end}
 use Rattle.sim_command.proofs.Endings.{end_whole}
+use Rattle.sim_models.specs.declared.texts.Model.{Model}
+use Rattle.sim_models.specs.Models.{scenario_of, text_of as text_of_model}
+use Rattle.sim_models.proofs.ModelsAreRead.{models_are_read}
+use Rattle.sim_types.specs.declared.line.End.{End}
+use Rattle.sim_types.specs.declared.line.End.TheVariants as end
 use Rattle.sim_shop.specs.Shop.{shop_text}
 use Rattle.sim_shop.proofs.ShopIsRead.{shop_is_read}
 use Rattle.sim_outside.specs.Reads.{TakesFirst}
@@ -24,7 +29,7 @@ use Rattle.sim_language_law.proofs.Scenarios.WellFormedTexts.{read_well_formed}
 use Rattle.sim_engine.specs.Throughout.{IsInOrderThroughout}
 use Rattle.sim_engine.proofs.InOrder.{in_order}
 use Rattle.sim_desk.specs.Answers.{IsInOrderFor, AnswersWhole, AnswersPrefix}
-use Rattle.sim_engine.specs.RunOfScenario.{end_of_scenario}
+use Rattle.sim_engine.specs.RunOfScenario.{end_of_scenario, printed_trace}
 use Rattle.sim_desk.specs.Headline.{text_for, answer_to, answer_of, status_to, status_of}
 use Rattle.sim_desk.proofs.Arriving.{has_ports}
 
@@ -38,6 +43,7 @@ same_for (command.Run limit) left rest text bytes takes held = ap reads held ∙
 same_for (command.Batch count limit) left rest text bytes takes held = ap reads held ∙ same_reading left rest bytes takes
 same_for (command.Watch limit) left rest text bytes takes held = ap reads held ∙ same_reading left rest bytes takes
 same_for (command.Load size) left rest text bytes takes held = refl
+same_for (command.Native model limit) left rest text bytes takes held = refl
 
 -- a command that is on no text is on the same whatever is read
 unread_for : (asked : Command) (text other : List ℕ) → is_on_text asked ≡ false → reads (text_for asked text) ≡ reads (text_for asked other)
@@ -46,6 +52,7 @@ unread_for (command.Run limit) text other unread = absurd (false≢true (sym unr
 unread_for (command.Batch count limit) text other unread = absurd (false≢true (sym unread))
 unread_for (command.Watch limit) text other unread = absurd (false≢true (sym unread))
 unread_for (command.Load size) text other unread = refl
+unread_for (command.Native model limit) text other unread = refl
 
 -- `load` is on the text of the machine shop
 module _ (asked : Command) (size : ℕ) (shop text : List ℕ) (is : asked ≡ command.Load size) (same : shop ≡ shop_text size) where
@@ -54,6 +61,15 @@ module _ (asked : Command) (size : ℕ) (shop text : List ℕ) (is : asked ≡ c
 
   pub shop_status : status_to (command.Load size) (reads shop) ≡ status_of asked text
   shop_status = rw (is, same) refl
+
+-- `native` is on the text of the model
+module _ (asked : Command) (model : Model) (limit : ℕ) (text : List ℕ) (is : asked ≡ command.Native model limit)
+    (says : reads (text_of_model model) ≡ Ok (scenario_of model)) where
+  pub native_answer : printed_trace (scenario_of model) limit ≡ answer_of asked text
+  native_answer = rw (is, says) refl
+
+  pub native_status : status_of_end (end_of_scenario (scenario_of model) limit) ≡ status_of asked text
+  native_status = rw (is, says) refl
 
 -- ---- what was written
 
@@ -68,6 +84,7 @@ in_order_for (command.Run limit) text (Ok s) is = in_order_of s s.seed limit tex
 in_order_for (command.Batch count limit) text (Ok s) is = λ seed. in_order_of s seed limit text is
 in_order_for (command.Watch limit) text (Ok s) is = in_order_of s s.seed limit text is
 in_order_for (command.Load size) text (Ok s) is = in_order_of s s.seed most_units text is
+in_order_for (command.Native model limit) text (Ok s) is = in_order_of s s.seed limit text is
 
 module _ (asked : Command) (left : Option (List ℕ)) (text bytes : List ℕ) (old new : SinkOf)
     (same : reads (text_for asked text) ≡ reads (text_for asked (text_of left bytes))) where
@@ -137,6 +154,7 @@ reading_whole (command.Run limit) (Ok s) = end_whole (end_of_scenario s limit)
 reading_whole (command.Batch count limit) (Ok s) = refl
 reading_whole (command.Watch limit) (Ok s) = refl
 reading_whole (command.Load size) (Ok s) = refl
+reading_whole (command.Native model limit) (Ok s) = end_whole (end_of_scenario s limit)
 
 -- where nothing fails, the answer is whole
 pub status_whole : (asked : Command) (text : List ℕ) → IsTrue (is_whole (status_of asked text))
@@ -153,6 +171,19 @@ load_ended asked size text is small = rw is (by (reads (shop_text size)) (shop_i
     by : (read : Result ScenarioOf Fault) → IsOk read → status_to (command.Load size) read ≡ status.Ended
     by (Ok s) accepted = refl
     by (Err fault) accepted = absurd (false≢true accepted)
+
+-- the text of each model says a scenario
+pub native_not_refused : (asked : Command) (model : Model) (limit : ℕ) (text : List ℕ) → asked ≡ command.Native model limit
+    → status_of asked text ≢ status.Refused
+native_not_refused asked model limit text is refused =
+    by (end_of_scenario (scenario_of model) limit) (native_status asked model limit text is (models_are_read model) ∙ refused)
+  where
+    by : (end : End) → status_of_end end ≡ status.Refused → ⊥
+    by end.Empty h = absurd (cc)
+    by end.Until h = absurd (cc)
+    by end.Crash h = absurd (cc)
+    by end.Starved h = absurd (cc)
+    by end.Limit h = absurd (cc)
 
 -- ---- the command
 

@@ -5,7 +5,7 @@ use Rattle.sim_types.specs.Scenarios.{ScenarioOf}
 use Rattle.sim_types.specs.declared.fault.Fault.{Fault}
 use Rattle.sim_language.specs.Reads.{reads}
 use Rattle.sim_command.specs.declared.commands.Command.{Command}
-use Rattle.sim_command.specs.declared.commands.Command.TheVariants.{Check, Run, Batch, Watch, Load}
+use Rattle.sim_command.specs.declared.commands.Command.TheVariants.{Check, Run, Batch, Watch, Load, Native}
 use Rattle.sim_command.specs.Commands.{most_units}
 use Rattle.sim_command.specs.declared.status.Status.{Status}
 use Rattle.sim_outside.specs.Writes.{AppendsPrefix, SinkOf}
@@ -20,6 +20,7 @@ IsInOrderFor (Run limit) (Ok s) = IsInOrderThroughout s s.seed s.journal limit
 IsInOrderFor (Batch count limit) (Ok s) = (seed : ℕ) → IsInOrderThroughout s seed s.journal limit
 IsInOrderFor (Watch limit) (Ok s) = IsInOrderThroughout s s.seed s.journal limit
 IsInOrderFor (Load size) (Ok s) = IsInOrderThroughout s s.seed s.journal most_units
+IsInOrderFor (Native model limit) (Ok s) = IsInOrderThroughout s s.seed s.journal limit
 
 -- the whole answer to the command on a text was written, and the status is that of it; where the source told the bytes
 -- left, they are the text

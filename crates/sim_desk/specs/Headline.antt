@@ -4,25 +4,27 @@ use Rattle.sim_types.specs.Scenarios.{ScenarioOf}
 use Rattle.sim_types.specs.declared.fault.Fault.{Fault}
 use Rattle.sim_language.specs.Reads.{reads}
 use Rattle.sim_command.specs.declared.commands.Command.{Command}
-use Rattle.sim_command.specs.declared.commands.Command.TheVariants.{Check, Run, Batch, Watch, Load}
+use Rattle.sim_command.specs.declared.commands.Command.TheVariants.{Check, Run, Batch, Watch, Load, Native}
 use Rattle.sim_command.specs.Commands.{most_units}
 use Rattle.sim_command.specs.declared.status.Status.{Status}
 use Rattle.sim_command.specs.declared.status.Status.TheVariants as status
 use Rattle.sim_command.specs.Endings.{status_of_end}
 use Rattle.sim_script_model.specs.Scenarios.{summary, replications, watch_rows}
+use Rattle.sim_models.specs.Models.{text_of}
 use Rattle.sim_shop.specs.Shop.{shop_text}
 use Rattle.sim_trace.specs.Texts.{fault_text, ok_text}
 use Rattle.sim_trace.specs.SummaryTexts.{load_text, batch_answer}
 use Rattle.sim_trace.specs.WatchTexts.{watch_answer}
 use Rattle.sim_engine.specs.RunOfScenario.{printed_trace, end_of_scenario}
 
--- the text that a command is on: the one that is read, or for `load` that of the machine shop
+-- the text that a command is on: the one that is read, for `load` that of the machine shop, for `native` that of the model
 abbrev pub text_for : Command → List ℕ → List ℕ
 text_for Check text = text
 text_for (Run limit) text = text
 text_for (Batch count limit) text = text
 text_for (Watch limit) text = text
 text_for (Load size) text = shop_text size
+text_for (Native model limit) text = text_of model
 
 -- ---- what is written
 
@@ -34,6 +36,7 @@ answer_to (Run limit) (Ok s) = printed_trace s limit
 answer_to (Batch count limit) (Ok s) = batch_answer (replications s limit 0 count)
 answer_to (Watch limit) (Ok s) = watch_answer (watch_rows s s.seed s.journal limit) (summary s s.seed s.journal limit)
 answer_to (Load size) (Ok s) = load_text size (summary s s.seed s.journal most_units)
+answer_to (Native model limit) (Ok s) = printed_trace s limit
 
 -- where these bytes are read
 abbrev pub answer_of : Command → List ℕ → List ℕ
@@ -50,6 +53,7 @@ status_to (Run limit) (Ok s) = status_of_end (end_of_scenario s limit)
 status_to (Batch count limit) (Ok s) = status.Ended
 status_to (Watch limit) (Ok s) = status.Ended
 status_to (Load size) (Ok s) = status.Ended
+status_to (Native model limit) (Ok s) = status_of_end (end_of_scenario s limit)
 
 -- where these bytes are read, if nothing fails
 abbrev pub status_of : Command → List ℕ → Status

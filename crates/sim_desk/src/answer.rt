@@ -3,9 +3,10 @@ ghost use Rattle.std.specs.Prelude.{◌≡◌, Ok, true, IfOk, OnOk, OnErr};
 ghost use Rattle.sim_language.specs.Reads.{reads};
 ghost use Rattle.sim_outside.specs.Writes.{IsUnflushed, IsFlushedOnce, Writes};
 ghost use Rattle.sim_command.specs.Commands.{most_units};
+ghost use Rattle.sim_models.specs.Models.{scenario_of};
 ghost use Rattle.sim_script_model.specs.Scenarios.{summary};
 ghost use Rattle.sim_trace.specs.SummaryTexts.{load_text};
-ghost use Rattle.sim_engine.specs.EngineFaults.{is_write};
+ghost use Rattle.sim_writing.specs.RunFaults.{is_write};
 ghost use Rattle.sim_engine.specs.RunOfScenario.{end_of_scenario, printed_trace};
 ghost use Rattle.sim_desk.specs.Headline.{answer_to, answer_of, status_to, status_of};
 
@@ -15,6 +16,8 @@ use sim_batch::Gate;
 use sim_code::{ReadError, read};
 use sim_command::{Command, Status, most_units, status_of_end};
 use sim_engine::{EngineFault, refuse, replicate, run};
+use sim_models::Model;
+use sim_native::native_run;
 use sim_outside::{Sink, write_all};
 use sim_scenario::Scenario;
 use sim_shop::shop_text;
@@ -24,7 +27,7 @@ use std::alloc::Global;
 use std::thread::Threads;
 
 /// Writes the answer to the command on a text and flushes the sink, and says how the call ends. For `load` the text is that of
-/// the machine shop, and none is read.
+/// the machine shop, for `native` that of the model, and none is read.
 pub(crate) fn answer<K: Sink, R: Threads + Sync, G: Gate + Sync>(
     rt: &R,
     alloc: Global,
@@ -62,6 +65,10 @@ fn answer_for<K: Sink, R: Threads + Sync, G: Gate + Sync>(
         Command::Load(size) => {
             let shop = shop_text(alloc, size)?;
             answer_on(rt, alloc, gate, asked, shop.as_slice(), out)
+        }
+        Command::Native(model, limit) => {
+            let end = write_native(alloc, model, limit, out)?;
+            Ok(status_of_end(end))
         }
         Command::Check | Command::Run(_) | Command::Batch { .. } | Command::Watch(_) => {
             answer_on(rt, alloc, gate, asked, text, out)
@@ -109,7 +116,7 @@ fn carry_out<K: Sink, R: Threads + Sync, G: Gate + Sync>(
 {
     match asked {
         Command::Check => write_all(out, b"ok\n")?,
-        Command::Run(limit) => {
+        Command::Run(limit) | Command::Native(_, limit) => {
             let end = write_run(alloc, scenario, limit, out)?;
             return Ok(status_of_end(end));
         }
@@ -139,6 +146,22 @@ fn write_run<K: Sink>(
     let (seed, journal) = (scenario.seed(), scenario.journal());
     let report = run(alloc, scenario, seed, journal, limit, out)?;
     Ok(report.summary.end)
+}
+
+/// Runs a model by its processes written by hand, with the seed of its text, at most so many units, and writes the trace. The
+/// answer is how the run ended.
+fn write_native<K: Sink>(
+    alloc: Global,
+    model: Model,
+    limit: u32,
+    out: &mut K,
+) -> Result<End, EngineFault>
+    ensures end { IfOk result (λ end. end ≡ end_of_scenario (scenario_of model) limit) }
+    ensures writes { Writes is_write (K.tells out.old) (K.tells out.new) result
+        (printed_trace (scenario_of model) limit) }
+    ensures unflushed { IsUnflushed (K.tells out.old) (K.tells out.new) }
+{
+    native_run(alloc, model, model.seed(), &[], limit, out)
 }
 
 /// Writes what the run of a machine shop of this size comes to, which the scenario says.

@@ -1,7 +1,7 @@
 //! An answer whose lines are gathered.
 ghost use Rattle.std.specs.Prelude.{◌≡◌, IfOk, OnOk, OnErr};
 ghost use Rattle.sim_outside.specs.Writes.{IsUnflushed, IsFlushedOnce, Writes};
-ghost use Rattle.sim_engine.specs.EngineFaults.{is_write};
+ghost use Rattle.sim_writing.specs.RunFaults.{is_write};
 ghost use Rattle.sim_desk.specs.Headline.{answer_of, status_of};
 
 use crate::answer::answer;

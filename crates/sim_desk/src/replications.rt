@@ -4,7 +4,7 @@ ghost use Rattle.sim_outside.specs.Writes.{IsUnflushed, Writes};
 ghost use Rattle.sim_script_model.specs.Scenarios.{summary, replications};
 ghost use Rattle.sim_trace.specs.SummaryTexts.{replications_text, batch_text, all_logs, all_total, batch_answer};
 ghost use Rattle.sim_engine.specs.Counting.{IsWithin};
-ghost use Rattle.sim_engine.specs.EngineFaults.{is_write};
+ghost use Rattle.sim_writing.specs.RunFaults.{is_write};
 
 use crate::sums::sums_of;
 use sim_batch::{Gate, Job, batch};

@@ -1,9 +1,10 @@
 //! The top call.
 ghost use Rattle.std.specs.Prelude.{◌≡◌, ◌≢◌, ◌↔◌, ℕ, None, Some, true, false, IsTrue, IfSome};
+ghost use Rattle.sim_models.specs.declared.texts.Model.{Model};
 ghost use Rattle.sim_code.specs.TakenTexts.{ReadsWhole};
 ghost use Rattle.sim_outside.specs.Causes.{Rose};
 ghost use Rattle.sim_outside.specs.Writes.{IsUnflushed, IsFlushedOnce};
-ghost use Rattle.sim_command.specs.declared.commands.Command.TheVariants.{Load};
+ghost use Rattle.sim_command.specs.declared.commands.Command.TheVariants.{Load, Native};
 ghost use Rattle.sim_command.specs.Commands.{command, is_on_text};
 ghost use Rattle.sim_command.specs.Endings.{is_whole, IsWholeOrWanting};
 ghost use Rattle.sim_desk.specs.Answers.{AnswersWhole, AnswersPrefix};
@@ -34,8 +35,9 @@ pub fn desk<S: Source, K: Sink, R: Threads + Sync, G: Gate + Sync>(
     // the machine on the scenario that the text says, for `batch COUNT LIMIT` what so many runs of it come to, each with a
     // seed of its own, and their sums, for `watch LIMIT` what is measured at each resource over its run, and how that ends,
     // for `check` that it says one, and else its first fault; for `load SIZE` what the run of the machine shop of this size
-    // comes to. Throughout a run, and throughout that of the shop, no capacity is exceeded, levels are openings plus puts
-    // minus gets, and no process that has ended is resumed or waits for a request.
+    // comes to; for `native MODEL LIMIT` the trace of the machine on what the model's text says. Throughout a run, and
+    // throughout that of the shop or of a model, no capacity is exceeded, levels are openings plus puts minus gets, and no
+    // process that has ended is resumed or waits for a request.
     ensures headline { IfSome (command words.now) (λ asked. IsTrue (is_whole result)
         → AnswersWhole asked (S.left source.old) (K.tells out.old) (K.tells out.new) result) }
 
@@ -52,11 +54,15 @@ pub fn desk<S: Source, K: Sink, R: Threads + Sync, G: Gate + Sync>(
     ensures not_read { result ≡ Status.Usage → source.new ≡ source.old }
     ensures not_written { result ≡ Status.Usage → out.new ≡ out.old }
 
-    // A shop is no text that is read, so nothing is refused or stopped there.
-    ensures load_reads_nothing { (size : ℕ) → command words.now ≡ Some (Load size)
-        → source.new ≡ source.old }
+    // For a command that is not on a text nothing is read or refused, and the run of a shop is not stopped.
+    ensures unread { IfSome (command words.now) (λ asked. is_on_text asked ≡ false
+        → source.new ≡ source.old) }
+    ensures unread_well { IfSome (command words.now) (λ asked. is_on_text asked ≡ false
+        → result ≢ Status.ReadFault) }
     ensures load_ends { (size : ℕ) → command words.now ≡ Some (Load size)
         → IsTrue (is_whole result) → result ≡ Status.Ended }
+    ensures native_accepted { (model : Model) (limit : ℕ)
+        → command words.now ≡ Some (Native model limit) → result ≢ Status.Refused }
 
     // A failed read: only where the source's count rose, and then nothing is written.
     ensures read_fault { result ≡ Status.ReadFault

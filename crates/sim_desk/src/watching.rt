@@ -3,7 +3,7 @@ ghost use Rattle.std.specs.Prelude.{◌≡◌, ◌^◌, ◌<◌, length};
 ghost use Rattle.sim_outside.specs.Writes.{IsUnflushed, Writes};
 ghost use Rattle.sim_script_model.specs.Scenarios.{summary, watch_rows};
 ghost use Rattle.sim_trace.specs.WatchTexts.{rows_text, watch_end_text, watch_answer};
-ghost use Rattle.sim_engine.specs.EngineFaults.{is_write};
+ghost use Rattle.sim_writing.specs.RunFaults.{is_write};
 
 use sim_engine::EngineFault;
 use sim_outside::{Sink, write_all};

@@ -24,9 +24,9 @@ use Rattle.sim_outside.specs.Reads.{TakesFirst}
 use Rattle.sim_outside.specs.Writes.{SinkOf}
 use Rattle.sim_outside.proofs.Written.{none_written, then_flushed, then_unflushed}
 use Rattle.sim_trace.specs.Texts.{fault_text}
-use Rattle.sim_engine.specs.declared.fault.EngineFault.{EngineFault}
-use Rattle.sim_engine.specs.declared.fault.EngineFault.TheVariants as fault
-use Rattle.sim_engine.specs.EngineFaults.{is_write}
+use Rattle.sim_writing.specs.declared.fault.RunFault.{RunFault}
+use Rattle.sim_writing.specs.declared.fault.RunFault.TheVariants as fault
+use Rattle.sim_writing.specs.RunFaults.{is_write}
 use Rattle.sim_types.specs.Setups.{HavePorts}
 use Rattle.sim_engine.proofs.InOrder.{in_order}
 use Rattle.sim_live.specs.Journals.{KeepsFronts, KeepsSections, post_of}
@@ -40,7 +40,7 @@ use Rattle.sim_live.proofs.Replays.{says_again}
 no_fronts : (s : ScenarioOf) → KeepsFronts s []
 no_fronts s = record { posts = λ p. refl; falls = refl }
 
-pub answers_none : (read : Result ScenarioOf Fault) (limit : ℕ) (a : SinkOf) (why : EngineFault) → is_write why ≡ false → Answers read limit a a (Err why)
+pub answers_none : (read : Result ScenarioOf Fault) (limit : ℕ) (a : SinkOf) (why : RunFault) → is_write why ≡ false → Answers read limit a a (Err why)
 answers_none (Ok s) limit a why free =
     record { journal = []; writes = none_written is_write a why (live_text s limit []) free; fronts = no_fronts s; sections = tt; can_be = tt; status = tt }
 answers_none (Err fault) limit a why free = record { writes = none_written is_write a why (fault_text fault) free; status = tt }
@@ -61,7 +61,7 @@ module _ (read : Result ScenarioOf Fault) (limit : ℕ) (a m b : SinkOf) (told :
           }
       by (Err fault) k = record { writes = then_flushed is_write is_write a m b told told (fault_text fault) k.writes kept same; status = k.status }
 
-  pub answers_unflushed : {V : Type 0} (why : EngineFault) (f : Failed) → Answers read limit a m (Ok told) → Keeps m.taken b.taken
+  pub answers_unflushed : {V : Type 0} (why : RunFault) (f : Failed) → Answers read limit a m (Ok told) → Keeps m.taken b.taken
       → HasCause {T = V} {E = Failed} m.faults b.faults (Err f) → is_write why ≡ true → Answers read limit a b (Err why)
   answers_unflushed {V} why f h kept cause is = by read h
     where
@@ -77,7 +77,7 @@ module _ (read : Result ScenarioOf Fault) (limit : ℕ) (a m b : SinkOf) (told :
           }
       by (Err fault) k = record { writes = then_unflushed is_write is_write {V = V} a m b told why (fault_text fault) k.writes kept cause is; status = tt }
 
-  pub answers_cut : {V : Type 0} (f : Failed) (answer : Result Status EngineFault) → IsErrAnd answer (λ why. why ≡ fault.Write)
+  pub answers_cut : {V : Type 0} (f : Failed) (answer : Result Status RunFault) → IsErrAnd answer (λ why. why ≡ fault.Write)
       → Answers read limit a m (Ok told) → Keeps m.taken b.taken → HasCause {T = V} {E = Failed} m.faults b.faults (Err f) → Answers read limit a b answer
   answers_cut f (Ok x) is h kept cause = absurd is
   answers_cut {V} f (Err why) is h kept cause = answers_unflushed {V = V} why f h kept cause (ap is_write is)
@@ -109,7 +109,7 @@ whole_by text (Ok s) limit a b told is h =
     }
 whole_by text (Err fault) limit a b told is h = (h.writes.whole, h.status)
 
-begun_by : (read : Result ScenarioOf Fault) (limit : ℕ) (a b : SinkOf) (answer : Result Status EngineFault) → Answers read limit a b answer
+begun_by : (read : Result ScenarioOf Fault) (limit : ℕ) (a b : SinkOf) (answer : Result Status RunFault) → Answers read limit a b answer
     → BeginsText read limit a b
 begun_by (Ok s) limit a b answer h = record { journal = h.journal; fronts = h.fronts; written = h.writes.prefix }
 begun_by (Err fault) limit a b answer h = h.writes.prefix
@@ -126,7 +126,7 @@ module _ (limit : ℕ) (left rest : Option (List ℕ)) (text bytes : List ℕ) (
         answered = whole_by (text_of left bytes) (reads (text_of left bytes)) limit a b told refl (subst (λ r. Answers r limit a b (Ok told)) same h);
       }
 
-  pub prefix_answer : (answer : Result Status EngineFault) → Answers (reads text) limit a b answer → AnswersPrefix limit left a b
+  pub prefix_answer : (answer : Result Status RunFault) → Answers (reads text) limit a b answer → AnswersPrefix limit left a b
   prefix_answer answer h =
       record {
         text = text_of left bytes;

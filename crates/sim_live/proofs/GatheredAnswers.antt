@@ -8,12 +8,12 @@ use Rattle.sim_outside.specs.Gathering.{GathersFor, StaysInFront, gathered}
 use Rattle.sim_outside.specs.Writes.{IsFlushedOnce, SinkOf}
 use Rattle.sim_outside.proofs.OnLoan.{written_on_loan}
 use Rattle.sim_trace.specs.Texts.{fault_text}
-use Rattle.sim_engine.specs.declared.fault.EngineFault.{EngineFault}
-use Rattle.sim_engine.specs.EngineFaults.{is_write}
+use Rattle.sim_writing.specs.declared.fault.RunFault.{RunFault}
+use Rattle.sim_writing.specs.RunFaults.{is_write}
 use Rattle.sim_live.specs.LiveAnswers.{Answers}
 use Rattle.sim_live.specs.LiveTexts.{live_text}
 
-pub answers_on_loan : (read : Result ScenarioOf Fault) (limit : ℕ) (answer : Result Status EngineFault) (old new told after : SinkOf) → told ≡ gathered old []
+pub answers_on_loan : (read : Result ScenarioOf Fault) (limit : ℕ) (answer : Result Status RunFault) (old new told after : SinkOf) → told ≡ gathered old []
     → GathersFor new after → OnOk answer (IsFlushedOnce told after) → StaysInFront old.taken new.taken
     → Answers read limit told after answer → Answers read limit old new answer
 answers_on_loan (Ok s) limit answer old new told after begun h flush stays k =

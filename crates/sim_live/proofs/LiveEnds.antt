@@ -14,11 +14,11 @@ use Rattle.sim_outside.proofs.Written.{as_failed, as_well, both_written, cut_beh
 use Rattle.sim_replay.specs.Sections.{CanBeJournal}
 use Rattle.sim_trace.specs.Texts.{journal_text, trace_text}
 use Rattle.sim_script_model.specs.Scenarios.{summary}
-use Rattle.sim_engine.specs.declared.fault.EngineFault.{EngineFault}
-use Rattle.sim_engine.specs.declared.fault.EngineFault.TheVariants as fault
+use Rattle.sim_writing.specs.declared.fault.RunFault.{RunFault}
+use Rattle.sim_writing.specs.declared.fault.RunFault.TheVariants as fault
 use Rattle.sim_engine.specs.declared.session.Turn.TheVariants as turn
 use Rattle.sim_engine.specs.declared.report.Report.{Report}
-use Rattle.sim_engine.specs.EngineFaults.{is_write}
+use Rattle.sim_writing.specs.RunFaults.{is_write}
 use Rattle.sim_engine.specs.Rounds.{text_by}
 use Rattle.sim_engine.specs.Sessions.{turn_of, report_of}
 use Rattle.sim_engine.proofs.AddedArrivals.{over_whole, over_summary}
@@ -100,18 +100,18 @@ lines_written s limit opened x a m t report most none zero_units on live ended s
 
 module _ {s : ScenarioOf} {limit : ℕ} {a m : SinkOf} {journal : List Arrival} {lines : List ℕ} {told : Summary}
     (h : LinesWritten s limit a m journal lines told) where
-  with_end : {U : Type 0} (n : SinkOf) (u : U) → Writes {T = U} {E = EngineFault} is_write m n (Ok u) (end_text told) → HasWritten a n (lines ++ end_text told)
+  with_end : {U : Type 0} (n : SinkOf) (u : U) → Writes {T = U} {E = RunFault} is_write m n (Ok u) (end_text told) → HasWritten a n (lines ++ end_text told)
   with_end n u then = both_written is_write is_write {V = Unit {0}} a m n tt u tt lines (end_text told) (lines ++ end_text told) h.written then refl
 
   text_with : (entries : List ℕ) → entries ≡ journal_text s.port_names journal → live_text s limit journal ≡ (lines ++ end_text told) ++ entries
   text_with entries is_journal = h.text ∙ ap (λ l. (lines ++ end_text told) ++ l) (sym is_journal)
 
-module _ (s : ScenarioOf) (limit : ℕ) (a b : SinkOf) (answer : Result End EngineFault) (why : EngineFault) (is : IsErrAnd answer (λ told. told ≡ why)) where
-  failed_ok : (P : Type 0) (r : Result End EngineFault) → IsErrAnd r (λ told. told ≡ why) → OnOk r P
+module _ (s : ScenarioOf) (limit : ℕ) (a b : SinkOf) (answer : Result End RunFault) (why : RunFault) (is : IsErrAnd answer (λ told. told ≡ why)) where
+  failed_ok : (P : Type 0) (r : Result End RunFault) → IsErrAnd r (λ told. told ≡ why) → OnOk r P
   failed_ok P (Ok e) h = absurd h
   failed_ok P (Err w) h = tt
 
-  failed_end : (P : End → Type 0) (r : Result End EngineFault) → IsErrAnd r (λ told. told ≡ why) → IfOk r P
+  failed_end : (P : End → Type 0) (r : Result End RunFault) → IsErrAnd r (λ told. told ≡ why) → IfOk r P
   failed_end P (Ok e) h = absurd h
   failed_end P (Err w) h = tt
 
@@ -132,13 +132,13 @@ module _ (s : ScenarioOf) (limit : ℕ) (a b : SinkOf) (answer : Result End Engi
 
   -- the same behind its lines, or behind the line on its end
   module _ {T : Type 0} (journal : List Arrival) (lines : List ℕ) (told : Summary) (m : SinkOf) (h : LinesWritten s limit a m journal lines told) where
-    pub runs_cut_at_end : Writes {T = T} {E = EngineFault} is_write m b (Err why) (end_text told) → RunsLive s limit a b answer
+    pub runs_cut_at_end : Writes {T = T} {E = RunFault} is_write m b (Err why) (end_text told) → RunsLive s limit a b answer
     runs_cut_at_end then =
         runs_cut {T = T} journal (lines ++ end_text told) (journal_text s.port_names journal)
         (cut_behind is_write is_write {V = T} a m b tt why lines (end_text told) (lines ++ end_text told) h.written then refl) h.text h.fronts
 
     pub runs_cut_at_journal : {U : Type 0} (n : SinkOf) (u : U) (entries : List ℕ) → entries ≡ journal_text s.port_names journal
-        → Writes {T = U} {E = EngineFault} is_write m n (Ok u) (end_text told) → Writes {T = T} {E = EngineFault} is_write n b (Err why) entries
+        → Writes {T = U} {E = RunFault} is_write m n (Ok u) (end_text told) → Writes {T = T} {E = RunFault} is_write n b (Err why) entries
         → RunsLive s limit a b answer
     runs_cut_at_journal n u entries is_journal then last =
         runs_cut {T = T} journal (live_text s limit journal) []
@@ -150,8 +150,8 @@ module _ (s : ScenarioOf) (limit : ℕ) (a b : SinkOf) (answer : Result End Engi
 pub runs_whole : {U V : Type 0} (s : ScenarioOf) (limit : ℕ) (a m n b : SinkOf) (end : End) (journal : List Arrival) (lines entries : List ℕ) (told : Summary)
     (u : U) (v : V)
     → LinesWritten s limit a m journal lines told → KeepsSections s journal → CanBeJournal s journal → end ≡ end_on s limit journal
-    → entries ≡ journal_text s.port_names journal → Writes {T = U} {E = EngineFault} is_write m n (Ok u) (end_text told)
-    → Writes {T = V} {E = EngineFault} is_write n b (Ok v) entries → RunsLive s limit a b (Ok end)
+    → entries ≡ journal_text s.port_names journal → Writes {T = U} {E = RunFault} is_write m n (Ok u) (end_text told)
+    → Writes {T = V} {E = RunFault} is_write n b (Ok v) entries → RunsLive s limit a b (Ok end)
 runs_whole s limit a m n b end journal lines entries told u v h sections can ends is_journal then last =
     record {
       journal = journal;
@@ -165,7 +165,7 @@ runs_whole s limit a m n b end journal lines entries told u v h sections can end
     }
 
 -- memory was wanting before it began
-pub runs_none : (s : ScenarioOf) (limit : ℕ) (a : SinkOf) (answer : Result End EngineFault) → IsErrAnd answer (λ why. why ≡ fault.Memory)
+pub runs_none : (s : ScenarioOf) (limit : ℕ) (a : SinkOf) (answer : Result End RunFault) → IsErrAnd answer (λ why. why ≡ fault.Memory)
     → RunsLive s limit a a answer
 runs_none s limit a answer is =
     runs_cut s limit a a answer fault.Memory is {T = End} [] [] (live_text s limit []) (none_written is_write a fault.Memory [] refl) refl

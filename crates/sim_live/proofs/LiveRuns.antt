@@ -24,9 +24,9 @@ use Rattle.sim_script_model.specs.Scripts.{Script}
 use Rattle.sim_script_law.specs.ScriptMembers.{script_body}
 use Rattle.sim_inbox.specs.declared.taken.Taken.{Taken}
 use Rattle.sim_script_law.specs.ScenarioRuns.{run_of}
-use Rattle.sim_engine.specs.declared.fault.EngineFault.{EngineFault}
+use Rattle.sim_writing.specs.declared.fault.RunFault.{RunFault}
 use Rattle.sim_engine.specs.declared.session.Turn.TheVariants as turn
-use Rattle.sim_engine.specs.EngineFaults.{is_write}
+use Rattle.sim_writing.specs.RunFaults.{is_write}
 use Rattle.sim_engine.specs.Rounds.{StandsInRun}
 use Rattle.sim_engine.specs.Sessions.{SessionOf, IsAt, GoesOn, IsBusyBetween, IsSettled, steps_in, takes_arrivals, text_of_steps, turn_of}
 use Rattle.sim_engine.proofs.AddedArrivals.{processed_later, stands_added, text_added, idle_turn_text, after_idle_turn, last_arrival_text, after_last_arrival, after_last_refusal}
@@ -78,7 +78,7 @@ module _ (s : ScenarioOf) (journal : List Arrival) (old new : SessionOf) (h : Is
   stands_now : StandsInRun s s.seed journal [] old
   stands_now = in_time_at s journal old h (rw idle refl)
 
-  pub turn_written : {T : Type 0} (a b : SinkOf) (answer : Result T EngineFault)
+  pub turn_written : {T : Type 0} (a b : SinkOf) (answer : Result T RunFault)
       → Writes is_write a b answer (text_of_steps s.port_names old.parts k (state_at s journal old))
       → WritesOn s (run_with old journal) (run_with new journal) a b answer
   turn_written a b answer written =
@@ -162,7 +162,7 @@ module _ (s : ScenarioOf) (journal : List Arrival) (old new : SessionOf) (h : Is
   more : StandsInRun s s.seed grown (a ∷ []) old
   more = stands_more s journal old h t takes
 
-  pub arrival_written : {T : Type 0} (value : ℤ) (b c : SinkOf) (answer : Result T EngineFault) → value ≡ t.item.value → old.units ≤ new.units
+  pub arrival_written : {T : Type 0} (value : ℤ) (b c : SinkOf) (answer : Result T RunFault) → value ≡ t.item.value → old.units ≤ new.units
       → new.units ≤ old.units + 1
       → Writes is_write b c answer (if nat_lt old.units new.units then line_text s.port_names (line.Arrive old.parts.processed value t.item.port) else [])
       → WritesOn s (run_with old journal) (run_with new grown) b c answer
@@ -274,7 +274,7 @@ module _ {s : ScenarioOf} {journal : List Arrival} {old : SessionOf} {self : Liv
         (subst (λ (a : Arrival). (u : State Script) → IsAt old u → old.units < old.limit → IsAt new (arrive (plan_of script_body old.parts) a.port value u))
         h.entry_is arrives))
 
-    pub came_written : {T : Type 0} (b c : SinkOf) (answer : Result T EngineFault) → old.units ≤ new.units → new.units ≤ old.units + 1
+    pub came_written : {T : Type 0} (b c : SinkOf) (answer : Result T RunFault) → old.units ≤ new.units → new.units ≤ old.units + 1
         → Writes is_write b c answer (if nat_lt old.units new.units then line_text s.port_names (line.Arrive old.parts.processed value entry.port) else [])
         → WritesOn s self (run_with new grown) b c answer
     came_written b c answer from most written =

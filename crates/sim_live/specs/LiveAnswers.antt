@@ -12,8 +12,8 @@ use Rattle.sim_command.specs.Endings.{status_of_end}
 use Rattle.sim_outside.specs.Writes.{AppendsPrefix, SinkOf, Writes}
 use Rattle.sim_replay.specs.Sections.{CanBeJournal, IsWithinLimits, text_with_journal}
 use Rattle.sim_trace.specs.Texts.{fault_text}
-use Rattle.sim_engine.specs.declared.fault.EngineFault.{EngineFault}
-use Rattle.sim_engine.specs.EngineFaults.{is_write}
+use Rattle.sim_writing.specs.declared.fault.RunFault.{RunFault}
+use Rattle.sim_writing.specs.RunFaults.{is_write}
 use Rattle.sim_engine.specs.Throughout.{IsInOrderThroughout}
 use Rattle.sim_live.specs.Journals.{KeepsSections, KeepsFronts}
 use Rattle.sim_live.specs.LiveTexts.{SaysAgain, end_on, live_text}
@@ -22,7 +22,7 @@ use Rattle.sim_live.specs.LiveTexts.{SaysAgain, end_on, live_text}
 
 -- a call that lets the scenario run wrote the text of a run on some journal, whose entries are posts of the posters; where it
 -- went well these are all posts, the journal can be the scenario's own, and the answer is how that run ended
-pub record RunsLive (s : ScenarioOf) (limit : ℕ) (old new : SinkOf) (answer : Result End EngineFault) : Type 0 where
+pub record RunsLive (s : ScenarioOf) (limit : ℕ) (old new : SinkOf) (answer : Result End RunFault) : Type 0 where
   pub journal : List Arrival
   pub writes : Writes is_write old new answer (live_text s limit journal)
   pub fronts : KeepsFronts s journal
@@ -33,11 +33,11 @@ pub record RunsLive (s : ScenarioOf) (limit : ℕ) (old new : SinkOf) (answer : 
 -- ---- the answer to a text
 
 -- of a text that says a scenario a run was written, and another is refused; where it went well, the status tells how
-pub record Refuses (fault : Fault) (old new : SinkOf) (answer : Result Status EngineFault) : Type 0 where
+pub record Refuses (fault : Fault) (old new : SinkOf) (answer : Result Status RunFault) : Type 0 where
   pub writes : Writes is_write old new answer (fault_text fault)
   pub status : IfOk answer (λ told. told ≡ status.Refused)
 
-pub record Runs (s : ScenarioOf) (limit : ℕ) (old new : SinkOf) (answer : Result Status EngineFault) : Type 0 where
+pub record Runs (s : ScenarioOf) (limit : ℕ) (old new : SinkOf) (answer : Result Status RunFault) : Type 0 where
   pub journal : List Arrival
   pub writes : Writes is_write old new answer (live_text s limit journal)
   pub fronts : KeepsFronts s journal
@@ -45,7 +45,7 @@ pub record Runs (s : ScenarioOf) (limit : ℕ) (old new : SinkOf) (answer : Resu
   pub can_be : OnOk answer (CanBeJournal s journal)
   pub status : IfOk answer (λ told. told ≡ status_of_end (end_on s limit journal))
 
-abbrev pub Answers : Result ScenarioOf Fault → ℕ → SinkOf → SinkOf → Result Status EngineFault → Type 0
+abbrev pub Answers : Result ScenarioOf Fault → ℕ → SinkOf → SinkOf → Result Status RunFault → Type 0
 Answers (Ok s) limit old new answer = Runs s limit old new answer
 Answers (Err fault) limit old new answer = Refuses fault old new answer
 

@@ -10,8 +10,8 @@ use Rattle.sim_language.specs.Numbers.{least, greatest}
 use Rattle.sim_language.specs.WellFormed.{never_falls}
 use Rattle.sim_outside.specs.Writes.{SinkOf, Writes}
 use Rattle.sim_inbox.specs.Lists.{Begins, numbered}
-use Rattle.sim_engine.specs.declared.fault.EngineFault.{EngineFault}
-use Rattle.sim_engine.specs.EngineFaults.{is_write}
+use Rattle.sim_writing.specs.declared.fault.RunFault.{RunFault}
+use Rattle.sim_writing.specs.RunFaults.{is_write}
 use Rattle.sim_engine.specs.Rounds.{StandsInRun, text_by}
 use Rattle.sim_engine.specs.Sessions.{SessionOf, IsSettled, turn_of, takes_arrivals}
 use Rattle.sim_live.specs.Journals.{posts_by, section}
@@ -46,9 +46,9 @@ text_so_far s x = text_by s s.seed x.journal x.session.units
 
 -- since that moment a sink was written just these bytes, and no write failed
 abbrev pub HasWritten : SinkOf → SinkOf → List ℕ → Type 0
-HasWritten before now bytes = Writes {T = Unit {0}} {E = EngineFault} is_write before now (Ok tt) bytes
+HasWritten before now bytes = Writes {T = Unit {0}} {E = RunFault} is_write before now (Ok tt) bytes
 
 -- a call goes on with the text of a run: where all lines before it were written, so are all lines after it
-abbrev pub WritesOn : {T : Type 0} → ScenarioOf → LiveOf → LiveOf → SinkOf → SinkOf → Result T EngineFault → Type 0
+abbrev pub WritesOn : {T : Type 0} → ScenarioOf → LiveOf → LiveOf → SinkOf → SinkOf → Result T RunFault → Type 0
 WritesOn s x y old new answer =
     (before : SinkOf) → HasWritten before old (text_so_far s x) → Writes is_write before new answer (text_so_far s y)

@@ -2,7 +2,7 @@
 ghost use Rattle.std.specs.Prelude.{◌≡◌, ◌≢◌, ◌≤◌, [], IfOk, OnOk};
 ghost use Rattle.sim_outside.specs.Writes.{IsUnflushed, Writes};
 ghost use Rattle.sim_trace.specs.Texts.{AreNamesShort, journal_text};
-ghost use Rattle.sim_engine.specs.EngineFaults.{is_write};
+ghost use Rattle.sim_writing.specs.RunFaults.{is_write};
 ghost use Rattle.sim_engine.specs.Sessions.{turn_of};
 ghost use Rattle.sim_engine.specs.declared.session.Turn.TheVariants as turn;
 ghost use Rattle.sim_live.specs.Journals.{KeepsFronts, KeepsSections};

@@ -1,4 +1,4 @@
-use Rattle.sim_engine.proofs.Wanting.{wanting}
+use Rattle.sim_writing.proofs.Wanting.{wanting}
 use Rattle.sim_desk.proofs.answer.write_load.Goals as goal
 
 pub returns-in_err-summary-clause-writes : goal.returns-in_err-summary-clause-writes

@@ -1,7 +1,7 @@
 use Rattle.std.proofs.Common.{sym, subst}
 use Rattle.sim_outside.specs.Gathering.{StaysInFront}
 use Rattle.sim_outside.proofs.OnLoan.{written_on_loan}
-use Rattle.sim_engine.specs.EngineFaults.{is_write}
+use Rattle.sim_writing.specs.RunFaults.{is_write}
 use Rattle.sim_desk.proofs.gathered.answer_on_loan.Goals as goal
 
 pub returns-clause-writes : goal.returns-clause-writes

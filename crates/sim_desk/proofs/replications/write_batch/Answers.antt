@@ -1,7 +1,7 @@
 use Rattle.std.proofs.Common.{[], refl, sym, ap, ◌∙◌, append-nil}
 use Rattle.sim_outside.proofs.Written.{told_err, as_failed, both_written, cut_behind}
-use Rattle.sim_engine.specs.EngineFaults.{is_write}
-use Rattle.sim_engine.proofs.Wanting.{wanting}
+use Rattle.sim_writing.specs.RunFaults.{is_write}
+use Rattle.sim_writing.proofs.Wanting.{wanting}
 use Rattle.sim_desk.proofs.Replicating.{runs_are, few_runs, answer_parted}
 use Rattle.sim_desk.proofs.replications.write_batch.Goals as goal
 

@@ -1,9 +1,9 @@
 use Rattle.std.proofs.Common.{rules, ◌≡◌, inl, ap, sym, ◌∙◌, Fits, w32, Some, None}
 use Rattle.std.proofs.lemmas.Bool.{false≢true}
-use Rattle.sim_command.specs.declared.commands.Command.TheVariants.{Load}
+use Rattle.sim_command.specs.declared.commands.Command.TheVariants.{Load, Native}
 use Rattle.sim_command.specs.declared.status.Status.TheVariants as status
 use Rattle.sim_command.specs.Endings.{is_whole}
-use Rattle.sim_desk.proofs.Telling.{if_some, whole_answer, unread_answer, status_whole, told_whole, load_ended}
+use Rattle.sim_desk.proofs.Telling.{if_some, whole_answer, unread_answer, status_whole, told_whole, load_ended, native_not_refused}
 use Rattle.sim_desk.proofs.top.desk.Goals as goal
 use Rattle.sim_desk.proofs.top.desk.Goals.{then-is_on_text+in-Ok, else-is_on_text}
 
@@ -42,11 +42,21 @@ pub returns-in-Ok-answer_gathered-clause-write_fault : goal.returns-in-Ok-answer
 returns-in-Ok-answer_gathered-clause-write_fault g c is =
     absurd (false≢true (told_whole c.in-Some.asked _ _ status.WriteFault c.in-Ok-answer_gathered.ensures.status is))
 
+pub returns-in-Ok-answer_gathered-clause-unread_well : goal.returns-in-Ok-answer_gathered-clause-unread_well
+returns-in-Ok-answer_gathered-clause-unread_well g c =
+    if_some _ _ _ c.in-Some.ensures
+    (λ unread is. absurd (false≢true (told_whole c.in-Some.asked _ _ status.ReadFault c.in-Ok-answer_gathered.ensures.status is)))
+
 pub returns-in-Ok-answer_gathered-clause-load_ends : goal.returns-in-Ok-answer_gathered-clause-load_ends
 returns-in-Ok-answer_gathered-clause-load_ends g c size is whole =
     let same : c.in-Some.asked ≡ Load size = cc in
     let small : Fits w32 size = search rules in
     c.in-Ok-answer_gathered.ensures.status ∙ load_ended c.in-Some.asked size _ same small.fits
+
+pub returns-in-Ok-answer_gathered-clause-native_accepted : goal.returns-in-Ok-answer_gathered-clause-native_accepted
+returns-in-Ok-answer_gathered-clause-native_accepted g c model limit is refused =
+    let same : c.in-Some.asked ≡ Native model limit = cc in
+    native_not_refused c.in-Some.asked model limit _ same (sym c.in-Ok-answer_gathered.ensures.status ∙ refused)
 
 pub returns-in-Ok-answer_gathered-clause-complete : goal.returns-in-Ok-answer_gathered-clause-complete
 returns-in-Ok-answer_gathered-clause-complete g c asked_for read wrote =

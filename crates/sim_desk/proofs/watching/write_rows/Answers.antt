@@ -1,6 +1,6 @@
 use Rattle.std.proofs.Common.{◌++◌, ◌+◌, true, sym, ap, ◌∙◌, take}
 use Rattle.sim_outside.proofs.Written.{told_err, as_well, as_failed, both_written, cut_behind}
-use Rattle.sim_engine.specs.EngineFaults.{is_write}
+use Rattle.sim_writing.specs.RunFaults.{is_write}
 use Rattle.sim_trace.specs.WatchTexts.{row_text, rows_text}
 use Rattle.sim_desk.proofs.Numbering.{lines_next, lines_parted}
 use Rattle.sim_desk.proofs.watching.write_rows.Goals as goal

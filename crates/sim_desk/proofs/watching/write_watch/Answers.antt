@@ -1,7 +1,7 @@
 use Rattle.std.proofs.Common.{sym, ap, append-nil}
 use Rattle.sim_outside.proofs.Written.{told_err, as_failed, both_written, cut_behind}
-use Rattle.sim_engine.specs.EngineFaults.{is_write}
-use Rattle.sim_engine.proofs.Wanting.{wanting}
+use Rattle.sim_writing.specs.RunFaults.{is_write}
+use Rattle.sim_writing.proofs.Wanting.{wanting}
 use Rattle.sim_desk.proofs.RowsOfRun.{few_rows, answer_is}
 use Rattle.sim_desk.proofs.watching.write_watch.Goals as goal
 

@@ -1,7 +1,7 @@
 use Rattle.std.proofs.Common.{◌++◌, ◌+◌, true, refl, sym, ap, ◌∙◌, take}
 use Rattle.std.specs.Prelude.{flat_map}
 use Rattle.sim_outside.proofs.Written.{told_err, as_well, as_failed, both_written, cut_behind}
-use Rattle.sim_engine.specs.EngineFaults.{is_write}
+use Rattle.sim_writing.specs.RunFaults.{is_write}
 use Rattle.sim_trace.specs.Texts.{arrival_text, journal_text}
 use Rattle.sim_live.proofs.JournalTexts.{journal_next, journal_parted}
 use Rattle.sim_live.proofs.caller.write_journal.Goals as goal
