@@ -1,2 +1,3 @@
+pub mod FitsByTest
 pub mod TestSetups
 pub mod OnePoll

@@ -1,16 +1,14 @@
 -- The setups of the tests fit the bodies of the tests.
-use Rattle.std.proofs.Common.{◌≡◌, ℕ, zero, suc, ℤ, ◌<◌, ◌≤◌, arith, lit≤, true, refl, List, [], ◌∷◌, length, IsTrue}
+use Rattle.std.proofs.Common.{ℕ, zero, suc, ℤ, ◌<◌, ◌≤◌, arith, lit≤, refl, List, [], ◌∷◌, length, IsTrue}
 use Rattle.std.specs.List.{AllPass}
-use Rattle.std.proofs.lemmas.List.Elements.{All-nil, All-cons}
+use Rattle.std.proofs.lemmas.List.Elements.{All-nil}
 use Rattle.sim_types.specs.declared.setup.Start.{Start}
 use Rattle.sim_types.specs.declared.setup.Until.{Until}
 use Rattle.sim_types.specs.declared.setup.Until.TheVariants as until
-use Rattle.sim_types.specs.declared.op.Op.{Op}
-use Rattle.sim_types.specs.declared.op.Op.TheVariants as op
-use Rattle.sim_lawful.proofs.Polls.PlainBodies.{is_plain}
 use Rattle.sim_machine.specs.Setups.{FitsCode, start_fits, until_fits, resource_fits, port_fits}
-use Rattle.sim_bodies.specs.Travellers.{traveller_facts, traveller_body, next_is_plain}
-use Rattle.sim_bodies.specs.Clocks.{clock_facts, clock_body, tick_plain}
+use Rattle.sim_bodies.specs.Travellers.{traveller_facts}
+use Rattle.sim_bodies.specs.Clocks.{clock_facts}
+use Rattle.sim_bodies.proofs.FitsByTest.{fits_by}
 
 -- a traveller of each kind is given two numbers
 pub traveller_start_fits : (kind : ℕ) (first second : ℤ) → kind < 3 →
@@ -40,33 +38,9 @@ land_fits until starts fits few pass =
 -- a setup with one start and one port, by which travellers of kind 3 set out
 pub land_with_port_fits : (start : Start) → IsTrue (start_fits traveller_facts start) →
     FitsCode traveller_facts (record { until = until.Never; events = 0; resources = []; ports = 3 ∷ []; starts = start ∷ [] })
-land_with_port_fits start fits =
-    record {
-      until = refl;
-      events = refl;
-      few_events = lit≤ tt;
-      resources = refl;
-      few_resources = lit≤ tt;
-      capacities = All-nil (λ r. IsTrue (resource_fits r));
-      few_ports = lit≤ tt;
-      ports = All-cons (λ k. IsTrue (port_fits traveller_facts k)) 3 [] refl (All-nil (λ k. IsTrue (port_fits traveller_facts k)));
-      few_starts = lit≤ tt;
-      starts = All-cons (λ x. IsTrue (start_fits traveller_facts x)) start [] fits (All-nil (λ x. IsTrue (start_fits traveller_facts x)));
-    }
+land_with_port_fits start h = fits_by traveller_facts _ (rw h refl)
 
 -- a setup with one clock
 pub clock_start_fits :
     FitsCode clock_facts (record { until = until.Never; events = 0; resources = []; ports = []; starts = record { kind = 0; args = [] } ∷ [] })
-clock_start_fits =
-    record {
-      until = refl;
-      events = refl;
-      few_events = lit≤ tt;
-      resources = refl;
-      few_resources = lit≤ tt;
-      capacities = All-nil (λ r. IsTrue (resource_fits r));
-      few_ports = lit≤ tt;
-      ports = All-nil (λ k. IsTrue (port_fits clock_facts k));
-      few_starts = lit≤ tt;
-      starts = All-cons (λ x. IsTrue (start_fits clock_facts x)) _ [] refl (All-nil (λ x. IsTrue (start_fits clock_facts x)));
-    }
+clock_start_fits = fits_by clock_facts _ refl

@@ -1,5 +1,7 @@
 pub mod PlainScopes
+pub mod OnePlace
+pub mod OneScope
 pub mod Travellers
 pub mod Clocks
-pub mod Cars
-pub mod CarLaw
+pub mod Customers
+pub mod CustomerLaw

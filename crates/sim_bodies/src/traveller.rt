@@ -159,8 +159,8 @@ fn heard(told: Signal) -> i64
     }
 }
 
-// The first two numbers; 0 where there is none.
-fn numbers(args: &[i64]) -> [i64; 2]
+/// The first two numbers; 0 where there is none.
+pub(crate) fn numbers(args: &[i64]) -> [i64; 2]
     ensures { result ≡ slice_index_or args.now 0 (pos 0) ∷ slice_index_or args.now 1 (pos 0) ∷ [] }
 {
     match args {

@@ -7,6 +7,7 @@ pub mod MachineScripts
 pub mod FillerScripts
 pub mod ChiefScripts
 pub mod ShopScripts
+pub mod ShopHurries
 pub mod ShopPlaces
 pub mod WashScripts
 pub mod WashPlaces

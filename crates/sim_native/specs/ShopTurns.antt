@@ -1,11 +1,12 @@
 -- What a process of the machine shop asks for when it is polled, and where it stands then.
-use Rattle.std.specs.Prelude.{◌∷◌, [], ℕ, ℤ, ◌-ℤ◌, pos, int_lt, true, false, Option, Some, None, if◌then◌else◌}
+use Rattle.std.specs.Prelude.{◌≡◌, ◌∷◌, [], ℕ, zero, suc, ℤ, ◌-ℤ◌, pos, int_lt, true, false, Option, Some, None, if◌then◌else◌}
 use Rattle.sim_types.specs.declared.event.ProcId.{ProcId}
 use Rattle.sim_types.specs.declared.event.Signal.{Signal}
 use Rattle.sim_types.specs.declared.event.Throw.{Throw}
 use Rattle.sim_types.specs.declared.op.Op.{Op}
 use Rattle.sim_types.specs.declared.op.Op.TheVariants as op
 use Rattle.sim_types.specs.declared.script.Arith.TheVariants as arith
+use Rattle.sim_procs.specs.QuietPolls.{ByWayOf, told_after}
 use Rattle.sim_script_model.specs.Arithmetic.{Answer, Number, Error, compute, is_equal}
 use Rattle.sim_shop.specs.Shop.{crews_of}
 use Rattle.sim_native.specs.ShopMembers.{BreakerOf, MachineOf, FillerOf, ChiefOf}
@@ -238,3 +239,16 @@ shop_turn n me now (stage.Breaker at m) told = of_breaker (breaker_turn at m tol
 shop_turn n me now (stage.Machine at m) told = of_machine (machine_turn me now at m told)
 shop_turn n me now (stage.Filler at m) told = of_filler (filler_turn at m told)
 shop_turn n me now (stage.Chief at m) told = of_chief (chief_turn n at m told)
+
+-- ---- several polls at once
+
+-- so many polls at one time, in each of which a process asks for nothing: in the first it is told this, and in all others that
+-- this is done
+abbrev pub PassesStages : ℕ → ProcId → ℤ → Signal → ℕ → Stage → Stage → Type 0
+PassesStages n me now told zero old new = new ≡ old
+PassesStages n me now told (suc count) old new =
+    ByWayOf (PassesStages n me now told count old) (λ mid. shop_turn n me now mid (told_after count told) ≡ (op.Nop, new))
+
+-- the same whatever its number is, and however many machines there are
+abbrev pub Hurries : ℤ → Signal → ℕ → Stage → Stage → Type 0
+Hurries now told count old new = (n : ℕ) (me : ProcId) → PassesStages n me now told count old new

@@ -1,11 +1,15 @@
 //! The machine shop by hand: machines, a breaker for each, fillers that keep the crews busy, and the chief that starts them.
 ghost use Rattle.std.specs.Prelude.{◌≡◌, ◌<◌, ◌^◌, pos, IsTrue};
+ghost use Rattle.sim_types.specs.Scenarios.{ScenarioOf};
 ghost use Rattle.sim_machine.specs.MayFollow.{may_be_told};
+ghost use Rattle.sim_procs.specs.Premises.{CanBeTold};
+ghost use Rattle.sim_procs.specs.QuietPolls.{QuietPolls};
 ghost use Rattle.sim_script_model.specs.Polls.{script_turn};
+ghost use Rattle.sim_script_law.specs.ScriptMembers.{script_body};
 ghost use Rattle.sim_script.specs.StatementGroups.{asked_where};
 ghost use Rattle.sim_models.specs.Shop.{shop_of};
 ghost use Rattle.sim_native.specs.ShopStages.{script_of, stage_begun, stage_holds, stage_told};
-ghost use Rattle.sim_native.specs.ShopTurns.{shop_turn};
+ghost use Rattle.sim_native.specs.ShopTurns.{Hurries, shop_turn};
 
 mod breaker;
 mod chief;
@@ -112,6 +116,21 @@ impl ShopBody {
         keep_value(told, &mut self.val);
         asks
     }
+
+    /// Makes the polls at once in which it asks for nothing, but fewer than so many; in the first it is told this. How many it
+    /// made.
+    fn hurry(&mut self, now: i64, told: Signal, most: u32) -> u32
+        requires some { 0 < most }
+        ensures few { result < most }
+        ensures polls { (x : ScenarioOf) → CanBeTold script_body x self.old told
+            → QuietPolls script_body x now told result self.old self.new }
+    {
+        let passed = hurry(&mut self.stage, now, told, most);
+        if passed > 0 {
+            keep_value(told, &mut self.val);
+        }
+        passed
+    }
 }
 
 /// A process goes on, told this. Whether it asks for an operation, which is written then.
@@ -131,6 +150,20 @@ fn go_on(
         Stage::Machine(at, machine) => machine.turn(at, me, now, told, asked),
         Stage::Filler(at, filler) => filler.turn(at, told, asked),
         Stage::Chief(at, chief) => chief.turn(at, machines, told, asked),
+    }
+}
+
+/// A process passes the stages at once in which it asks for nothing, but fewer than so many; in the first it is told this. How
+/// many it passed.
+fn hurry(stage: &mut Stage, now: i64, told: Signal, most: u32) -> u32
+    requires some { 0 < most }
+    ensures few { result < most }
+    ensures passes { Hurries now told result stage.old stage.new }
+{
+    match stage {
+        Stage::Machine(at, machine) => machine.hurry(at, now, told, most),
+        Stage::Filler(at, filler) => filler.hurry(at, told, most),
+        Stage::Breaker(..) | Stage::Chief(..) => 0,
     }
 }
 
@@ -201,12 +234,12 @@ impl Body for ShopBody {
         asked: &mut Op,
     ) -> u32 {
         let machines = code.machines();
-        let mut told = signal;
-        let mut quiet = 0;
+        let mut quiet = self.hurry(now, signal, most);
+        let mut told = if quiet > 0 { Signal::Done } else { signal };
         while !self.turn(machines, now, told, asked) {
             quiet += 1;
             if quiet == most {
-                *asked = Op::Nop;
+                ask_for_nothing(asked);
                 return quiet;
             }
             told = Signal::Done;
@@ -231,6 +264,15 @@ impl Body for ShopBody {
         let _machines = code.machines();
         told_place(&self.stage)
     }
+}
+
+/// Asks for nothing. It is rare, and an operation is large, so it is not put in.
+#[cold]
+#[inline(never)]
+fn ask_for_nothing(asked: &mut Op)
+    ensures { asked.new ≡ Op.Nop }
+{
+    *asked = Op::Nop;
 }
 
 /// How a process of a kind begins with these arguments: a breaker has its machine, and a machine its number.

@@ -4,11 +4,11 @@
 
 ghost use Rattle.std.specs.Prelude.{◌≡◌, ◌≤◌};
 
-use sim_kernel::{Unit, Walk};
+use sim_kernel::{Kernel, Rest, Unit, empty_end};
 use sim_models::Model;
 use sim_native::{ShopBody, ShopCode, shop_setup};
 use sim_trace::{LineBuf, render_load};
-use sim_types::{Line, Summary};
+use sim_types::{End, Line, Summary, Until};
 use std::alloc::{AllocError, Global};
 use std::io::Write;
 use std::process::ExitCode;
@@ -47,11 +47,11 @@ fn run_shop(alloc: Global, size: u32) -> Result<Summary, AllocError>
 {
     let code = ShopCode::new(size);
     let setup = shop_setup(alloc, size)?;
-    let seed = Model::Shop.seed();
-    let mut walk = Walk::<ShopBody>::new(alloc, &code, &setup, seed, &[], MOST_UNITS)?;
+    let mut kernel = Kernel::<ShopBody>::new(alloc, &code, &setup, Model::Shop.seed())?;
     let mut logs = Logs { count: 0, sum: 0 };
-    let made = make_units(&code, &mut walk, &mut logs);
-    let (end, time, processed) = walk.finish();
+    let made = make_units(&code, &mut kernel, &mut logs);
+    let end = end_of(kernel.rest(), setup.until);
+    let (time, processed) = kernel.finish();
     made?;
     Ok(Summary {
         end,
@@ -62,6 +62,15 @@ fn run_shop(alloc: Global, size: u32) -> Result<Summary, AllocError>
     })
 }
 
+/// How a run ends that stands so and makes no more units.
+fn end_of(rest: Rest, until: Until) -> End {
+    match rest {
+        Rest::Busy | Rest::Idle => End::Limit,
+        Rest::Empty => empty_end(until),
+        Rest::Over(why) => why,
+    }
+}
+
 /// The numbers that machines logged: how many there are, and their sum.
 #[derive(Drop)]
 struct Logs {
@@ -69,18 +78,19 @@ struct Logs {
     sum: i128,
 }
 
-/// Makes all units of a run, and counts what is logged.
+/// Makes all units of a run that was just opened, and counts what is logged.
 fn make_units(
     code: &ShopCode,
-    walk: &mut Walk<'_, ShopBody>,
+    kernel: &mut Kernel<ShopBody>,
     logs: &mut Logs,
 ) -> Result<(), AllocError>
-    requires code { code.now ≡ walk.old.kernel.parts.code }
+    requires code { code.now ≡ kernel.old.parts.code }
+    requires units { kernel.old.units ≡ 0 }
 {
-    for _round in 0..MOST_UNITS {
-        let Some(units) = walk.units(code)? else {
-            break;
-        };
+    let mut left = MOST_UNITS;
+    while left > 0 && matches!(kernel.rest(), Rest::Busy | Rest::Idle) {
+        let units = kernel.units(code, left)?;
+        left -= units.made;
         if let Unit::Line(Line::Log { value, .. }) = units.last {
             logs.count = logs.count.saturating_add(1);
             logs.sum = logs.sum.saturating_add(i128::from(value));

@@ -45,6 +45,14 @@ pub(super) fn finished(time: i64, number: u64, process: u64, value: i64) -> Line
     )
 }
 
+pub(super) fn request(time: i64, number: u64, event: u64) -> Line {
+    line(time, 1, number, EventKind::Request, event, Outcome::Ok(0))
+}
+
+pub(super) fn release(time: i64, number: u64, event: u64) -> Line {
+    line(time, 1, number, EventKind::Release, event, Outcome::Ok(0))
+}
+
 pub(super) fn log(time: i64, process: u64, value: i64) -> Line {
     Line::Log {
         time,

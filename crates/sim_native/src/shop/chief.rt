@@ -84,7 +84,9 @@ impl Chief {
         }
     }
 
-    /// Goes on in a shop of so many machines, told this. Whether it asks for an operation, which is written then.
+    /// Goes on in a shop of so many machines, told this. Whether it asks for an operation, which is written then. It is rare,
+    /// and the arguments of those that it starts are large.
+    #[inline(never)]
     pub(crate) fn turn(
         &mut self,
         at: &mut ChiefAt,

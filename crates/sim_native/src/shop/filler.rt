@@ -1,9 +1,10 @@
 //! A filler: other work for a crew.
-ghost use Rattle.std.specs.Prelude.{◌≡◌};
+ghost use Rattle.std.specs.Prelude.{◌≡◌, ◌<◌, ℤ};
 ghost use Rattle.sim_script.specs.StatementGroups.{asked_where};
 ghost use Rattle.sim_native.specs.ShopMembers.{no_throw};
 ghost use Rattle.sim_native.specs.ShopStages.{filler_told};
-ghost use Rattle.sim_native.specs.ShopTurns.{filler_asks, filler_next, filler_thrown, filler_turn};
+ghost use Rattle.sim_native.specs.declared.shop.Stage.TheVariants as stage;
+ghost use Rattle.sim_native.specs.ShopTurns.{Hurries, filler_asks, filler_next, filler_thrown, filler_turn};
 
 use crate::told::{event_by, thrown_by};
 use sim_types::{EventId, Op, Signal, Throw};
@@ -116,6 +117,23 @@ impl Filler {
             }
         }
         false
+    }
+
+    /// Passes the stages at once in which it asks for nothing, but fewer than so many; in the first it is told this. How many it
+    /// passed.
+    pub(crate) fn hurry(&self, at: &mut FillerAt, told: Signal, most: u32) -> u32
+        requires some { 0 < most }
+        ensures few { result < most }
+        ensures passes { (time : ℤ) → Hurries time told result
+            (stage.Filler at.old self.now) (stage.Filler at.new self.now) }
+    {
+        match (*at, told) {
+            (FillerAt::CrewLeft, Signal::Done) if 3 < most => {
+                *at = FillerAt::WantsCrew;
+                3
+            }
+            _ => 0,
+        }
     }
 
     /// Goes on, and asks for an operation.

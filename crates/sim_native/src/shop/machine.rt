@@ -1,12 +1,14 @@
 //! A machine: it makes one part after the other. When it is broken it waits to be mended, and goes on with what is left of
 //! the part.
-ghost use Rattle.std.specs.Prelude.{◌≡◌, ◌<◌, ◌^◌, pos};
+ghost use Rattle.std.specs.Prelude.{◌≡◌, ◌<◌, ◌^◌, ◌∷◌, [], pos};
+ghost use Rattle.sim_types.specs.declared.op.Op.TheVariants as op;
 ghost use Rattle.sim_types.specs.declared.script.Arith.TheVariants as arith;
-ghost use Rattle.sim_script_model.specs.Arithmetic.{compute};
+ghost use Rattle.sim_script_model.specs.Arithmetic.{compute, is_equal};
 ghost use Rattle.sim_script.specs.StatementGroups.{asked_where};
 ghost use Rattle.sim_native.specs.ShopMembers.{no_process, no_throw};
 ghost use Rattle.sim_native.specs.ShopStages.{machine_error, machine_told};
-ghost use Rattle.sim_native.specs.ShopTurns.{machine_added, machine_leaves, machine_looks, machine_next, machine_next_with_crew, machine_passes, machine_subtracted, machine_thrown, machine_turn};
+ghost use Rattle.sim_native.specs.declared.shop.Stage.TheVariants as stage;
+ghost use Rattle.sim_native.specs.ShopTurns.{Hurries, machine_added, machine_leaves, machine_looks, machine_next, machine_next_with_crew, machine_passes, machine_subtracted, machine_thrown, machine_turn};
 
 use crate::told::{event_by, number_by, thrown_by};
 use sim_types::{Args, EMPTY_RANGE, ERROR, EventId, OVERFLOW, Op, ProcId, Signal, Throw};
@@ -190,10 +192,8 @@ impl Machine {
     {
         match *at {
             MachineAt::Starts => {
-                let mut args = Args::new();
-                args.push(me.0 as i64);
                 self.given = Snapshot::of(&me);
-                *asked = Op::Spawn(0, args);
+                spawn_breaker(me, asked);
                 *at = MachineAt::HasBreaker;
             }
             MachineAt::NextPart => {
@@ -265,12 +265,12 @@ impl Machine {
             MachineAt::NoneLeft => MachineAt::LeavesLoop,
             MachineAt::LeavesLoop => MachineAt::PartMade,
             MachineAt::GoesOn => {
-                self.since = now;
+                self.note_time(now);
                 MachineAt::NotedTime
             }
             MachineAt::NotedTime => MachineAt::Ready,
             MachineAt::Works => {
-                self.left = 0;
+                self.finish_part();
                 MachineAt::Finished
             }
             MachineAt::Broken => self.add(),
@@ -288,11 +288,72 @@ impl Machine {
         }
     }
 
+    /// Passes the stages at once in which it asks for nothing, but fewer than so many; in the first it is told this. How many it
+    /// passed.
+    pub(crate) fn hurry(&mut self, at: &mut MachineAt, now: i64, told: Signal, most: u32) -> u32
+        requires some { 0 < most }
+        ensures few { result < most }
+        ensures passes { Hurries now told result
+            (stage.Machine at.old self.old) (stage.Machine at.new self.new) }
+    {
+        match (*at, told) {
+            (MachineAt::SaidNumber, Signal::Done) if 1 < most => {
+                *at = MachineAt::NextPart;
+                1
+            }
+            (MachineAt::Draws, Signal::Number(left)) if !is_made(left) && 5 < most => {
+                self.start_part(left, now);
+                *at = MachineAt::Ready;
+                5
+            }
+            (MachineAt::Works, Signal::Value(_)) if 6 < most => {
+                self.finish_part();
+                *at = MachineAt::PartMade;
+                6
+            }
+            (MachineAt::CrewLeft, Signal::Done) if !self.none_left() && 7 < most => {
+                self.note_time(now);
+                *at = MachineAt::Ready;
+                7
+            }
+            _ => 0,
+        }
+    }
+
+    /// Works on a part that takes so long, since now.
+    fn start_part(&mut self, length: i64, now: i64)
+        ensures { self.new ≡ record self.old { left = length; since = now } }
+    {
+        self.left = length;
+        self.since = now;
+    }
+
+    /// Notes since when it works on its part.
+    fn note_time(&mut self, now: i64)
+        ensures { self.new ≡ record self.old { since = now } }
+    {
+        self.since = now;
+    }
+
+    /// Has nothing left of its part.
+    fn finish_part(&mut self)
+        ensures { self.new ≡ record self.old { left = pos 0 } }
+    {
+        self.left = 0;
+    }
+
+    /// Whether nothing of its part is left.
+    fn none_left(&self) -> bool
+        ensures { result ≡ is_equal self.now.left (pos 0) }
+    {
+        is_made(self.left)
+    }
+
     /// Looks whether something of its part is left.
     fn look(&self) -> MachineAt
         ensures { (result, self.now) ≡ machine_looks self.now }
     {
-        if self.left == 0 {
+        if self.none_left() {
             MachineAt::NoneLeft
         } else {
             MachineAt::SomeLeft
@@ -370,6 +431,24 @@ impl Machine {
             }
         }
     }
+}
+
+/// Whether a part is made of which so much is left.
+fn is_made(left: i64) -> bool
+    ensures { result ≡ is_equal left (pos 0) }
+{
+    left == 0
+}
+
+/// Asks for a breaker of the machine that has this number. It is rare, and its arguments are large.
+#[inline(never)]
+fn spawn_breaker(machine: ProcId, asked: &mut Op)
+    requires { machine.0 < 2 ^ 63 }
+    ensures { asked.new ≡ op.Spawn 0 (pos machine.0 ∷ []) }
+{
+    let mut args = Args::new();
+    args.push(machine.0 as i64);
+    *asked = Op::Spawn(0, args);
 }
 
 /// The error that a machine ends by.

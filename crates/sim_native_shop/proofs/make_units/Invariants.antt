@@ -1,6 +1,9 @@
-use Rattle.std.proofs.Common.{◌≡◌}
+use Rattle.std.proofs.Common.{◌≡◌, ◌≤◌, ◌+◌}
 use Rattle.sim_native_shop.proofs.make_units.Given as goal
 
--- the walk is over the code that it was opened with
-abbrev pub invariant-loop-round : goal.invariant-loop-round
-invariant-loop-round l = record { code : l.fn.code ≡ l.walk.kernel.parts.code }
+-- the kernel keeps its code, and no more units are made than may be
+abbrev pub invariant-loop-left : goal.invariant-loop-left
+invariant-loop-left l = record { code : l.fn.code ≡ l.kernel.parts.code; units : l.kernel.units + l.left ≤ 10000000 }
+
+abbrev pub decreases-loop-left : goal.decreases-loop-left
+decreases-loop-left l = l.left
