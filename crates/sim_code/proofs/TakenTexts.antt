@@ -1,7 +1,8 @@
 -- The bytes that a call has taken say as much as the text that the source has.
 --     text_of          the text: what the source told, or else the bytes taken
 --     same_reading     it says what the bytes taken say
-use Rattle.std.proofs.Common.{◌≡◌, ℕ, ◌+◌, ◌<◌, Bool, true, false, List, length, take, refl, sym, ap, ◌∙◌, Option, None, Some, Err, arith}
+--     same_or_long     it is the bytes taken, or both are too long
+use Rattle.std.proofs.Common.{◌≡◌, ℕ, ◌+◌, ◌<◌, Bool, true, false, List, length, take, refl, sym, ap, ◌∙◌, Option, None, Some, Err, ◌⊎◌, inl, inr, arith}
 use Rattle.std.specs.Prelude.{nat_le, if◌then◌else◌, IfSome}
 use Rattle.std.proofs.lemmas.Bool.{false≢true}
 use Rattle.std.proofs.lemmas.Bool.Decides.{nat_tests}
@@ -16,11 +17,11 @@ use Rattle.sim_outside.specs.Reads.{TakesFirst}
 
 -- ---- a text that is too long
 
-abbrev too_long : Fault
+abbrev pub too_long : Fault
 too_long = record { line = 0; kind = fault.TooLong }
 
 -- its first fault is its length
-long_refused : (text : List ℕ) → most_bytes < length text → reads text ≡ Err too_long
+pub long_refused : (text : List ℕ) → most_bytes < length text → reads text ≡ Err too_long
 long_refused text long = by (is_too_long text) (grind (arith, nat_tests))
   where
     by : (b : Bool) → b ≡ true → (if b then Err too_long else reads_text (whole_text (lines text)) (lines text)) ≡ Err too_long
@@ -52,3 +53,18 @@ pub same_reading : (left rest : Option (List ℕ)) (bytes : List ℕ) → TakesF
 unfolding text_of
 same_reading None rest bytes takes = refl
 same_reading (Some left) rest bytes takes = ap reads takes.0 ∙ reads_front left
+
+-- the bytes taken are the text, or both are too long
+pub same_or_long : (left rest : Option (List ℕ)) (bytes : List ℕ) → TakesFirst (most_bytes + 1) left rest bytes
+    → (bytes ≡ text_of left bytes) ⊎ ((most_bytes < length bytes) × (most_bytes < length (text_of left bytes)))
+unfolding text_of
+same_or_long None rest bytes takes = inl refl
+same_or_long (Some left) rest bytes takes = by (nat_le (length left) (most_bytes + 1)) refl
+  where
+    by : (b : Bool) → nat_le (length left) (most_bytes + 1) ≡ b → (bytes ≡ left) ⊎ ((most_bytes < length bytes) × (most_bytes < length left))
+    by true short = inl (takes.0 ∙ take_all (most_bytes + 1) left (grind (arith, nat_tests)))
+    by false long =
+        let more : most_bytes < length left = grind (arith, nat_tests, long) in
+        let taken : most_bytes < length (take (most_bytes + 1) left) =
+        grind (arith, nat_tests, length-take-le (most_bytes + 1) left (grind (arith, nat_tests))) in
+        inr (rw takes.0 taken, more)

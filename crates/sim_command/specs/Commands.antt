@@ -3,7 +3,7 @@
 --     live_limit words   how many units a live run may make, if the words ask for one
 use Rattle.std.specs.Prelude.{ℕ, Bool, true, false, if◌then◌else◌, List, [], ◌∷◌, codes, Option, Some, None, option_map}
 use Rattle.sim_command.specs.declared.commands.Command.{Command}
-use Rattle.sim_command.specs.declared.commands.Command.TheVariants.{Check, Run, Batch, Watch, Load, Native}
+use Rattle.sim_command.specs.declared.commands.Command.TheVariants.{Check, Run, Batch, Watch, Verify, Load, Native}
 use Rattle.sim_language.specs.Lines.{Word, same}
 use Rattle.sim_language.specs.Numbers.{decimal_within}
 use Rattle.sim_models.specs.declared.texts.Model.{Model}
@@ -44,6 +44,7 @@ abbrev pub command_with_number : Word → Word → Option Command
 command_with_number name number =
     if same name (codes "run") then option_map Run (decimal_within 1 most_units number)
     else if same name (codes "watch") then option_map Watch (decimal_within 1 most_units number)
+    else if same name (codes "verify") then option_map Verify (decimal_within 1 most_units number)
     else if same name (codes "load") then option_map Load (decimal_within 1 most_machines number)
     else None
 
@@ -54,7 +55,7 @@ command_with_two name first second =
     else if same name (codes "native") then native_of (model_named first) (decimal_within 1 most_units second)
     else None
 
--- `check`, `run LIMIT`, `watch LIMIT`, `load SIZE`, `batch COUNT LIMIT`, or `native MODEL LIMIT`
+-- `check`, `run LIMIT`, `watch LIMIT`, `verify LIMIT`, `load SIZE`, `batch COUNT LIMIT`, or `native MODEL LIMIT`
 abbrev pub command : List Word → Option Command
 command (name ∷ []) = if same name (codes "check") then Some Check else None
 command (name ∷ number ∷ []) = command_with_number name number
@@ -67,6 +68,7 @@ is_on_text Check = true
 is_on_text (Run limit) = true
 is_on_text (Batch count limit) = true
 is_on_text (Watch limit) = true
+is_on_text (Verify limit) = true
 is_on_text (Load size) = false
 is_on_text (Native m limit) = false
 

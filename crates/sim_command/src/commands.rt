@@ -13,6 +13,8 @@ pub enum Command {
     Batch { count: u32, limit: u32 },
     /// What is measured at each resource over the text's run, of so many units at most.
     Watch(u32),
+    /// Whether the trace after the text's scenario is that of its run, of so many units at most.
+    Verify(u32),
     /// What the run of a machine shop with so many machines comes to. No text is read.
     Load(u32),
     /// The trace of the run of a model that is written by hand, of so many units at most. No text is read.

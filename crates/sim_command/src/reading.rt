@@ -36,6 +36,10 @@ pub fn command(words: &[Word]) -> Option<Command>
             let limit = number_within(most_units(), number)?;
             Some(Command::Watch(limit))
         }
+        [name, number] if name.bytes() == b"verify".as_slice() => {
+            let limit = number_within(most_units(), number)?;
+            Some(Command::Verify(limit))
+        }
         [name, number] if name.bytes() == b"load".as_slice() => {
             let size = number_within(MOST_MACHINES, number)?;
             Some(Command::Load(size))
@@ -72,7 +76,11 @@ impl Command {
         ensures { result ≡ is_on_text self.now }
     {
         match self {
-            Command::Check | Command::Run(_) | Command::Batch { .. } | Command::Watch(_) => true,
+            Command::Check
+            | Command::Run(_)
+            | Command::Batch { .. }
+            | Command::Watch(_)
+            | Command::Verify(_) => true,
             Command::Load(_) | Command::Native(..) => false,
         }
     }

@@ -1,5 +1,5 @@
 -- What a call on a text has written and answers.
-use Rattle.std.proofs.Common.{◌≡◌, ◌≢◌, ℕ, ◌+◌, ◌^◌, ◌<◌, true, false, List, [], refl, sym, subst, ap, ◌∙◌, Option, Some, Result, Ok, Err}
+use Rattle.std.proofs.Common.{◌≡◌, ◌≢◌, ℕ, ◌+◌, ◌^◌, ◌<◌, true, false, List, [], refl, sym, subst, ap, ◌∙◌, Option, Some, Result, Ok, Err, ◌⊎◌, inl, inr, length}
 use Rattle.std.specs.Prelude.{IfSome, IsOk, IsTrue}
 use Rattle.std.specs.Io.KnownBytes.{Appends}
 use Rattle.std.proofs.KnownBytes.{Appends-nil}
@@ -7,7 +7,7 @@ use Rattle.std.proofs.lemmas.Bool.{false≢true}
 use Rattle.sim_types.specs.Limits.{most_bytes}
 use Rattle.sim_types.specs.Scenarios.{ScenarioOf}
 use Rattle.sim_language.specs.Reads.{reads}
-use Rattle.sim_code.proofs.TakenTexts.{text_of, text_told, same_reading}
+use Rattle.sim_code.proofs.TakenTexts.{long_refused, same_or_long, text_of, text_told, too_long}
 use Rattle.sim_command.specs.declared.commands.Command.{Command}
 use Rattle.sim_command.specs.declared.commands.Command.TheVariants as command
 use Rattle.sim_command.specs.Commands.{most_units, is_on_text}
@@ -30,36 +30,67 @@ use Rattle.sim_engine.specs.Throughout.{IsInOrderThroughout}
 use Rattle.sim_engine.proofs.InOrder.{in_order}
 use Rattle.sim_desk.specs.Answers.{IsInOrderFor, AnswersWhole, AnswersPrefix}
 use Rattle.sim_engine.specs.RunOfScenario.{end_of_scenario, printed_trace}
-use Rattle.sim_desk.specs.Headline.{text_for, answer_to, answer_of, status_to, status_of}
+use Rattle.sim_desk.specs.Headline.{text_for, said_to, given_to, answer_to, answer_on, answer_of, status_to, status_of}
+use Rattle.sim_trace.specs.Texts.{fault_text}
 use Rattle.sim_desk.proofs.Arriving.{has_ports}
+use Rattle.sim_desk.proofs.TextsWithTraces.{long_refused_with_trace, read_before_trace}
 
 -- ---- the text that was read
 
--- the text that a command is on says as much by the bytes taken as by the text
+-- two texts say as much to a command, and are answered alike
+record SaysAsMuch (asked : Command) (text other : List ℕ) : Type 0 where
+  said : said_to asked (text_for asked text) ≡ said_to asked (text_for asked other)
+  answer : answer_of asked text ≡ answer_of asked other
+
+said_alike : (asked : Command) (text other : List ℕ) → text ≡ other → SaysAsMuch asked text other
+said_alike asked text other same =
+    record { said = ap (λ t. said_to asked (text_for asked t)) same; answer = ap (answer_of asked) same }
+
+-- a text that is too long is refused for any command that is on a text
+refused_by : (asked : Command) (text : List ℕ) → said_to asked (text_for asked text) ≡ Err too_long → answer_of asked text ≡ fault_text too_long
+refused_by asked text said = ap (answer_to asked (given_to asked (text_for asked text))) said
+
+both_refused : (asked : Command) (text other : List ℕ) → said_to asked (text_for asked text) ≡ Err too_long
+    → said_to asked (text_for asked other) ≡ Err too_long → SaysAsMuch asked text other
+both_refused asked text other first second =
+    record { said = first ∙ sym second; answer = refused_by asked text first ∙ sym (refused_by asked other second) }
+
+both_long : (asked : Command) (text other : List ℕ) → most_bytes < length text → most_bytes < length other → SaysAsMuch asked text other
+both_long command.Check text other a b = both_refused command.Check text other (long_refused text a) (long_refused other b)
+both_long (command.Run limit) text other a b = both_refused (command.Run limit) text other (long_refused text a) (long_refused other b)
+both_long (command.Batch count limit) text other a b =
+    both_refused (command.Batch count limit) text other (long_refused text a) (long_refused other b)
+both_long (command.Watch limit) text other a b = both_refused (command.Watch limit) text other (long_refused text a) (long_refused other b)
+both_long (command.Verify limit) text other a b =
+    both_refused (command.Verify limit) text other (long_refused_with_trace text a) (long_refused_with_trace other b)
+both_long (command.Load size) text other a b = record { said = refl; answer = refl }
+both_long (command.Native model limit) text other a b = record { said = refl; answer = refl }
+
+-- so do the bytes taken and the text
 same_for : (asked : Command) (left rest : Option (List ℕ)) (text bytes : List ℕ) → TakesFirst (most_bytes + 1) left rest bytes → text ≡ bytes
-    → reads (text_for asked text) ≡ reads (text_for asked (text_of left bytes))
-same_for command.Check left rest text bytes takes held = ap reads held ∙ same_reading left rest bytes takes
-same_for (command.Run limit) left rest text bytes takes held = ap reads held ∙ same_reading left rest bytes takes
-same_for (command.Batch count limit) left rest text bytes takes held = ap reads held ∙ same_reading left rest bytes takes
-same_for (command.Watch limit) left rest text bytes takes held = ap reads held ∙ same_reading left rest bytes takes
-same_for (command.Load size) left rest text bytes takes held = refl
-same_for (command.Native model limit) left rest text bytes takes held = refl
+    → SaysAsMuch asked text (text_of left bytes)
+same_for asked left rest text bytes takes held = by (same_or_long left rest bytes takes)
+  where
+    by : (bytes ≡ text_of left bytes) ⊎ ((most_bytes < length bytes) × (most_bytes < length (text_of left bytes))) → SaysAsMuch asked text (text_of left bytes)
+    by (inl same) = said_alike asked text (text_of left bytes) (held ∙ same)
+    by (inr long) = rw held (both_long asked bytes (text_of left bytes) long.0 long.1)
 
 -- a command that is on no text is on the same whatever is read
-unread_for : (asked : Command) (text other : List ℕ) → is_on_text asked ≡ false → reads (text_for asked text) ≡ reads (text_for asked other)
+unread_for : (asked : Command) (text other : List ℕ) → is_on_text asked ≡ false → SaysAsMuch asked text other
 unread_for command.Check text other unread = absurd (false≢true (sym unread))
 unread_for (command.Run limit) text other unread = absurd (false≢true (sym unread))
 unread_for (command.Batch count limit) text other unread = absurd (false≢true (sym unread))
 unread_for (command.Watch limit) text other unread = absurd (false≢true (sym unread))
-unread_for (command.Load size) text other unread = refl
-unread_for (command.Native model limit) text other unread = refl
+unread_for (command.Verify limit) text other unread = absurd (false≢true (sym unread))
+unread_for (command.Load size) text other unread = record { said = refl; answer = refl }
+unread_for (command.Native model limit) text other unread = record { said = refl; answer = refl }
 
 -- `load` is on the text of the machine shop
 module _ (asked : Command) (size : ℕ) (shop text : List ℕ) (is : asked ≡ command.Load size) (same : shop ≡ shop_text size) where
-  pub shop_answer : answer_to (command.Load size) (reads shop) ≡ answer_of asked text
+  pub shop_answer : answer_on (command.Load size) shop ≡ answer_of asked text
   shop_answer = rw (is, same) refl
 
-  pub shop_status : status_to (command.Load size) (reads shop) ≡ status_of asked text
+  pub shop_status : status_to (command.Load size) (said_to (command.Load size) shop) ≡ status_of asked text
   shop_status = rw (is, same) refl
 
 -- `native` is on the text of the model
@@ -77,17 +108,18 @@ module _ (asked : Command) (model : Model) (limit : ℕ) (text : List ℕ) (is :
 in_order_of : (s : ScenarioOf) (seed limit : ℕ) (text : List ℕ) → reads text ≡ Ok s → IsInOrderThroughout s seed s.journal limit
 in_order_of s seed limit text is = let well = read_well_formed text s is in in_order s seed s.journal limit well (has_ports s well)
 
-in_order_for : (asked : Command) (text : List ℕ) (read : Result ScenarioOf Fault) → reads text ≡ read → IsInOrderFor asked read
+in_order_for : (asked : Command) (text : List ℕ) (read : Result ScenarioOf Fault) → said_to asked text ≡ read → IsInOrderFor asked read
 in_order_for asked text (Err fault) is = tt
 in_order_for command.Check text (Ok s) is = tt
 in_order_for (command.Run limit) text (Ok s) is = in_order_of s s.seed limit text is
 in_order_for (command.Batch count limit) text (Ok s) is = λ seed. in_order_of s seed limit text is
 in_order_for (command.Watch limit) text (Ok s) is = in_order_of s s.seed limit text is
+in_order_for (command.Verify limit) text (Ok s) is = let part = read_before_trace text s is in in_order_of s s.seed limit part.text part.says
 in_order_for (command.Load size) text (Ok s) is = in_order_of s s.seed most_units text is
 in_order_for (command.Native model limit) text (Ok s) is = in_order_of s s.seed limit text is
 
 module _ (asked : Command) (left : Option (List ℕ)) (text bytes : List ℕ) (old new : SinkOf)
-    (same : reads (text_for asked text) ≡ reads (text_for asked (text_of left bytes))) where
+    (same : SaysAsMuch asked text (text_of left bytes)) where
   -- the answer to a text that says the same
   answer_by : (answer : Status) → Appends old.taken new.taken (answer_of asked text) → answer ≡ status_of asked text
       → AnswersWhole asked left old new answer
@@ -95,9 +127,9 @@ module _ (asked : Command) (left : Option (List ℕ)) (text bytes : List ℕ) (o
       record {
         text = text_of left bytes;
         told = text_told left bytes;
-        written = subst (λ r. Appends old.taken new.taken (answer_to asked r)) same written;
-        status = is ∙ ap (λ r. status_to asked r) same;
-        throughout = in_order_for asked (text_for asked (text_of left bytes)) (reads (text_for asked (text_of left bytes))) refl;
+        written = subst (Appends old.taken new.taken) same.answer written;
+        status = is ∙ ap (λ r. status_to asked r) same.said;
+        throughout = in_order_for asked (text_for asked (text_of left bytes)) (said_to asked (text_for asked (text_of left bytes))) refl;
       }
 
   prefix_by : AppendsPrefix old.taken new.taken (answer_of asked text) → AnswersPrefix asked left old new
@@ -105,7 +137,7 @@ module _ (asked : Command) (left : Option (List ℕ)) (text bytes : List ℕ) (o
       record {
         text = text_of left bytes;
         told = text_told left bytes;
-        written = subst (λ r. AppendsPrefix old.taken new.taken (answer_to asked r)) same written;
+        written = subst (AppendsPrefix old.taken new.taken) same.answer written;
       }
 
 -- an answer to the bytes taken, which the text holds, is one to the text that was read
@@ -153,12 +185,13 @@ reading_whole command.Check (Ok s) = refl
 reading_whole (command.Run limit) (Ok s) = end_whole (end_of_scenario s limit)
 reading_whole (command.Batch count limit) (Ok s) = refl
 reading_whole (command.Watch limit) (Ok s) = refl
+reading_whole (command.Verify limit) (Ok s) = refl
 reading_whole (command.Load size) (Ok s) = refl
 reading_whole (command.Native model limit) (Ok s) = end_whole (end_of_scenario s limit)
 
 -- where nothing fails, the answer is whole
 pub status_whole : (asked : Command) (text : List ℕ) → IsTrue (is_whole (status_of asked text))
-status_whole asked text = reading_whole asked (reads (text_for asked text))
+status_whole asked text = reading_whole asked (said_to asked (text_for asked text))
 
 -- so what it answers is no status that comes after less
 pub told_whole : (asked : Command) (text : List ℕ) (answer other : Status) → answer ≡ status_of asked text → answer ≡ other → IsTrue (is_whole other)

@@ -34,7 +34,8 @@ pub fn desk<S: Source, K: Sink, R: Threads + Sync, G: Gate + Sync>(
     // What is printed is the answer to the command on the text, and the status is that of it: for `run LIMIT` the trace of
     // the machine on the scenario that the text says, for `batch COUNT LIMIT` what so many runs of it come to, each with a
     // seed of its own, and their sums, for `watch LIMIT` what is measured at each resource over its run, and how that ends,
-    // for `check` that it says one, and else its first fault; for `load SIZE` what the run of the machine shop of this size
+    // for `verify LIMIT` whether the trace after the scenario is that of its run, and else the first line that differs, for
+    // `check` that it says one, and else its first fault; for `load SIZE` what the run of the machine shop of this size
     // comes to; for `native MODEL LIMIT` the trace of the machine on what the model's text says. Throughout a run, and
     // throughout that of the shop or of a model, no capacity is exceeded, levels are openings plus puts minus gets, and no
     // process that has ended is resumed or waits for a request.

@@ -25,7 +25,7 @@ use Rattle.sim_engine.proofs.RunCourses.{units_are_steps, under_way_for}
 
 -- ---- what comes next
 
-turn_is_idle : (t : Turn) (processed : ℕ) (left : List Arrival) → next_of t processed left ≡ next.Turn → t ≡ turn.Idle
+pub turn_is_idle : (t : Turn) (processed : ℕ) (left : List Arrival) → next_of t processed left ≡ next.Turn → t ≡ turn.Idle
 turn_is_idle turn.Idle processed left h = refl
 turn_is_idle turn.Empty processed [] h = absurd (cc)
 turn_is_idle turn.Empty processed (a ∷ left) h = absurd (cc)
@@ -127,7 +127,7 @@ module _ (s : ScenarioOf) (seed : ℕ) (journal : List Arrival) where
         let idle : next_of turn.Idle old.parts.processed left ≡ next.Turn = subst (λ t. next_of t old.parts.processed left ≡ next.Turn) (turn_is_idle (turn_of old) old.parts.processed left comes) comes in
         rw h.left_is (none_due m.state old.parts.processed left (idle_then comes) h.at.stands.processed idle)
 
-    open_then : next_of (turn_of old) old.parts.processed left ≡ next.Turn → end_of r.plan m ≡ None
+    pub open_then : next_of (turn_of old) old.parts.processed left ≡ next.Turn → end_of r.plan m ≡ None
     open_then comes = let idle = idle_then comes in goes_on_idle r.plan m.state m.left (calendar m.state).agenda idle.control idle.agenda
 
     busy_then : (k : ℕ) → IsBusyBetween old.parts k m.state → (i : ℕ) → 0 < i → i < k → is_processing (steps r.plan r.turn i m.state).control ≡ true
@@ -189,7 +189,7 @@ module _ (s : ScenarioOf) (seed : ℕ) (journal : List Arrival) where
         let idle = awaited_by a next.awaited in
         rw h.left_is (rw next.first (due_where m.state idle.0 a (drop 1 left) true idle.1 idle.2))
 
-    waits_then : (a : Arrival) → Comes a → end_of r.plan m ≡ None
+    pub waits_then : (a : Arrival) → Comes a → end_of r.plan m ≡ None
     waits_then a comes =
         let next = comes_next (turn_of old) old.parts.processed left a comes in
         let idle = awaited_by a next.awaited in

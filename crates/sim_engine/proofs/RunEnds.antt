@@ -116,7 +116,7 @@ module _ (s : ScenarioOf) (seed : ℕ) (journal left : List Arrival) (x : Sessio
     ends : EndsSo
     ends = ends_at x.refused (rest_in x.parts) refl refl within settled none
 
-    whole : (x.units ≡ x.limit) ⊎ HasEnded r.plan m
+    pub whole : (x.units ≡ x.limit) ⊎ HasEnded r.plan m
     whole = by ends.whole
       where
         by : (x.units ≡ x.limit) ⊎ ((why : End) × (ends.how ≡ Some why)) → (x.units ≡ x.limit) ⊎ HasEnded r.plan m

@@ -8,6 +8,6 @@ mod session;
 
 pub use refusal::refuse;
 pub use report::Report;
-pub use runs::{replicate, run, write_end};
+pub use runs::{Next, next_of, replicate, run, write_end};
 pub use session::{Session, Turn};
 pub use sim_writing::RunFault as EngineFault;

@@ -49,7 +49,7 @@ pub fn run<K: Sink>(
 
 /// What comes next in a run.
 #[derive(Clone, Copy)]
-enum Next {
+pub enum Next {
     /// A turn.
     Turn,
     /// This arrival.
@@ -97,7 +97,7 @@ fn make_units<K: Sink>(
 
 /// What comes next in a run that stands here, where this of its journal is left. An entry arrives where nothing is being
 /// done, and as many events were processed as it says or none is due.
-fn next_of(session: &Session, left: &[Arrival]) -> Next
+pub fn next_of(session: &Session, left: &[Arrival]) -> Next
     ensures { result ≡ next_of (turn_of session.now) session.now.parts.processed left.now }
 {
     match (session.state(), left.first()) {

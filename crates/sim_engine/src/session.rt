@@ -207,31 +207,49 @@ impl Session {
         self.units
     }
 
+    /// How many units may be made.
+    pub fn limit(&self) -> u32
+        ensures { result ≡ self.now.limit }
+    {
+        self.limit
+    }
+
+    /// Tells what it has come to.
+    pub fn report(&self) -> Report
+        ensures report { result ≡ report_of self.now }
+        ensures counts { IsWithin self.now.limit result.summary }
+    {
+        let summary = Summary {
+            end: self.end(),
+            time: self.kernel.now(),
+            processed: self.kernel.processed(),
+            logs: self.logs,
+            total: self.total,
+        };
+        Report {
+            summary,
+            units: self.units,
+        }
+    }
+
     /// Spends it, and tells what it came to.
     pub fn close(self) -> Report
         ensures report { result ≡ report_of self }
         ensures counts { IsWithin self.limit result.summary }
     {
-        let end = self.end();
+        let report = self.report();
         let Session {
             kernel,
             until: _,
-            units,
+            units: _,
             limit: _,
             refused: _,
-            logs,
-            total,
+            logs: _,
+            total: _,
             buffer: _,
         } = self;
-        let (time, processed) = kernel.finish();
-        let summary = Summary {
-            end,
-            time,
-            processed,
-            logs,
-            total,
-        };
-        Report { summary, units }
+        kernel.finish();
+        report
     }
 
     /// How it ends where no more units are made.

@@ -11,6 +11,7 @@ mod say;
 mod setting;
 mod whole_text;
 
+pub use cutting::cut;
 pub use line::{Saying, TextLine};
 pub use lines::Lines;
 pub use operand::{Operand, capacity};

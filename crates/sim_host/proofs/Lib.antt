@@ -1,0 +1,3 @@
+pub mod HostedRuns
+pub mod Openings
+pub mod Stepping

@@ -1,0 +1,5 @@
+pub mod TraceLines
+pub mod Givens
+pub mod Verdicts
+pub mod VerdictTexts
+pub mod Checkers
