@@ -1,7 +1,7 @@
 -- Words that are a command, and words that are none.
 use Rattle.std.specs.Prelude.{◌≡◌, refl, [], ◌∷◌, codes, Some, None}
 use Rattle.sim_command.specs.declared.commands.Command.TheVariants.{Check, Run, Batch, Watch, Load, Native}
-use Rattle.sim_command.specs.Commands.{command, live_limit, most_units}
+use Rattle.sim_command.specs.Commands.{command, hosted_runs, live_limit, most_units}
 use Rattle.sim_models.specs.declared.texts.Model.TheVariants as model
 
 check : command (codes "check" ∷ []) ≡ Some Check
@@ -106,3 +106,22 @@ live_without_limit = refl
 
 run_is_not_live : live_limit (codes "run" ∷ codes "5" ∷ []) ≡ None
 run_is_not_live = refl
+
+host_is_no_command : command (codes "host" ∷ codes "2" ∷ codes "5" ∷ []) ≡ None
+host_is_no_command = refl
+
+most_that_are_hosted : hosted_runs (codes "host" ∷ codes "64" ∷ codes "10000000" ∷ []) ≡ Some (record { count = 64; limit = 10000000 })
+unfolding most_units
+most_that_are_hosted = refl
+
+too_many_to_host : hosted_runs (codes "host" ∷ codes "65" ∷ codes "5" ∷ []) ≡ None
+too_many_to_host = refl
+
+none_to_host : hosted_runs (codes "host" ∷ codes "0" ∷ codes "5" ∷ []) ≡ None
+none_to_host = refl
+
+host_without_limit : hosted_runs (codes "host" ∷ codes "2" ∷ []) ≡ None
+host_without_limit = refl
+
+batch_is_not_hosted : hosted_runs (codes "batch" ∷ codes "2" ∷ codes "5" ∷ []) ≡ None
+batch_is_not_hosted = refl

@@ -1,8 +1,10 @@
 -- The words that the program is called with.
 --     command words      the command, if the words are one
 --     live_limit words   how many units a live run may make, if the words ask for one
+--     hosted_runs words  the runs to be hosted, if the words ask for them
 use Rattle.std.specs.Prelude.{ℕ, Bool, true, false, if◌then◌else◌, List, [], ◌∷◌, codes, Option, Some, None, option_map}
 use Rattle.sim_command.specs.declared.commands.Command.{Command}
+use Rattle.sim_command.specs.declared.commands.HostedRuns.{HostedRuns}
 use Rattle.sim_command.specs.declared.commands.Command.TheVariants.{Check, Run, Batch, Watch, Verify, Load, Native}
 use Rattle.sim_language.specs.Lines.{Word, same}
 use Rattle.sim_language.specs.Numbers.{decimal_within}
@@ -16,6 +18,10 @@ most_units = 10000000
 -- how many runs a batch may have, at most
 abbrev pub most_runs : ℕ
 most_runs = 10000
+
+-- how many runs may be hosted on one thread, at most
+abbrev pub most_hosted : ℕ
+most_hosted = 64
 
 -- how many machines a generated shop may have, at most
 abbrev pub most_machines : ℕ
@@ -76,3 +82,14 @@ is_on_text (Native m limit) = false
 abbrev pub live_limit : List Word → Option ℕ
 live_limit (name ∷ number ∷ []) = if same name (codes "live") then decimal_within 1 most_units number else None
 live_limit words = None
+
+-- `COUNT LIMIT`, of runs to be hosted
+abbrev pub host_of : Option ℕ → Option ℕ → Option HostedRuns
+host_of (Some count) (Some limit) = Some (record { count = count; limit = limit })
+host_of count limit = None
+
+-- `host COUNT LIMIT`, which a call of its own carries out too
+abbrev pub hosted_runs : List Word → Option HostedRuns
+hosted_runs (name ∷ first ∷ second ∷ []) =
+    if same name (codes "host") then host_of (decimal_within 1 most_hosted first) (decimal_within 1 most_units second) else None
+hosted_runs words = None

@@ -12,7 +12,7 @@ exit_after answer = status_code (unwrap_or answer status.Memory)
 abbrev pub usage_after : Option Status → List ℕ
 usage_after None = []
 usage_after (Some status.Ended) = []
-usage_after (Some status.Usage) = codes "usage: simq check | run LIMIT | batch COUNT LIMIT | load SIZE | live LIMIT | watch LIMIT | native MODEL LIMIT | verify LIMIT"
+usage_after (Some status.Usage) = codes "usage: simq check | run LIMIT | batch COUNT LIMIT | load SIZE | live LIMIT | watch LIMIT | native MODEL LIMIT | host COUNT LIMIT | verify LIMIT"
 usage_after (Some status.Refused) = []
 usage_after (Some status.Crash) = []
 usage_after (Some status.Limit) = []

@@ -20,3 +20,10 @@ pub enum Command {
     /// The trace of the run of a model that is written by hand, of so many units at most. No text is read.
     Native(Model, u32),
 }
+
+/// Runs of a text that are hosted as futures on one thread, each of so many units at most.
+#[derive(Clone, Copy)]
+pub struct HostedRuns {
+    pub count: u32,
+    pub limit: u32,
+}

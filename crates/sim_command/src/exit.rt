@@ -17,7 +17,7 @@ pub fn usage_of(answer: Option<Status>) -> &'static str
 {
     match answer {
         Some(Status::Usage) =>
-            "usage: simq check | run LIMIT | batch COUNT LIMIT | load SIZE | live LIMIT | watch LIMIT | native MODEL LIMIT | verify LIMIT",
+            "usage: simq check | run LIMIT | batch COUNT LIMIT | load SIZE | live LIMIT | watch LIMIT | native MODEL LIMIT | host COUNT LIMIT | verify LIMIT",
         Some(
             Status::Ended
             | Status::Refused

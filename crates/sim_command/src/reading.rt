@@ -1,15 +1,18 @@
 //! Which command the words say.
 ghost use Rattle.std.specs.Prelude.{◌≡◌};
-ghost use Rattle.sim_command.specs.Commands.{command, is_on_text, live_limit, model_named, most_units};
+ghost use Rattle.sim_command.specs.Commands.{command, hosted_runs, is_on_text, live_limit, model_named, most_units};
 ghost use Rattle.sim_language.specs.Numbers.{decimal_within};
 
-use crate::commands::Command;
+use crate::commands::{Command, HostedRuns};
 use crate::word::Word;
 use sim_models::Model;
 use sim_words::decimal_within;
 
 /// How many runs a batch may have, at most.
 const MOST_RUNS: u32 = 10_000;
+
+/// How many runs may be hosted on one thread, at most: all of them are in memory at once.
+const MOST_HOSTED: u32 = 64;
 
 /// How many machines a generated shop may have, at most.
 const MOST_MACHINES: u32 = 2_000;
@@ -65,6 +68,20 @@ pub fn live_limit(words: &[Word]) -> Option<u32>
     match words {
         [name, number] if name.bytes() == b"live".as_slice() => {
             number_within(most_units(), number)
+        }
+        _ => None,
+    }
+}
+
+/// The runs to be hosted, if the words ask for them.
+pub fn hosted_runs(words: &[Word]) -> Option<HostedRuns>
+    ensures { result ≡ hosted_runs words.now }
+{
+    match words {
+        [name, runs, units] if name.bytes() == b"host".as_slice() => {
+            let count = number_within(MOST_HOSTED, runs)?;
+            let limit = number_within(most_units(), units)?;
+            Some(HostedRuns { count, limit })
         }
         _ => None,
     }

@@ -1,8 +1,7 @@
 pub mod Arriving
-pub mod Numbering
 pub mod Replicating
 pub mod RowsOfRun
-pub mod Summing
 pub mod TextsWithTraces
 pub mod Telling
+pub mod LongTexts
 pub mod Models

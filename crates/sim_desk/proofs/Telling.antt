@@ -1,16 +1,16 @@
--- What a call on a text has written and answers.
-use Rattle.std.proofs.Common.{◌≡◌, ◌≢◌, ℕ, ◌+◌, ◌^◌, ◌<◌, true, false, List, [], refl, sym, subst, ap, ◌∙◌, Option, Some, Result, Ok, Err, ◌⊎◌, inl, inr, length}
+-- What a command on a text is answered.
+--     shop_answer, shop_status          for `load`
+--     native_answer, native_status      for `native`
+--     answers                           what was written answers the text that was read
+use Rattle.std.proofs.Common.{◌≡◌, ◌≢◌, ℕ, ◌+◌, ◌^◌, ◌<◌, true, false, List, refl, sym, ap, ◌∙◌, Option, Some, Result, Ok, Err}
 use Rattle.std.specs.Prelude.{IfSome, IsOk, IsTrue}
 use Rattle.std.specs.Io.KnownBytes.{Appends}
-use Rattle.std.proofs.KnownBytes.{Appends-nil}
 use Rattle.std.proofs.lemmas.Bool.{false≢true}
-use Rattle.sim_types.specs.Limits.{most_bytes}
 use Rattle.sim_types.specs.Scenarios.{ScenarioOf}
 use Rattle.sim_language.specs.Reads.{reads}
-use Rattle.sim_code.proofs.TakenTexts.{long_refused, same_or_long, text_of, text_told, too_long}
 use Rattle.sim_command.specs.declared.commands.Command.{Command}
 use Rattle.sim_command.specs.declared.commands.Command.TheVariants as command
-use Rattle.sim_command.specs.Commands.{most_units, is_on_text}
+use Rattle.sim_command.specs.Commands.{is_on_text, most_units}
 use Rattle.sim_types.specs.declared.fault.Fault.{Fault}
 use Rattle.sim_command.specs.declared.status.Status.{Status}
 use Rattle.sim_command.specs.declared.status.Status.TheVariants as status
@@ -23,67 +23,17 @@ use Rattle.sim_types.specs.declared.line.End.{End}
 use Rattle.sim_types.specs.declared.line.End.TheVariants as end
 use Rattle.sim_shop.specs.Shop.{shop_text}
 use Rattle.sim_shop.proofs.ShopIsRead.{shop_is_read}
+use Rattle.sim_types.specs.Limits.{most_bytes}
 use Rattle.sim_outside.specs.Reads.{TakesFirst}
 use Rattle.sim_outside.specs.Writes.{AppendsPrefix, SinkOf}
-use Rattle.sim_language_law.proofs.Scenarios.WellFormedTexts.{read_well_formed}
-use Rattle.sim_engine.specs.Throughout.{IsInOrderThroughout}
-use Rattle.sim_engine.proofs.InOrder.{in_order}
-use Rattle.sim_desk.specs.Answers.{IsInOrderFor, AnswersWhole, AnswersPrefix}
 use Rattle.sim_engine.specs.RunOfScenario.{end_of_scenario, printed_trace}
-use Rattle.sim_desk.specs.Headline.{text_for, said_to, given_to, answer_to, answer_on, answer_of, status_to, status_of}
-use Rattle.sim_trace.specs.Texts.{fault_text}
-use Rattle.sim_desk.proofs.Arriving.{has_ports}
-use Rattle.sim_desk.proofs.TextsWithTraces.{long_refused_with_trace, read_before_trace}
-
--- ---- the text that was read
-
--- two texts say as much to a command, and are answered alike
-record SaysAsMuch (asked : Command) (text other : List ℕ) : Type 0 where
-  said : said_to asked (text_for asked text) ≡ said_to asked (text_for asked other)
-  answer : answer_of asked text ≡ answer_of asked other
-
-said_alike : (asked : Command) (text other : List ℕ) → text ≡ other → SaysAsMuch asked text other
-said_alike asked text other same =
-    record { said = ap (λ t. said_to asked (text_for asked t)) same; answer = ap (answer_of asked) same }
-
--- a text that is too long is refused for any command that is on a text
-refused_by : (asked : Command) (text : List ℕ) → said_to asked (text_for asked text) ≡ Err too_long → answer_of asked text ≡ fault_text too_long
-refused_by asked text said = ap (answer_to asked (given_to asked (text_for asked text))) said
-
-both_refused : (asked : Command) (text other : List ℕ) → said_to asked (text_for asked text) ≡ Err too_long
-    → said_to asked (text_for asked other) ≡ Err too_long → SaysAsMuch asked text other
-both_refused asked text other first second =
-    record { said = first ∙ sym second; answer = refused_by asked text first ∙ sym (refused_by asked other second) }
-
-both_long : (asked : Command) (text other : List ℕ) → most_bytes < length text → most_bytes < length other → SaysAsMuch asked text other
-both_long command.Check text other a b = both_refused command.Check text other (long_refused text a) (long_refused other b)
-both_long (command.Run limit) text other a b = both_refused (command.Run limit) text other (long_refused text a) (long_refused other b)
-both_long (command.Batch count limit) text other a b =
-    both_refused (command.Batch count limit) text other (long_refused text a) (long_refused other b)
-both_long (command.Watch limit) text other a b = both_refused (command.Watch limit) text other (long_refused text a) (long_refused other b)
-both_long (command.Verify limit) text other a b =
-    both_refused (command.Verify limit) text other (long_refused_with_trace text a) (long_refused_with_trace other b)
-both_long (command.Load size) text other a b = record { said = refl; answer = refl }
-both_long (command.Native model limit) text other a b = record { said = refl; answer = refl }
-
--- so do the bytes taken and the text
-same_for : (asked : Command) (left rest : Option (List ℕ)) (text bytes : List ℕ) → TakesFirst (most_bytes + 1) left rest bytes → text ≡ bytes
-    → SaysAsMuch asked text (text_of left bytes)
-same_for asked left rest text bytes takes held = by (same_or_long left rest bytes takes)
-  where
-    by : (bytes ≡ text_of left bytes) ⊎ ((most_bytes < length bytes) × (most_bytes < length (text_of left bytes))) → SaysAsMuch asked text (text_of left bytes)
-    by (inl same) = said_alike asked text (text_of left bytes) (held ∙ same)
-    by (inr long) = rw held (both_long asked bytes (text_of left bytes) long.0 long.1)
-
--- a command that is on no text is on the same whatever is read
-unread_for : (asked : Command) (text other : List ℕ) → is_on_text asked ≡ false → SaysAsMuch asked text other
-unread_for command.Check text other unread = absurd (false≢true (sym unread))
-unread_for (command.Run limit) text other unread = absurd (false≢true (sym unread))
-unread_for (command.Batch count limit) text other unread = absurd (false≢true (sym unread))
-unread_for (command.Watch limit) text other unread = absurd (false≢true (sym unread))
-unread_for (command.Verify limit) text other unread = absurd (false≢true (sym unread))
-unread_for (command.Load size) text other unread = record { said = refl; answer = refl }
-unread_for (command.Native model limit) text other unread = record { said = refl; answer = refl }
+use Rattle.sim_answer.specs.Answers.{AnswersPrefix, AnswersWhole}
+use Rattle.sim_answer.proofs.AnswersToTexts.{none_begun, prefix_of, unread_begun, unread_whole, whole_of}
+use Rattle.sim_answer.proofs.ReadRuns.{in_order_of}
+use Rattle.sim_desk.specs.Answers.{IsAnswer, IsInOrderFor, MayWrite}
+use Rattle.sim_desk.proofs.LongTexts.{answered_alike}
+use Rattle.sim_desk.specs.Headline.{text_for, said_to, answer_on, answer_of, status_to, status_of}
+use Rattle.sim_desk.proofs.TextsWithTraces.{read_before_trace}
 
 -- `load` is on the text of the machine shop
 module _ (asked : Command) (size : ℕ) (shop text : List ℕ) (is : asked ≡ command.Load size) (same : shop ≡ shop_text size) where
@@ -102,11 +52,7 @@ module _ (asked : Command) (model : Model) (limit : ℕ) (text : List ℕ) (is :
   pub native_status : status_of_end (end_of_scenario (scenario_of model) limit) ≡ status_of asked text
   native_status = rw (is, says) refl
 
--- ---- what was written
-
--- every state of the run of a text is in order
-in_order_of : (s : ScenarioOf) (seed limit : ℕ) (text : List ℕ) → reads text ≡ Ok s → IsInOrderThroughout s seed s.journal limit
-in_order_of s seed limit text is = let well = read_well_formed text s is in in_order s seed s.journal limit well (has_ports s well)
+-- ---- the answer
 
 in_order_for : (asked : Command) (text : List ℕ) (read : Result ScenarioOf Fault) → said_to asked text ≡ read → IsInOrderFor asked read
 in_order_for asked text (Err fault) is = tt
@@ -118,61 +64,38 @@ in_order_for (command.Verify limit) text (Ok s) is = let part = read_before_trac
 in_order_for (command.Load size) text (Ok s) is = in_order_of s s.seed most_units text is
 in_order_for (command.Native model limit) text (Ok s) is = in_order_of s s.seed limit text is
 
-module _ (asked : Command) (left : Option (List ℕ)) (text bytes : List ℕ) (old new : SinkOf)
-    (same : SaysAsMuch asked text (text_of left bytes)) where
-  -- the answer to a text that says the same
-  answer_by : (answer : Status) → Appends old.taken new.taken (answer_of asked text) → answer ≡ status_of asked text
-      → AnswersWhole asked left old new answer
-  answer_by answer written is =
-      record {
-        text = text_of left bytes;
-        told = text_told left bytes;
-        written = subst (Appends old.taken new.taken) same.answer written;
-        status = is ∙ ap (λ r. status_to asked r) same.said;
-        throughout = in_order_for asked (text_for asked (text_of left bytes)) (said_to asked (text_for asked (text_of left bytes))) refl;
-      }
+-- the answer and its status answer the text
+is_answer : (asked : Command) (text : List ℕ) (status : Status) → status ≡ status_of asked text → IsAnswer asked text (answer_of asked text) status
+is_answer asked text status is =
+    record { written = refl; ended = is; throughout = in_order_for asked (text_for asked text) (said_to asked (text_for asked text)) refl }
 
-  prefix_by : AppendsPrefix old.taken new.taken (answer_of asked text) → AnswersPrefix asked left old new
-  prefix_by written =
-      record {
-        text = text_of left bytes;
-        told = text_told left bytes;
-        written = subst (AppendsPrefix old.taken new.taken) same.answer written;
-      }
+module _ (asked : Command) (left rest : Option (List ℕ)) (text bytes : List ℕ) (old new : SinkOf) (takes : TakesFirst (most_bytes + 1) left rest bytes)
+    (held : text ≡ bytes) where
+  pub whole_answer : (status : Status) → Appends old.taken new.taken (answer_of asked text) → status ≡ status_of asked text
+      → AnswersWhole (IsAnswer asked) left old new status
+  whole_answer status written is =
+      whole_of (MayWrite asked) (IsAnswer asked) (is_on_text asked) (answered_alike asked) left rest text bytes old new takes held _ status written
+      (is_answer asked text status is)
 
--- an answer to the bytes taken, which the text holds, is one to the text that was read
-pub whole_answer : (asked : Command) (left rest : Option (List ℕ)) (text bytes : List ℕ) (old new : SinkOf) (answer : Status)
-    → TakesFirst (most_bytes + 1) left rest bytes → text ≡ bytes → Appends old.taken new.taken (answer_of asked text)
-    → answer ≡ status_of asked text → AnswersWhole asked left old new answer
-whole_answer asked left rest text bytes old new answer takes held written is =
-    answer_by asked left text bytes old new (same_for asked left rest text bytes takes held) answer written is
+  pub prefix_answer : AppendsPrefix old.taken new.taken (answer_of asked text) → AnswersPrefix (MayWrite asked) left old new
+  prefix_answer written =
+      prefix_of (MayWrite asked) (IsAnswer asked) (is_on_text asked) (answered_alike asked) left rest text bytes old new takes held _ written refl
 
-pub prefix_answer : (asked : Command) (left rest : Option (List ℕ)) (text bytes : List ℕ) (old new : SinkOf)
-    → TakesFirst (most_bytes + 1) left rest bytes → text ≡ bytes
-    → AppendsPrefix old.taken new.taken (answer_of asked text) → AnswersPrefix asked left old new
-prefix_answer asked left rest text bytes old new takes held written =
-    prefix_by asked left text bytes old new (same_for asked left rest text bytes takes held) written
+-- where none is read
+module _ (asked : Command) (left : Option (List ℕ)) (text : List ℕ) (old new : SinkOf) (unread : is_on_text asked ≡ false) where
+  pub unread_answer : (status : Status) → Appends old.taken new.taken (answer_of asked text) → status ≡ status_of asked text
+      → AnswersWhole (IsAnswer asked) left old new status
+  unread_answer status written is =
+      unread_whole (MayWrite asked) (IsAnswer asked) (is_on_text asked) (answered_alike asked) left text old new unread _ status written
+      (is_answer asked text status is)
 
--- where none is read, it is one to whatever there was
-pub unread_answer : (asked : Command) (left : Option (List ℕ)) (text : List ℕ) (old new : SinkOf) (answer : Status) → is_on_text asked ≡ false
-    → Appends old.taken new.taken (answer_of asked text) → answer ≡ status_of asked text → AnswersWhole asked left old new answer
-unread_answer asked left text old new answer unread written is =
-    answer_by asked left text [] old new (unread_for asked text (text_of left []) unread) answer written is
-
-pub unread_prefix : (asked : Command) (left : Option (List ℕ)) (text : List ℕ) (old new : SinkOf) → is_on_text asked ≡ false
-    → AppendsPrefix old.taken new.taken (answer_of asked text) → AnswersPrefix asked left old new
-unread_prefix asked left text old new unread written =
-    prefix_by asked left text [] old new (unread_for asked text (text_of left []) unread) written
+  pub unread_prefix : AppendsPrefix old.taken new.taken (answer_of asked text) → AnswersPrefix (MayWrite asked) left old new
+  unread_prefix written =
+      unread_begun (MayWrite asked) (IsAnswer asked) (is_on_text asked) (answered_alike asked) left text old new unread _ written refl
 
 -- nothing written is a prefix of each answer
-pub none_answered : (asked : Command) (left : Option (List ℕ)) (old : SinkOf) → AnswersPrefix asked left old old
-none_answered asked left old =
-    let bytes : List ℕ = answer_of asked (text_of left []) in
-    record {
-      text = text_of left [];
-      told = text_told left [];
-      written = record { rest = bytes; front = record { front = []; parts = refl; appended = Appends-nil old.taken } };
-    }
+pub none_answered : (asked : Command) (left : Option (List ℕ)) (old : SinkOf) → AnswersPrefix (MayWrite asked) left old old
+none_answered asked left old = none_begun (MayWrite asked) (λ text. (answer_of asked text, refl)) left old
 
 -- what is asked of an answer that was told: whole, cut off, or none
 pub ruleset answers = (whole_answer, prefix_answer, unread_answer, unread_prefix, none_answered)

@@ -1,21 +1,11 @@
 -- A text that has a trace after its scenario.
-use Rattle.std.proofs.Common.{◌≡◌, ◌<◌, ℕ, Bool, true, false, List, length, Option, Some, None, Result, Ok, Err, refl, arith}
+use Rattle.std.proofs.Common.{◌≡◌, ℕ, Bool, true, false, List, length, Option, Some, None, Result, Ok, Err}
 use Rattle.std.specs.Prelude.{if◌then◌else◌}
 use Rattle.std.specs.List.{concat}
-use Rattle.std.proofs.lemmas.Bool.Decides.{nat_tests}
-use Rattle.sim_types.specs.Limits.{most_bytes}
 use Rattle.sim_types.specs.Scenarios.{ScenarioOf}
 use Rattle.sim_types.specs.declared.fault.Fault.{Fault}
 use Rattle.sim_language.specs.Reads.{is_too_long, reads}
-use Rattle.sim_code.proofs.TakenTexts.{too_long}
 use Rattle.sim_verify.specs.TraceLines.{fed_lines, reads_parts, reads_with_trace, scenario_lines, trace_lines, unclosed}
-
-is_long : (text : List ℕ) → most_bytes < length text → is_too_long text ≡ true
-is_long text long = grind (arith, nat_tests)
-
--- it is refused where it is too long
-pub long_refused_with_trace : (text : List ℕ) → most_bytes < length text → reads_with_trace text ≡ Err too_long
-long_refused_with_trace text long = rw (is_long text long) refl
 
 -- a text says this scenario
 pub record Says (s : ScenarioOf) : Type 0 where

@@ -1,13 +1,11 @@
--- What a call on a command has written and answered.
-use Rattle.std.specs.Prelude.{◌≡◌, ℕ, List, Option, Result, Ok, Err, IfSome}
-use Rattle.std.specs.Io.KnownBytes.{Appends}
+-- What answers a command on a text.
+use Rattle.std.specs.Prelude.{◌≡◌, ℕ, List, Result, Ok, Err}
 use Rattle.sim_types.specs.Scenarios.{ScenarioOf}
 use Rattle.sim_types.specs.declared.fault.Fault.{Fault}
 use Rattle.sim_command.specs.declared.commands.Command.{Command}
 use Rattle.sim_command.specs.declared.commands.Command.TheVariants.{Check, Run, Batch, Watch, Verify, Load, Native}
 use Rattle.sim_command.specs.Commands.{most_units}
 use Rattle.sim_command.specs.declared.status.Status.{Status}
-use Rattle.sim_outside.specs.Writes.{AppendsPrefix, SinkOf}
 use Rattle.sim_engine.specs.Throughout.{IsInOrderThroughout}
 use Rattle.sim_desk.specs.Headline.{text_for, said_to, answer_of, status_of}
 
@@ -22,18 +20,12 @@ IsInOrderFor (Verify limit) (Ok s) = IsInOrderThroughout s s.seed s.journal limi
 IsInOrderFor (Load size) (Ok s) = IsInOrderThroughout s s.seed s.journal most_units
 IsInOrderFor (Native model limit) (Ok s) = IsInOrderThroughout s s.seed s.journal limit
 
--- the whole answer to the command on a text was written, and the status is that of it; where the source told the bytes
--- left, they are the text
-pub record AnswersWhole (command : Command) (left : Option (List ℕ)) (old new : SinkOf) (answer : Status) : Type 0 where
-  pub text : List ℕ
-  pub told : IfSome left (λ bytes. text ≡ bytes)
-  pub written : Appends old.taken new.taken (answer_of command text)
-  pub status : answer ≡ status_of command text
+-- these bytes answer the command on a text, and the status is that of it
+pub record IsAnswer (command : Command) (text bytes : List ℕ) (status : Status) : Type 0 where
+  pub written : bytes ≡ answer_of command text
+  pub ended : status ≡ status_of command text
   pub throughout : IsInOrderFor command (said_to command (text_for command text))
 
--- a prefix of the answer to the command on a text was written; where the source told the bytes left, they are the
--- text
-pub record AnswersPrefix (command : Command) (left : Option (List ℕ)) (old new : SinkOf) : Type 0 where
-  pub text : List ℕ
-  pub told : IfSome left (λ bytes. text ≡ bytes)
-  pub written : AppendsPrefix old.taken new.taken (answer_of command text)
+-- of these bytes some may be written, however the call ends
+abbrev pub MayWrite : Command → List ℕ → List ℕ → Type 0
+MayWrite command text bytes = bytes ≡ answer_of command text

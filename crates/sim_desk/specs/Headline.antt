@@ -32,13 +32,23 @@ text_for (Native model limit) text = text_of model
 
 -- what such a text says to a command: a scenario, or why it is refused; for `verify` there is a trace after the scenario
 abbrev pub said_to : Command → List ℕ → Result ScenarioOf Fault
+said_to Check text = reads text
+said_to (Run limit) text = reads text
+said_to (Batch count limit) text = reads text
+said_to (Watch limit) text = reads text
 said_to (Verify limit) text = reads_with_trace text
-said_to command text = reads text
+said_to (Load size) text = reads text
+said_to (Native model limit) text = reads text
 
 -- the lines that are given as a trace, for `verify` alone
 abbrev pub given_to : Command → List ℕ → List (List ℕ)
+given_to Check text = []
+given_to (Run limit) text = []
+given_to (Batch count limit) text = []
+given_to (Watch limit) text = []
 given_to (Verify limit) text = unwrap_or (trace_lines (fed_lines text)) []
-given_to command text = []
+given_to (Load size) text = []
+given_to (Native model limit) text = []
 
 -- ---- what is written
 

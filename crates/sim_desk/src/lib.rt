@@ -2,9 +2,7 @@
 #![tactic(auto)]
 
 mod answer;
-mod gathered;
 mod replications;
-mod sums;
 mod top;
 mod watching;
 

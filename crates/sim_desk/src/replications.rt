@@ -1,17 +1,16 @@
-//! The runs of a batch, and their lines.
-ghost use Rattle.std.specs.Prelude.{◌≡◌, ◌+◌, ◌%◌, ◌^◌, ◌<◌, All, IfOk, length};
+//! The runs of a batch.
+ghost use Rattle.std.specs.Prelude.{◌+◌, ◌%◌, ◌^◌};
 ghost use Rattle.sim_outside.specs.Writes.{IsUnflushed, Writes};
 ghost use Rattle.sim_script_model.specs.Scenarios.{summary, replications};
-ghost use Rattle.sim_trace.specs.SummaryTexts.{replications_text, batch_text, all_logs, all_total, batch_answer};
+ghost use Rattle.sim_trace.specs.SummaryTexts.{batch_answer};
 ghost use Rattle.sim_engine.specs.Counting.{IsWithin};
 ghost use Rattle.sim_writing.specs.RunFaults.{is_write};
 
-use crate::sums::sums_of;
+use sim_answer::write_summaries;
 use sim_batch::{Gate, Job, batch};
 use sim_engine::{EngineFault, replicate};
-use sim_outside::{Sink, write_all};
+use sim_outside::Sink;
 use sim_scenario::Scenario;
-use sim_trace::{LineBuf, render_batch, render_summary};
 use sim_types::Summary;
 use std::alloc::{AllocError, Global};
 use std::thread::Threads;
@@ -54,37 +53,5 @@ pub(crate) fn write_batch<K: Sink, R: Threads + Sync, G: Gate + Sync>(
 {
     let runs = Replications { scenario, limit };
     let summaries = batch(rt, alloc, &runs, count, gate)?;
-    write_each(summaries.as_slice(), out)?;
-    write_sums(limit, summaries.as_slice(), out)?;
-    Ok(())
-}
-
-/// Writes a line on each run.
-fn write_each<K: Sink>(summaries: &[Summary], out: &mut K) -> Result<(), EngineFault>
-    requires few { length summaries.now < 2 ^ 32 }
-    ensures writes { Writes is_write (K.tells out.old) (K.tells out.new) result
-        (replications_text 0 summaries.now) }
-    ensures unflushed { IsUnflushed (K.tells out.old) (K.tells out.new) }
-{
-    let mut line = LineBuf::new();
-    for (index, summary) in summaries.iter().enumerate() {
-        render_summary(index as u32, summary, &mut line);
-        write_all(out, line.bytes())?;
-    }
-    Ok(())
-}
-
-/// Writes the line on all runs, each of which made so many units at most.
-fn write_sums<K: Sink>(limit: u32, summaries: &[Summary], out: &mut K) -> Result<(), EngineFault>
-    requires few { length summaries.now < 2 ^ 32 }
-    requires within { All (IsWithin limit) summaries.now }
-    ensures writes { Writes is_write (K.tells out.old) (K.tells out.new) result
-        (batch_text (length summaries.now) (all_logs summaries.now) (all_total summaries.now)) }
-    ensures unflushed { IsUnflushed (K.tells out.old) (K.tells out.new) }
-{
-    let sums = sums_of(limit, summaries);
-    let mut line = LineBuf::new();
-    render_batch(summaries.len() as u32, sums.logs, sums.total, &mut line);
-    write_all(out, line.bytes())?;
-    Ok(())
+    write_summaries(limit, summaries.as_slice(), out)
 }

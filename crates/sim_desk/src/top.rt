@@ -7,9 +7,10 @@ ghost use Rattle.sim_outside.specs.Writes.{IsUnflushed, IsFlushedOnce};
 ghost use Rattle.sim_command.specs.declared.commands.Command.TheVariants.{Load, Native};
 ghost use Rattle.sim_command.specs.Commands.{command, is_on_text};
 ghost use Rattle.sim_command.specs.Endings.{is_whole, IsWholeOrWanting};
-ghost use Rattle.sim_desk.specs.Answers.{AnswersWhole, AnswersPrefix};
+ghost use Rattle.sim_answer.specs.Answers.{AnswersWhole, AnswersPrefix};
+ghost use Rattle.sim_desk.specs.Answers.{IsAnswer, MayWrite};
 
-use crate::gathered::answer_gathered;
+use crate::answer::answer;
 use sim_batch::Gate;
 use sim_command::{Command, Status, Word, command};
 use sim_engine::EngineFault;
@@ -19,9 +20,8 @@ use std::alloc::Global;
 use std::thread::Threads;
 
 /// Carries out the command that the words say: reads from the source, if the command is on a text, and writes to the sink.
-/// The answer says how it ended. What is written goes to the sink many lines at a time, so where memory is wanting the last
-/// of them may not be written. The first argument lends threads to the runs of a batch; each of these passes the gate once,
-/// by its index.
+/// The answer says how it ended. Each line is written as it is made: `Gathering` makes few writes of many lines. The first
+/// argument lends threads to the runs of a batch; each of these passes the gate once, by its index.
 #[tactic(auto, using(crate::proofs::Telling::answers))]
 pub fn desk<S: Source, K: Sink, R: Threads + Sync, G: Gate + Sync>(
     rt: &R,
@@ -40,11 +40,12 @@ pub fn desk<S: Source, K: Sink, R: Threads + Sync, G: Gate + Sync>(
     // throughout that of the shop or of a model, no capacity is exceeded, levels are openings plus puts minus gets, and no
     // process that has ended is resumed or waits for a request.
     ensures headline { IfSome (command words.now) (λ asked. IsTrue (is_whole result)
-        → AnswersWhole asked (S.left source.old) (K.tells out.old) (K.tells out.new) result) }
+        → AnswersWhole (IsAnswer asked) (S.left source.old)
+        (K.tells out.old) (K.tells out.new) result) }
 
     // Whatever the status, what was written is a prefix of that.
     ensures prefix { IfSome (command words.now) (λ asked.
-        AnswersPrefix asked (S.left source.old) (K.tells out.old) (K.tells out.new)) }
+        AnswersPrefix (MayWrite asked) (S.left source.old) (K.tells out.old) (K.tells out.new)) }
 
     // After a whole answer the sink was flushed once, when all was written; after no other was it flushed.
     ensures flushed { IsTrue (is_whole result) → IsFlushedOnce (K.tells out.old) (K.tells out.new) }
@@ -100,7 +101,7 @@ pub fn desk<S: Source, K: Sink, R: Threads + Sync, G: Gate + Sync>(
     } else {
         List::new(alloc)
     };
-    match answer_gathered(rt, alloc, gate, asked, text.as_slice(), out) {
+    match answer(rt, alloc, gate, asked, text.as_slice(), out) {
         Ok(status) => status,
         Err(EngineFault::Write) => Status::WriteFault,
         Err(EngineFault::Memory) => Status::Memory,

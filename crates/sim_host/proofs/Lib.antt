@@ -1,3 +1,4 @@
+pub mod HostedAnswers
 pub mod HostedRuns
 pub mod Openings
 pub mod Stepping

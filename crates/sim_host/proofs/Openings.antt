@@ -3,14 +3,11 @@ use Rattle.std.proofs.Common.{◌≡◌, ℕ, zero, suc, ◌+◌, ◌%◌, ◌^�
 use Rattle.std.proofs.lemmas.List.{map-append}
 use Rattle.sim_types.specs.Scenarios.{ScenarioOf}
 use Rattle.sim_types.specs.declared.line.Summary.{Summary}
-use Rattle.sim_script_model.specs.Scenarios.{summary, replications}
+use Rattle.sim_script_model.specs.Scenarios.{replications}
+use Rattle.sim_answer.proofs.Replications.{replication}
 use Rattle.sim_host.specs.Hosting.{HostedOf, IsHosted, summary_in}
 use Rattle.sim_host.specs.HostedTogether.{AreOpened, summaries_in}
 use Rattle.sim_host.proofs.Stepping.{all_push}
-
--- what the replication of this index comes to
-abbrev pub replication : ScenarioOf → ℕ → ℕ → Summary
-replication s limit index = summary s ((s.seed + index) % 2 ^ 64) s.journal limit
 
 more_from : (s : ScenarioOf) (limit from count : ℕ)
     → replications s limit from (suc count) ≡ replications s limit from count ++ replication s limit (from + count) ∷ []

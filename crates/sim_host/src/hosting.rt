@@ -35,8 +35,8 @@ pub fn host<R: Wait + RandomSource + AllocGlobal>(
     }
 }
 
-/// Opens so many replications.
-fn open_all(
+/// Opens so many replications, each of so many units at most. `close_all` spends them, at any moment.
+pub fn open_all(
     alloc: Global,
     scenario: &Scenario,
     count: u32,
@@ -73,8 +73,8 @@ fn wait_for_all<R: Wait + RandomSource + AllocGlobal>(
     }
 }
 
-/// Spends all runs.
-pub(crate) fn close_all(mut runs: Vec<Hosted>) {
+/// Spends all runs, whether they are over or not.
+pub fn close_all(mut runs: Vec<Hosted>) {
     while let Some(run) = runs.pop() {
         run.close();
     }

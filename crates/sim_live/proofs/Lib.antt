@@ -1,7 +1,6 @@
 pub mod AnsweredTexts
 pub mod Finishing
 pub mod Fronts
-pub mod GatheredAnswers
 pub mod JournalTexts
 pub mod Journals
 pub mod LeftPosts

@@ -2,7 +2,7 @@
 ghost use Rattle.std.specs.Prelude.{OnErr, OnOk};
 ghost use Rattle.sim_language.specs.Reads.{reads};
 ghost use Rattle.sim_outside.specs.Writes.{IsFlushedOnce, IsUnflushed};
-ghost use Rattle.sim_live.specs.LiveAnswers.{Answers};
+ghost use Rattle.sim_live.specs.LiveAnswers.{AnswersRead};
 
 use crate::caller::write_live;
 use sim_batch::Gate;
@@ -25,7 +25,7 @@ pub(crate) fn answer<K: Sink, R: Threads + Wait + Sync, G: Gate + Sync, I: Inbox
     text: &[u8],
     out: &mut K,
 ) -> Result<Status, EngineFault>
-    ensures answers { Answers (reads text.now) limit
+    ensures answers { AnswersRead (reads text.now) limit
         (K.tells out.old) (K.tells out.new) result }
     ensures flushed { OnOk result (IsFlushedOnce (K.tells out.old) (K.tells out.new)) }
     ensures unflushed { OnErr result (IsUnflushed (K.tells out.old) (K.tells out.new)) }
@@ -45,7 +45,7 @@ fn answer_on<K: Sink, R: Threads + Wait + Sync, G: Gate + Sync, I: Inbox>(
     text: &[u8],
     out: &mut K,
 ) -> Result<Status, EngineFault>
-    ensures answers { Answers (reads text.now) limit
+    ensures answers { AnswersRead (reads text.now) limit
         (K.tells out.old) (K.tells out.new) result }
     ensures unflushed { IsUnflushed (K.tells out.old) (K.tells out.new) }
 {

@@ -3,7 +3,6 @@
 
 mod answer;
 mod caller;
-mod gathered;
 mod live_run;
 mod play;
 mod top;

@@ -5,9 +5,10 @@ ghost use Rattle.sim_outside.specs.Causes.{Rose};
 ghost use Rattle.sim_outside.specs.Writes.{IsUnflushed, IsFlushedOnce};
 ghost use Rattle.sim_command.specs.Commands.{live_limit};
 ghost use Rattle.sim_command.specs.Endings.{is_whole, IsWholeOrWanting};
-ghost use Rattle.sim_live.specs.LiveAnswers.{AnswersWhole, AnswersPrefix};
+ghost use Rattle.sim_answer.specs.Answers.{AnswersWhole, AnswersPrefix};
+ghost use Rattle.sim_live.specs.LiveAnswers.{IsAnswer, MayWrite};
 
-use crate::gathered::answer_gathered;
+use crate::answer::answer;
 use sim_batch::Gate;
 use sim_command::{Status, Word, live_limit};
 use sim_engine::EngineFault;
@@ -20,8 +21,8 @@ use std::thread::Threads;
 
 /// Reads a text from the source, and lets it run while its posters post, each from a thread of its own. What they post goes
 /// through the inbox that is given, and each passes the gate by its number before its first post. The trace is written while
-/// it runs, many lines in one write so long as events are due, and then the journal of what came. The answer says how it
-/// ended. It waits for the posters: that it returns is not promised, nor which of them comes first.
+/// it runs, and the sink is told to pass it on where nothing is due; behind it comes the journal of what was posted. The answer
+/// says how the run ended. It waits for the posters: that it returns is not promised, nor which of them comes first.
 pub fn live_desk<S: Source, K: Sink, R: Threads + Wait + Sync, G: Gate + Sync, I: Inbox>(
     rt: &R,
     alloc: Global,
@@ -36,11 +37,12 @@ pub fn live_desk<S: Source, K: Sink, R: Threads + Wait + Sync, G: Gate + Sync, I
     // capacity is exceeded, levels are openings plus puts minus gets, and no process that has ended is resumed or waits for
     // a request.
     ensures headline { IfSome (live_limit words.now) (λ limit. IsTrue (is_whole result)
-        → AnswersWhole limit (S.left source.old) (K.tells out.old) (K.tells out.new) result) }
+        → AnswersWhole (IsAnswer limit) (S.left source.old)
+        (K.tells out.old) (K.tells out.new) result) }
 
     // Whatever the status, what was written is a prefix of that, for a journal that has of each poster a front of its posts.
     ensures prefix { IfSome (live_limit words.now) (λ limit.
-        AnswersPrefix limit (S.left source.old) (K.tells out.old) (K.tells out.new)) }
+        AnswersPrefix (MayWrite limit) (S.left source.old) (K.tells out.old) (K.tells out.new)) }
 
     // After a whole answer the sink was flushed once, when all was written; after no other was it flushed.
     ensures flushed { IsTrue (is_whole result) → IsFlushedOnce (K.tells out.old) (K.tells out.new) }
@@ -82,7 +84,7 @@ pub fn live_desk<S: Source, K: Sink, R: Threads + Wait + Sync, G: Gate + Sync, I
         Err(TakeFault::Read) => return Status::ReadFault,
         Err(TakeFault::Memory) => return Status::Memory,
     };
-    match answer_gathered(rt, alloc, gate, inbox, limit, text.as_slice(), out) {
+    match answer(rt, alloc, gate, inbox, limit, text.as_slice(), out) {
         Ok(status) => status,
         Err(EngineFault::Write) => Status::WriteFault,
         Err(EngineFault::Memory) => Status::Memory,

@@ -5,10 +5,9 @@ use Rattle.std.proofs.lemmas.Grind.{common_steps}
 use Rattle.std.proofs.lemmas.Slice.{take-put_mid}
 use Rattle.std.proofs.lemmas.List.{drop-append-le, take-append-le, take-append-drop, take_all}
 use borrow.Rule.Slice.PartMut.{put_mid}
-use Rattle.std.specs.Prelude.{nat_lt, ◌||◌, option_map}
-use Rattle.sim_outside.specs.Gathering.{StaysInFront}
+use Rattle.std.specs.Prelude.{nat_lt, ◌||◌}
 use Rattle.std.specs.Io.KnownBytes.{Appends, Keeps, append_known}
-use Rattle.std.proofs.KnownBytes.{Appends-nil, Appends-trans, Appends-kept, Keeps-refl, append_known-moved, append_known-grown}
+use Rattle.std.proofs.KnownBytes.{Appends-trans, Keeps-refl, append_known-moved, append_known-grown}
 use Rattle.sim_outside.specs.Writes.{AppendsFront, Flushing, taking, flushed}
 use Rattle.sim_outside.proofs.Fronts.{front_none}
 
@@ -73,36 +72,6 @@ is_none rest none = grind (arith, common_steps)
 
 pub ruleset passing = (front_none, front_passed, back_passed, none_held, is_none)
 
--- ---- what was taken before
-
-stays_whole : (before : Option (List ℕ)) → StaysInFront before before
-stays_whole before = record { front = λ bytes is. rw is (ap Some (take_all (length bytes) bytes (omega arith))) }
-
-pub stays_from : (before same : Option (List ℕ)) → before ≡ same → StaysInFront same before
-stays_from before same is = rw is (stays_whole same)
-
-longer : (front bytes : List ℕ) (n : ℕ) → take n bytes ≡ front → length front ≡ n → n ≤ length bytes
-longer front bytes n is long = grind (arith, common_steps)
-
--- the front stays where more is taken
-front_more : (bytes : List ℕ) (middle after : Option (List ℕ)) (more : List ℕ) → option_map (take (length bytes)) middle ≡ Some bytes
-    → Appends middle after more → option_map (take (length bytes)) after ≡ Some bytes
-front_more bytes None after more is k = absurd (cc)
-front_more bytes (Some x) None more is k = absurd k
-front_more bytes (Some x) (Some y) more is k =
-    let front : take (length bytes) x ≡ bytes = cc in
-    ap Some (ap (take (length bytes)) k ∙ (take-append-le (length bytes) x more (longer bytes x (length bytes) front refl) ∙ front))
-
-stays_behind : (before middle after : Option (List ℕ)) (more : List ℕ) → StaysInFront before middle → Appends middle after more → StaysInFront before after
-stays_behind before middle after more h k = record { front = λ bytes is. front_more bytes middle after more (h.front bytes is) k }
-
-pub stays_passed : (before middle after : Option (List ℕ)) (held rest : List ℕ) → StaysInFront before middle → AppendsFront middle after held rest
-    → StaysInFront before after
-stays_passed before middle after held rest h passed = stays_behind before middle after passed.front h passed.appended
-
-pub stays_kept : (before middle after : Option (List ℕ)) → StaysInFront before middle → Keeps middle after → StaysInFront before after
-stays_kept before middle after h k = stays_behind before middle after [] h (Appends-kept middle middle after [] (Appends-nil middle) k)
-
 -- ---- what a gathering sink tells
 
 -- passing on changes nothing
@@ -133,4 +102,4 @@ pub flushed_passed : (old f new : Flushing) (rest : List ℕ) (all : ℕ) → f 
     → taking (length rest) new ≡ flushed (taking all old)
 flushed_passed old f new rest all passed none is = rw (none, is, passed) refl
 
-pub ruleset gathering = (stays_passed, stays_kept, same_passed, more_held, more_passed, back_more, back_more_passed, flushed_passed)
+pub ruleset gathering = (same_passed, more_held, more_passed, back_more, back_more_passed, flushed_passed)

@@ -1,6 +1,5 @@
 -- Sinks that gather, as contracts see them.
-use Rattle.std.specs.Prelude.{◌≡◌, ℕ, ◌≤◌, List, length, take, Some, option_map}
-use Rattle.std.specs.declared.option.Option.{Option}
+use Rattle.std.specs.Prelude.{◌≡◌, ℕ, ◌≤◌, List, length}
 use Rattle.std.specs.Io.KnownBytes.{append_known}
 use Rattle.sim_outside.specs.Writes.{SinkOf, taking}
 
@@ -18,10 +17,6 @@ gathered inner held =
 pub record GathersFor (inner told : SinkOf) : Type 0 where
   pub held : List ℕ
   pub is : told ≡ gathered inner held
-
--- the bytes taken, where they are told, stay where they are, and others may come behind them
-pub record StaysInFront (before after : Option (List ℕ)) : Type 0 where
-  pub front : (bytes : List ℕ) → before ≡ Some bytes → option_map (take (length bytes)) after ≡ Some bytes
 
 -- bytes stand from start to end in a room of 8,192, and where there are none they begin anew
 pub record IsWithinRoom (start end : ℕ) : Type 0 where

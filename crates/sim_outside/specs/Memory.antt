@@ -1,5 +1,5 @@
 -- Sources and sinks in memory, as contracts see them.
-use Rattle.std.specs.Prelude.{ℕ, List, Some}
+use Rattle.std.specs.Prelude.{ℕ, Bool, List, Some}
 use Rattle.sim_outside.specs.Writes.{Flushing, SinkOf}
 
 -- a source: the bytes left, how many one read gives at most, the numbers of the reads that fail, the number of the next
@@ -11,10 +11,11 @@ pub record MemSourceOf : Type 0 where
   pub reads : ℕ
   pub faults : ℕ
 
--- a sink: the bytes taken, how many more it takes, the count of faults, and its flushes
+-- a sink: the bytes taken, how many more it takes, whether the next flush fails, the count of faults, and its flushes
 pub record MemSinkOf : Type 0 where
   pub taken : List ℕ
   pub room : ℕ
+  pub flush_fails : Bool
   pub faults : ℕ
   pub flushing : Flushing
 

@@ -6,6 +6,7 @@ mod fault_count;
 mod flushes;
 mod gathering;
 mod held;
+mod lent;
 mod memory;
 mod null;
 mod sink;
@@ -14,7 +15,8 @@ mod standard;
 mod unread;
 
 pub use fault::{Failed, TakeFault};
-pub use gathering::{Gathering, LentSink, Loan};
+pub use gathering::Gathering;
+pub use lent::LentSink;
 pub use memory::{MemSink, MemSource, SteadySource};
 pub use null::NullSink;
 pub use sink::{Sink, write_all};

@@ -1,5 +1,5 @@
 //! Sources and sinks in memory. They tell their bytes.
-ghost use Rattle.std.specs.Prelude.{◌≡◌, ◌-◌, ◌<◌, ◌↔◌, [], ◌++◌, length, min, take, drop, IfOk, OnOk, OnErr, IsErr, IsOk, Contains};
+ghost use Rattle.std.specs.Prelude.{◌≡◌, ◌-◌, ◌<◌, ◌↔◌, [], ◌++◌, length, min, take, drop, IfOk, OnOk, OnErr, IsErr, IsOk, IsTrue, true, false, Contains};
 ghost use Rattle.sim_outside.specs.Causes.{raised, HasCause};
 ghost use Rattle.sim_outside.specs.Writes.{no_flush, flushed, taking};
 
@@ -139,6 +139,8 @@ pub struct MemSink {
     bytes: Vec<u8>,
     /// How many bytes more it takes.
     room: usize,
+    /// Whether the next flush fails.
+    flush_fails: bool,
     faults: FaultCount,
     flushes: Flushes,
 }
@@ -149,8 +151,13 @@ impl Model for MemSink {
 
     ghost Value = { MemSinkOf };
 
-    ghost view = { λ a. record
-        { taken = a.bytes.items; room = a.room; faults = a.faults; flushing = a.flushes } };
+    ghost view = { λ a. record {
+      taken = a.bytes.items;
+      room = a.room;
+      flush_fails = a.flush_fails;
+      faults = a.faults;
+      flushing = a.flushes;
+    } };
 
     ghost invariant = { λ a. vec_len a.bytes + a.room ≤ vec_capacity a.bytes };
 }
@@ -159,13 +166,14 @@ impl MemSink {
     /// A sink that takes `room` bytes. Its memory is taken here.
     pub fn new(alloc: Global, room: u64) -> Result<MemSink, AllocError>
         ensures { IfOk result (λ sink. sink ≡ record
-            { taken = []; room = room; faults = 0; flushing = no_flush }) }
+            { taken = []; room = room; flush_fails = false; faults = 0; flushing = no_flush }) }
     {
         let room = room as usize;
         let bytes = Vec::with_capacity(alloc, room)?;
         Ok(MemSink {
             bytes,
             room,
+            flush_fails: false,
             faults: FaultCount::new(),
             flushes: Flushes::new(),
         })
@@ -176,6 +184,13 @@ impl MemSink {
         ensures { result.now ≡ self.now.taken }
     {
         self.bytes.as_slice()
+    }
+
+    /// Makes the next flush fail.
+    pub fn fail_flush(&mut self)
+        ensures { self.new ≡ record self.old { flush_fails = true } }
+    {
+        self.flush_fails = true;
     }
 }
 
@@ -223,9 +238,19 @@ impl Sink for MemSink {
     }
 
     fn flush(&mut self) -> Result<(), Failed>
-        ensures ok { IsOk result }
-        ensures flushed { self.new ≡ record self.old { flushing = flushed self.old.flushing } }
+        ensures fails { IsErr result ↔ IsTrue self.old.flush_fails }
+        ensures ok { OnOk result
+            (self.new ≡ record self.old { flushing = flushed self.old.flushing }) }
+        ensures err { OnErr result (self.new
+            ≡ record self.old { flush_fails = false; faults = raised self.old.faults }) }
+
+        // As every sink.
+        ensures cause { HasCause self.old.faults self.new.faults result }
     {
+        if self.flush_fails {
+            self.flush_fails = false;
+            return Err(self.faults.fail());
+        }
         self.flushes.flush();
         Ok(())
     }

@@ -1,26 +1,27 @@
--- What the program writes and answers, by its words: where they ask for a live run that of the run, and else that of the
--- command that they are.
-use Rattle.std.specs.Prelude.{◌≡◌, ℕ, List, Option, None, IfSome, MatchOption}
-use Rattle.sim_command.specs.Commands.{command, live_limit}
+-- What answers the words of the program on a text: where they ask for a live run what answers that, else where they ask for hosted
+-- runs what answers these, and else what answers the command that they are.
+use Rattle.std.specs.Prelude.{◌≡◌, ℕ, List, [], None, IfSome, MatchOption}
+use Rattle.sim_command.specs.Commands.{command, hosted_runs, live_limit}
 use Rattle.sim_command.specs.declared.status.Status.{Status}
-use Rattle.sim_outside.specs.Writes.{SinkOf}
 use Rattle.sim_desk.specs.Answers as desk
+use Rattle.sim_host.specs.HostAnswers as host
 use Rattle.sim_live.specs.LiveAnswers as live
 
--- the whole answer was written, and the status is that of it
-abbrev pub CarriesOutWhole : List (List ℕ) → Option (List ℕ) → SinkOf → SinkOf → Status → Type 0
-CarriesOutWhole words left old new answer =
-    MatchOption (live_limit words)
-    (IfSome (command words) (λ asked. desk.AnswersWhole asked left old new answer))
-    (λ limit. live.AnswersWhole limit left old new answer)
+-- these bytes answer the words on a text, and the status is that of it
+pub record IsAnswer (words : List (List ℕ)) (text bytes : List ℕ) (status : Status) : Type 0 where
+  pub live_run : IfSome (live_limit words) (λ limit. live.IsAnswer limit text bytes status)
+  pub runs : live_limit words ≡ None → IfSome (hosted_runs words) (λ runs. host.IsAnswer runs text bytes status)
+  pub command : live_limit words ≡ None → hosted_runs words ≡ None → IfSome (command words) (λ asked. desk.IsAnswer asked text bytes status)
 
--- a prefix of it was written
-abbrev pub CarriesOutPrefix : List (List ℕ) → Option (List ℕ) → SinkOf → SinkOf → Type 0
-CarriesOutPrefix words left old new =
-    MatchOption (live_limit words)
-    (IfSome (command words) (λ asked. desk.AnswersPrefix asked left old new))
-    (λ limit. live.AnswersPrefix limit left old new)
+-- of these bytes some may be written, however the call ends; for words that ask for nothing there are none
+pub record MayWrite (words : List (List ℕ)) (text bytes : List ℕ) : Type 0 where
+  pub live_run : IfSome (live_limit words) (λ limit. live.MayWrite limit text bytes)
+  pub runs : live_limit words ≡ None → IfSome (hosted_runs words) (λ runs. host.MayWrite runs text bytes)
+  pub command :
+      live_limit words ≡ None → hosted_runs words ≡ None → MatchOption (command words) (bytes ≡ []) (λ asked. desk.MayWrite asked text bytes)
 
 -- they ask for nothing
-abbrev pub AskForNothing : List (List ℕ) → Type 0
-AskForNothing words = (command words ≡ None) × (live_limit words ≡ None)
+pub record AskForNothing (words : List (List ℕ)) : Type 0 where
+  pub no_live_run : live_limit words ≡ None
+  pub no_hosted_runs : hosted_runs words ≡ None
+  pub no_command : command words ≡ None

@@ -3,6 +3,8 @@
 
 mod call;
 mod program;
+#[cfg(test)]
+mod tests;
 mod words;
 
 pub use call::run;

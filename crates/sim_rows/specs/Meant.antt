@@ -1,16 +1,14 @@
 -- What a row says, and what the definitions make of it.
-use Rattle.std.specs.Prelude.{ℕ, ◌≡◌, ◌-◌, List, [], ◌∷◌, ◌++◌, length, drop, Option, Some, Contains, IfSome, IsTrue}
-use Rattle.sim_command.specs.declared.commands.Command.{Command}
+use Rattle.std.specs.Prelude.{ℕ, ◌≡◌, ◌-◌, List, [], ◌∷◌, ◌++◌, length, drop, Option, Some, Contains, IsTrue}
 use Rattle.sim_command.specs.declared.status.Status.{Status}
 use Rattle.sim_command.specs.Endings.{is_whole}
-use Rattle.sim_desk.specs.Headline.{answer_of, status_of}
+use Rattle.sim_program.specs.Answers.{IsAnswer}
 use Rattle.sim_rows.specs.declared.row.Tells.{Tells}
 use Rattle.sim_rows.specs.declared.row.Tells.TheVariants.{Whole, End}
 
--- a whole answer to the command on a text is the one that the definitions give
-abbrev pub IsMeant : Option Command → List ℕ → Status → List ℕ → Type 0
-IsMeant command text status bytes =
-    IfSome command (λ asked. IsTrue (is_whole status) → (bytes ≡ answer_of asked text) × (status ≡ status_of asked text))
+-- a whole answer to the words on the text is one that the definitions give
+abbrev pub IsMeant : List (List ℕ) → List ℕ → Status → List ℕ → Type 0
+IsMeant words text status bytes = IsTrue (is_whole status) → IsAnswer words text bytes status
 
 -- the bytes that a row of so many tells of: all, or as many of the last ones
 abbrev pub told_part : Tells → ℕ → List ℕ → List ℕ

@@ -17,7 +17,7 @@ pub enum Tells {
 pub struct Row {
     /// What the row shows.
     pub name: String,
-    /// The words of the command, with blanks between them.
+    /// The words of the program, with blanks between them. Several that are answered alike have ` | ` between them.
     pub words: String,
     pub text: Vec<u8>,
     /// The exit status that is wanted, if the row says one.
@@ -27,7 +27,7 @@ pub struct Row {
     pub answer: Vec<u8>,
 }
 
-/// What the top call answers.
+/// What the program answers.
 #[derive(Drop)]
 pub struct Answer {
     pub status: Status,

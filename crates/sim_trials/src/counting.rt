@@ -1,9 +1,10 @@
-//! An inbox of lanes that counts what goes through it.
+//! An inbox of lanes that counts what goes through it, and may refuse to close.
 ghost use Rattle.std.specs.Prelude.{◌≡◌, ℕ, ◌<◌, ◌≤◌, [], length, map, slice_get, slice_index, vec_len, vec_capacity, All, Some, false, IfOk, IfErr, OnOk};
 ghost use Rattle.sim_inbox.specs.Lists.{Begins, untaken};
 ghost use Rattle.sim_lanes.specs.Ends.{AreInOrder, PosterOf, posted_of, taken_of};
 ghost use Rattle.sim_lanes.specs.Takes.{FoundNoneAnywhere};
 
+use sim_batch::Gate;
 use sim_inbox::{CloseRefused, Inbox, PostFault, Posting, Taken, Taking};
 use sim_lanes::{LaneInbox, LanePoster, LaneTaker};
 use sim_types::{List, Post};
@@ -17,6 +18,11 @@ pub(crate) struct Counts {
     posted: AtomicU64,
     taken: AtomicU64,
     left: AtomicU64,
+    /// How often a gate was passed, and how many posts were made before that.
+    passed: AtomicU64,
+    early: AtomicU64,
+    /// Whether the taker refuses to close.
+    refuses: bool,
 }
 
 impl Counts {
@@ -25,7 +31,22 @@ impl Counts {
             posted: AtomicU64::new(0),
             taken: AtomicU64::new(0),
             left: AtomicU64::new(0),
+            passed: AtomicU64::new(0),
+            early: AtomicU64::new(0),
+            refuses: false,
         }
+    }
+
+    /// The same, for an inbox that refuses to close.
+    pub(crate) fn refusing() -> Counts {
+        let mut counts = Counts::new();
+        counts.refuses = true;
+        counts
+    }
+
+    /// How many posts were made before the gate was passed.
+    pub(crate) fn early(&self) -> u64 {
+        self.early.load(Ordering::SeqCst)
     }
 
     pub(crate) fn posted(&self) -> u64 {
@@ -36,6 +57,13 @@ impl Counts {
     pub(crate) fn given(&self) -> u64 {
         let taken = self.taken.load(Ordering::SeqCst);
         taken.saturating_add(self.left.load(Ordering::SeqCst))
+    }
+}
+
+/// A gate that counts who passes.
+impl Gate for Counts {
+    fn pass(&self, _index: u32) {
+        self.passed.fetch_add(1, Ordering::SeqCst);
     }
 }
 
@@ -70,6 +98,9 @@ impl<'c> Posting for CountingPoster<'c> {
     ghost takes_memory = { false };
 
     fn post(&mut self, item: Post) -> Result<(), PostFault> {
+        if self.counts.passed.load(Ordering::SeqCst) == 0 {
+            self.counts.early.fetch_add(1, Ordering::SeqCst);
+        }
         let answer = self.inner.post(item);
         if answer.is_ok() {
             self.counts.posted.fetch_add(1, Ordering::SeqCst);
@@ -155,6 +186,12 @@ impl<'c> Taking for CountingTaker<'c> {
         ensures refused { IfErr result (λ r. (r.taker ≡ self.entry) × (r.posters ≡ posters.entry)) }
     {
         let CountingTaker { inner, counts } = self;
+        if counts.refuses {
+            return Err(CloseRefused {
+                taker: CountingTaker { inner, counts },
+                posters,
+            });
+        }
         let mut counting = posters.into_vec();
         let mut bare = Vec::new(alloc);
         if bare.reserve(counting.len()).is_err() {

@@ -5,8 +5,9 @@ use crate::calls::{Meeting, source_of, words_of};
 use sim_batch::FreeGate;
 use sim_command::Word;
 use sim_desk::desk;
-use sim_outside::{MemSink, MemSource};
+use sim_outside::{Gathering, MemSink, MemSource};
 use std::alloc::{AllocError, Global};
+use std::str;
 use std::test::Fail;
 use std::thread::Threads;
 
@@ -32,7 +33,7 @@ const ONE_TIMEOUT_TRACE: Answer<'static> = Answer {
     bytes: b"@0 0 0 init 2 ok 0\n@5 1 1 timeout 3 ok 0\nlog 5 1 5\n@5 1 2 process 1 ok 0\nend empty 5 3\n",
 };
 
-/// Whether the program answers so to these words, with a sink of so much room.
+/// Whether the program answers so to these words, by way of a sink that gathers for one of so much room.
 fn answers<R: Threads + Sync>(
     rt: &R,
     alloc: Global,
@@ -42,9 +43,10 @@ fn answers<R: Threads + Sync>(
     want: Answer<'_>,
 ) -> bool {
     match MemSink::new(alloc, room as u64) {
-        Ok(mut sink) => {
-            let status = desk(rt, alloc, &FreeGate, words, source, &mut sink);
-            status.code() == want.code && sink.bytes() == want.bytes
+        Ok(sink) => {
+            let mut out = Gathering::new(sink);
+            let status = desk(rt, alloc, &FreeGate, words, source, &mut out);
+            status.code() == want.code && out.into_inner().bytes() == want.bytes
         }
         Err(AllocError) => false,
     }
@@ -163,6 +165,64 @@ fn writes_what_fits(rt: HostRuntime) {
     assert!(rt; writes_fronts_for(&rt, alloc, "batch 2 1000", ONE_TIMEOUT, TWO_RUNS));
     assert!(rt; writes_fronts_for(&rt, alloc, "check", ONE_TIMEOUT, ok));
     assert!(rt; writes_fronts_for(&rt, alloc, "check", "scenario 3\n", bad_header));
+}
+
+/// One process loses its slot to another one.
+const PREEMPTION: &str =
+    "scenario 1\nuntil empty\npreemptive m 1\nprocess holder\nwith r = request m 1 preempt\nwait r\ntry\ntimeout 10\ncatch k v\nlog k\nlog v\nend\nend\nend\nprocess rush\ntimeout 4\nwith r = request m 0 preempt\nwait r\ntimeout 1\nend\nend\nstart holder\nstart rush\n";
+
+/// Each trace without its last line begins that of one unit more, until the run ends.
+#[test]
+fn a_trace_begins_the_next_longer_one(rt: HostRuntime) -> Result<(), Fail> {
+    let alloc = rt.alloc();
+    let mut front = String::new(alloc);
+    for limit in 1..1000u32 {
+        let line = format!(in alloc; "run {limit}")?;
+        let words = words_of(alloc, line.as_str())?;
+        let mut source = source_of(alloc, PREEMPTION, 8192, &[])?;
+        let mut sink = MemSink::new(alloc, ENOUGH as u64)?;
+        let status = desk(
+            &rt,
+            alloc,
+            &FreeGate,
+            words.as_slice(),
+            &mut source,
+            &mut sink,
+        );
+        let Ok(trace) = str::from_utf8(sink.bytes()) else {
+            panic!(rt; "limit {limit}: no text");
+        };
+        assert!(rt; trace.starts_with(front.as_str()), "limit {limit}");
+        if status.code() != 5 {
+            assert_eq!(rt; status.code(), 0);
+            assert_eq!(rt; trace.lines().count(), 15);
+            return Ok(());
+        }
+        let (lines, _end) = trace.rsplit_once("end ").unwrap_or(("", ""));
+        front = String::from_str(alloc, lines)?;
+    }
+    panic!(rt; "the run goes on after 1,000 units");
+}
+
+/// A flush that fails is told. All was written by then.
+#[test]
+fn a_flush_fails(rt: HostRuntime) -> Result<(), Fail> {
+    let alloc = rt.alloc();
+    let words = words_of(alloc, "run 1000")?;
+    let mut source = source_of(alloc, "scenario 1\nuntil empty\n", 8192, &[])?;
+    let mut sink = MemSink::new(alloc, ENOUGH as u64)?;
+    sink.fail_flush();
+    let status = desk(
+        &rt,
+        alloc,
+        &FreeGate,
+        words.as_slice(),
+        &mut source,
+        &mut sink,
+    );
+    assert_eq!(rt; status.code(), 7);
+    assert_eq!(rt; sink.bytes(), b"end empty 0 0\n".as_slice());
+    Ok(())
 }
 
 /// The runs of a batch are made at once: each sees the other pass the gate.

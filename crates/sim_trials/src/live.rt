@@ -7,7 +7,7 @@ use sim_desk::desk;
 use sim_inbox::{Inbox, QueueInbox};
 use sim_lanes::LaneInbox;
 use sim_live::live_desk;
-use sim_outside::{MemSink, Sink, StdSink};
+use sim_outside::{Gathering, MemSink, Sink, StdSink};
 use std::alloc::{AllocError, Global};
 use std::io::{self, Write};
 use std::str;
@@ -191,15 +191,19 @@ impl<'a> Write for Telling<'a> {
     }
 }
 
-/// A gate whose passes wait until something is written.
+/// A gate whose passes, from this index on, wait until something is written.
 #[derive(Drop)]
 struct Awaiting<'a> {
+    from: u32,
     written: &'a AtomicBool,
     saw: AtomicU64,
 }
 
 impl<'a> Gate for Awaiting<'a> {
-    fn pass(&self, _index: u32) {
+    fn pass(&self, index: u32) {
+        if index < self.from {
+            return;
+        }
         for _ in 0..MOST_TURNS {
             if self.written.load(Ordering::SeqCst) {
                 self.saw.fetch_add(1, Ordering::SeqCst);
@@ -215,28 +219,49 @@ fn the_scenario_runs_before_the_posters_end(rt: HostRuntime) -> Result<(), Fail>
     let alloc = rt.alloc();
     let written = AtomicBool::new(false);
     let gate = Awaiting {
+        from: 0,
         written: &written,
         saw: AtomicU64::new(0),
     };
     let front = with_posters(alloc, LOGGING, "start job 9\n")?;
     let text = with_posters(alloc, front.as_str(), THREE_EACH)?;
-    let mut sink = StdSink::new(Telling { written: &written });
-    let code = live(
-        &rt,
-        alloc,
-        &gate,
-        &LaneInbox,
-        "live 1000",
-        text.as_str(),
-        &mut sink,
-    )?;
-    assert_eq!(rt; code, 0);
+    assert_eq!(rt; live_telling(&rt, alloc, &gate, text.as_str())?, 0);
     assert_eq!(rt;
         gate.saw.load(Ordering::SeqCst),
         2,
         "both saw something written"
     );
     Ok(())
+}
+
+/// The posts of one poster come in, and the trace of what they start is written, before another one posts anything.
+#[test]
+fn posts_come_in_before_all_posters_end(rt: HostRuntime) -> Result<(), Fail> {
+    let alloc = rt.alloc();
+    let written = AtomicBool::new(false);
+    let gate = Awaiting {
+        from: 1,
+        written: &written,
+        saw: AtomicU64::new(0),
+    };
+    let text = with_posters(alloc, LOGGING, THREE_EACH)?;
+    assert_eq!(rt; live_telling(&rt, alloc, &gate, text.as_str())?, 0);
+    assert_eq!(rt; gate.saw.load(Ordering::SeqCst), 1);
+    Ok(())
+}
+
+/// The exit status of a live run whose sink tells the gate when something is written.
+fn live_telling<R: Threads + Wait + Sync>(
+    rt: &R,
+    alloc: Global,
+    gate: &Awaiting<'_>,
+    text: &str,
+) -> Result<u8, AllocError> {
+    let telling = Telling {
+        written: gate.written,
+    };
+    let mut sink = Gathering::new(StdSink::new(telling));
+    live(rt, alloc, gate, &LaneInbox, "live 1000", text, &mut sink)
 }
 
 /// What is posted goes through the ends of the inbox that is given, and all of it comes out by its taker.
@@ -251,6 +276,61 @@ fn posts_go_through_the_inbox_that_is_given(rt: HostRuntime) -> Result<(), Fail>
     assert!(rt; lived.has_three_each(alloc)?);
     assert_eq!(rt; counts.posted(), 6);
     assert_eq!(rt; counts.given(), 6);
+    Ok(())
+}
+
+/// A poster passes its gate before its first post.
+#[test]
+fn the_gate_is_passed_first(rt: HostRuntime) -> Result<(), Fail> {
+    let alloc = rt.alloc();
+    let text = with_posters(alloc, LOGGING, "poster 0\ninn 1\ninn 2\n")?;
+    let counts = Counts::new();
+    let inbox = CountingInbox { counts: &counts };
+    let lived = Lived::of(&rt, alloc, &counts, &inbox, 1000, text.as_str())?;
+    assert_eq!(rt; lived.code, 0);
+    assert_eq!(rt; counts.posted(), 2);
+    assert_eq!(rt; counts.early(), 0);
+    Ok(())
+}
+
+/// Where the inbox can't be closed there is no memory, and the journal is not written.
+#[test]
+fn a_refused_close_is_want_of_memory(rt: HostRuntime) -> Result<(), Fail> {
+    let alloc = rt.alloc();
+    let front = with_posters(alloc, LOGGING, "start job 9\n")?;
+    let text = with_posters(alloc, front.as_str(), "poster 0\n")?;
+    let counts = Counts::refusing();
+    let inbox = CountingInbox { counts: &counts };
+    let lived = Lived::of(&rt, alloc, &FreeGate, &inbox, 1000, text.as_str())?;
+    assert_eq!(rt; lived.code, 8);
+    assert_eq!(rt;
+        lived.sink.bytes(),
+        b"@0 0 0 init 2 ok 0\nlog 0 1 9\n@0 1 1 process 1 ok 0\n".as_slice()
+    );
+    Ok(())
+}
+
+/// A read that fails, and a sink that is full.
+#[test]
+fn devices_of_a_live_run_fail(rt: HostRuntime) -> Result<(), Fail> {
+    let alloc = rt.alloc();
+    let words = words_of(alloc, "live 1000")?;
+    let text = with_posters(alloc, LOGGING, THREE_EACH)?;
+    for (fails, room, code) in [([0].as_slice(), 100, 6), ([].as_slice(), 3, 7)] {
+        let mut source = source_of(alloc, text.as_str(), 8192, fails)?;
+        let mut sink = MemSink::new(alloc, room)?;
+        let status = live_desk(
+            &rt,
+            alloc,
+            &FreeGate,
+            &LaneInbox,
+            words.as_slice(),
+            &mut source,
+            &mut sink,
+        );
+        assert_eq!(rt; status.code(), code);
+        assert_eq!(rt; sink.bytes().len(), if code == 6 { 0 } else { 3 });
+    }
     Ok(())
 }
 

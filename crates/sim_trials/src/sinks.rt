@@ -1,10 +1,6 @@
 //! What a sink takes, and what one behind a sink that gathers takes.
-ghost use Rattle.std.specs.Prelude.{◌≡◌};
-ghost use Rattle.sim_outside.specs.Memory.{told_in_memory};
-
-use sim_outside::{Failed, Gathering, LentSink, Loan, MemSink, NullSink, Sink, write_all};
+use sim_outside::{Failed, Gathering, MemSink, NullSink, Sink, write_all};
 use std::alloc::{AllocError, Global};
-use std::marker::Brand;
 
 const PIECE: &[u8] = b"@0 0 0 init";
 
@@ -39,30 +35,18 @@ fn write_often<K: Sink>(out: &mut K) -> Result<(), Failed> {
     Ok(())
 }
 
-/// Writes by way of a sink that gathers, and flushes it twice. What went well is told, and the sink is given back.
-fn gather<'a, L: Loan>(
-    lent: LentSink<'a, MemSink>,
-    went_well: &mut [bool; 3],
-) -> LentSink<'a, MemSink>
-    requires same_reference { lent.sink.ghost_name ≡ L.name }
-    requires taken { (told_in_memory lent.sink.now).taken ≡ L.taken }
-{
-    let mut gathering = Gathering::<MemSink, L>::new(lent);
-    *went_well = [
-        write_often(&mut gathering).is_ok(),
-        gathering.flush().is_ok(),
-        gathering.flush().is_ok(),
-    ];
-    gathering.into_inner()
-}
-
 /// Whether a sink with so much room takes what fits of all that was gathered, and each flush fails where not all does.
 fn takes_what_was_gathered(alloc: Global, room: usize) -> bool {
     let whole = TIMES * PIECE.len();
     match MemSink::new(alloc, room as u64) {
-        Ok(mut sink) => {
-            let mut went_well = [false; 3];
-            gather::<Brand>(LentSink::new(&mut sink), &mut went_well);
+        Ok(sink) => {
+            let mut gathering = Gathering::new(sink);
+            let went_well = [
+                write_often(&mut gathering).is_ok(),
+                gathering.flush().is_ok(),
+                gathering.flush().is_ok(),
+            ];
+            let sink = gathering.into_inner();
             went_well == [room >= 8192, room >= whole, room >= whole]
                 && sink.bytes().len() == room.min(whole)
                 && sink

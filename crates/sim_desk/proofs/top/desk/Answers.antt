@@ -7,57 +7,57 @@ use Rattle.sim_desk.proofs.Telling.{if_some, whole_answer, unread_answer, status
 use Rattle.sim_desk.proofs.top.desk.Goals as goal
 use Rattle.sim_desk.proofs.top.desk.Goals.{then-is_on_text+in-Ok, else-is_on_text}
 
-pub returns-in-Ok-answer_gathered-clause-headline : goal.returns-in-Ok-answer_gathered-clause-headline
-returns-in-Ok-answer_gathered-clause-headline g c =
-    let told = c.in-Ok-answer_gathered.ensures in
+pub returns-in-Ok-answer-clause-headline : goal.returns-in-Ok-answer-clause-headline
+returns-in-Ok-answer-clause-headline g c =
+    let told = c.in-Ok-answer.ensures in
     if_some _ _ _ c.in-Some.ensures
     (λ whole. elim c.if-is_on_text.branch [
-      | then-is_on_text+in-Ok w ↦ whole_answer c.in-Some.asked _ _ _ _ _ _ _ w.in-Ok.ensures.bytes (c.as_slice.ensures ∙ w.text-is) told.writes.whole told.status
-      | else-is_on_text w ↦ unread_answer c.in-Some.asked _ _ _ _ _ (sym c.is_on_text.ensures ∙ w.if-is_on_text.false) told.writes.whole told.status
+      | then-is_on_text+in-Ok w ↦ whole_answer c.in-Some.asked _ _ _ _ _ _ w.in-Ok.ensures.bytes (c.as_slice.ensures ∙ w.text-is) _ told.writes.whole told.status
+      | else-is_on_text w ↦ unread_answer c.in-Some.asked _ _ _ _ (sym c.is_on_text.ensures ∙ w.if-is_on_text.false) _ told.writes.whole told.status
     ])
 
-pub returns-in-Ok-answer_gathered-clause-unflushed : goal.returns-in-Ok-answer_gathered-clause-unflushed
-returns-in-Ok-answer_gathered-clause-unflushed g c not_whole =
-    absurd (false≢true (sym not_whole ∙ (ap is_whole c.in-Ok-answer_gathered.ensures.status ∙ status_whole c.in-Some.asked _)))
+pub returns-in-Ok-answer-clause-unflushed : goal.returns-in-Ok-answer-clause-unflushed
+returns-in-Ok-answer-clause-unflushed g c not_whole =
+    absurd (false≢true (sym not_whole ∙ (ap is_whole c.in-Ok-answer.ensures.status ∙ status_whole c.in-Some.asked _)))
 
-pub returns-in-Ok-answer_gathered-clause-usage : goal.returns-in-Ok-answer_gathered-clause-usage
-returns-in-Ok-answer_gathered-clause-usage g c = (
-  λ is. absurd (false≢true (told_whole c.in-Some.asked _ _ status.Usage c.in-Ok-answer_gathered.ensures.status is)),
+pub returns-in-Ok-answer-clause-usage : goal.returns-in-Ok-answer-clause-usage
+returns-in-Ok-answer-clause-usage g c = (
+  λ is. absurd (false≢true (told_whole c.in-Some.asked _ _ status.Usage c.in-Ok-answer.ensures.status is)),
   λ none. let some : Some c.in-Some.asked ≡ None = c.in-Some.ensures ∙ none in absurd (cc),
 )
 
-pub returns-in-Ok-answer_gathered-clause-not_written : goal.returns-in-Ok-answer_gathered-clause-not_written
-returns-in-Ok-answer_gathered-clause-not_written g c is =
-    absurd (false≢true (told_whole c.in-Some.asked _ _ status.Usage c.in-Ok-answer_gathered.ensures.status is))
+pub returns-in-Ok-answer-clause-not_written : goal.returns-in-Ok-answer-clause-not_written
+returns-in-Ok-answer-clause-not_written g c is =
+    absurd (false≢true (told_whole c.in-Some.asked _ _ status.Usage c.in-Ok-answer.ensures.status is))
 
-pub returns-in-Ok-answer_gathered-clause-read_fault : goal.returns-in-Ok-answer_gathered-clause-read_fault
-returns-in-Ok-answer_gathered-clause-read_fault g c is =
-    absurd (false≢true (told_whole c.in-Some.asked _ _ status.ReadFault c.in-Ok-answer_gathered.ensures.status is))
+pub returns-in-Ok-answer-clause-read_fault : goal.returns-in-Ok-answer-clause-read_fault
+returns-in-Ok-answer-clause-read_fault g c is =
+    absurd (false≢true (told_whole c.in-Some.asked _ _ status.ReadFault c.in-Ok-answer.ensures.status is))
 
-pub returns-in-Ok-answer_gathered-clause-unwritten : goal.returns-in-Ok-answer_gathered-clause-unwritten
-returns-in-Ok-answer_gathered-clause-unwritten g c is =
-    absurd (false≢true (told_whole c.in-Some.asked _ _ status.ReadFault c.in-Ok-answer_gathered.ensures.status is))
+pub returns-in-Ok-answer-clause-unwritten : goal.returns-in-Ok-answer-clause-unwritten
+returns-in-Ok-answer-clause-unwritten g c is =
+    absurd (false≢true (told_whole c.in-Some.asked _ _ status.ReadFault c.in-Ok-answer.ensures.status is))
 
-pub returns-in-Ok-answer_gathered-clause-write_fault : goal.returns-in-Ok-answer_gathered-clause-write_fault
-returns-in-Ok-answer_gathered-clause-write_fault g c is =
-    absurd (false≢true (told_whole c.in-Some.asked _ _ status.WriteFault c.in-Ok-answer_gathered.ensures.status is))
+pub returns-in-Ok-answer-clause-write_fault : goal.returns-in-Ok-answer-clause-write_fault
+returns-in-Ok-answer-clause-write_fault g c is =
+    absurd (false≢true (told_whole c.in-Some.asked _ _ status.WriteFault c.in-Ok-answer.ensures.status is))
 
-pub returns-in-Ok-answer_gathered-clause-unread_well : goal.returns-in-Ok-answer_gathered-clause-unread_well
-returns-in-Ok-answer_gathered-clause-unread_well g c =
+pub returns-in-Ok-answer-clause-unread_well : goal.returns-in-Ok-answer-clause-unread_well
+returns-in-Ok-answer-clause-unread_well g c =
     if_some _ _ _ c.in-Some.ensures
-    (λ unread is. absurd (false≢true (told_whole c.in-Some.asked _ _ status.ReadFault c.in-Ok-answer_gathered.ensures.status is)))
+    (λ unread is. absurd (false≢true (told_whole c.in-Some.asked _ _ status.ReadFault c.in-Ok-answer.ensures.status is)))
 
-pub returns-in-Ok-answer_gathered-clause-load_ends : goal.returns-in-Ok-answer_gathered-clause-load_ends
-returns-in-Ok-answer_gathered-clause-load_ends g c size is whole =
+pub returns-in-Ok-answer-clause-load_ends : goal.returns-in-Ok-answer-clause-load_ends
+returns-in-Ok-answer-clause-load_ends g c size is whole =
     let same : c.in-Some.asked ≡ Load size = cc in
     let small : Fits w32 size = search rules in
-    c.in-Ok-answer_gathered.ensures.status ∙ load_ended c.in-Some.asked size _ same small.fits
+    c.in-Ok-answer.ensures.status ∙ load_ended c.in-Some.asked size _ same small.fits
 
-pub returns-in-Ok-answer_gathered-clause-native_accepted : goal.returns-in-Ok-answer_gathered-clause-native_accepted
-returns-in-Ok-answer_gathered-clause-native_accepted g c model limit is refused =
+pub returns-in-Ok-answer-clause-native_accepted : goal.returns-in-Ok-answer-clause-native_accepted
+returns-in-Ok-answer-clause-native_accepted g c model limit is refused =
     let same : c.in-Some.asked ≡ Native model limit = cc in
-    native_not_refused c.in-Some.asked model limit _ same (sym c.in-Ok-answer_gathered.ensures.status ∙ refused)
+    native_not_refused c.in-Some.asked model limit _ same (sym c.in-Ok-answer.ensures.status ∙ refused)
 
-pub returns-in-Ok-answer_gathered-clause-complete : goal.returns-in-Ok-answer_gathered-clause-complete
-returns-in-Ok-answer_gathered-clause-complete g c asked_for read wrote =
-    inl (ap is_whole c.in-Ok-answer_gathered.ensures.status ∙ status_whole c.in-Some.asked _)
+pub returns-in-Ok-answer-clause-complete : goal.returns-in-Ok-answer-clause-complete
+returns-in-Ok-answer-clause-complete g c asked_for read wrote =
+    inl (ap is_whole c.in-Ok-answer.ensures.status ∙ status_whole c.in-Some.asked _)

@@ -2,7 +2,7 @@ use Rattle.std.proofs.Common.{◌++◌, ◌+◌, true, sym, ap, ◌∙◌, take}
 use Rattle.sim_outside.proofs.Written.{told_err, as_well, as_failed, both_written, cut_behind}
 use Rattle.sim_writing.specs.RunFaults.{is_write}
 use Rattle.sim_trace.specs.WatchTexts.{row_text, rows_text}
-use Rattle.sim_desk.proofs.Numbering.{lines_next, lines_parted}
+use Rattle.sim_answer.proofs.Numbering.{lines_next, lines_parted}
 use Rattle.sim_desk.proofs.watching.write_rows.Goals as goal
 
 pub returns-in_err-write_all-clause-writes : goal.returns-in_err-write_all-clause-writes

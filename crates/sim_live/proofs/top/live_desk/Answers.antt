@@ -7,19 +7,19 @@ returns-in-Err-Read-clause-prefix g c = if_some _ _ _ c.in-Some.ensures (none_be
 pub returns-in-Err-Memory-clause-prefix : goal.returns-in-Err-Memory-clause-prefix
 returns-in-Err-Memory-clause-prefix g c = if_some _ _ _ c.in-Some.ensures (none_begun _ _ _)
 
-pub returns-in-Ok-answer_gathered-clause-headline : goal.returns-in-Ok-answer_gathered-clause-headline
-returns-in-Ok-answer_gathered-clause-headline g c =
+pub returns-in-Ok-answer-clause-headline : goal.returns-in-Ok-answer-clause-headline
+returns-in-Ok-answer-clause-headline g c =
     if_some _ _ _ c.in-Some.ensures
-    (λ _. whole_answer _ _ _ _ _ _ _ c.in-Ok.ensures.bytes c.as_slice.ensures _ c.in-Ok-answer_gathered.ensures.answers)
+    (λ _. whole_answer _ _ _ _ _ _ _ c.in-Ok.ensures.bytes c.as_slice.ensures _ c.in-Ok-answer.ensures.answers)
 
-pub returns-in-Ok-answer_gathered-clause-prefix : goal.returns-in-Ok-answer_gathered-clause-prefix
-returns-in-Ok-answer_gathered-clause-prefix g c =
-    if_some _ _ _ c.in-Some.ensures (prefix_answer _ _ _ _ _ _ _ c.in-Ok.ensures.bytes c.as_slice.ensures _ c.in-Ok-answer_gathered.ensures.answers)
+pub returns-in-Ok-answer-clause-prefix : goal.returns-in-Ok-answer-clause-prefix
+returns-in-Ok-answer-clause-prefix g c =
+    if_some _ _ _ c.in-Some.ensures (prefix_answer _ _ _ _ _ _ _ c.in-Ok.ensures.bytes c.as_slice.ensures _ c.in-Ok-answer.ensures.answers)
 
 pub returns-in-Err-Write-clause-prefix : goal.returns-in-Err-Write-clause-prefix
 returns-in-Err-Write-clause-prefix g c =
-    if_some _ _ _ c.in-Some.ensures (prefix_answer _ _ _ _ _ _ _ c.in-Ok.ensures.bytes c.as_slice.ensures _ c.answer_gathered.ensures.answers)
+    if_some _ _ _ c.in-Some.ensures (prefix_answer _ _ _ _ _ _ _ c.in-Ok.ensures.bytes c.as_slice.ensures _ c.answer.ensures.answers)
 
 pub returns-clause-prefix : goal.returns-clause-prefix
 returns-clause-prefix g c =
-    if_some _ _ _ c.in-Some.ensures (prefix_answer _ _ _ _ _ _ _ c.in-Ok.ensures.bytes c.as_slice.ensures _ c.answer_gathered.ensures.answers)
+    if_some _ _ _ c.in-Some.ensures (prefix_answer _ _ _ _ _ _ _ c.in-Ok.ensures.bytes c.as_slice.ensures _ c.answer.ensures.answers)

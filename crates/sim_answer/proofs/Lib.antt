@@ -1,0 +1,5 @@
+pub mod AnswersToTexts
+pub mod Numbering
+pub mod ReadRuns
+pub mod Replications
+pub mod Summing
