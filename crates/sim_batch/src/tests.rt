@@ -51,6 +51,18 @@ fn each_index_is_answered_in_its_place(rt: HostRuntime) -> Result<(), Fail> {
 struct Turnstile {
     passes: AtomicU64,
     powers: AtomicU64,
+    /// How many jobs began before their index passed.
+    early: AtomicU64,
+}
+
+impl Turnstile {
+    /// Counts a job that begins before its index has passed.
+    fn look(&self, index: u32) {
+        let powers = self.powers.load(Ordering::SeqCst);
+        if index < 64 && powers & (1 << index) == 0 {
+            self.early.fetch_add(1, Ordering::SeqCst);
+        }
+    }
 }
 
 impl Gate for Turnstile {
@@ -62,18 +74,41 @@ impl Gate for Turnstile {
     }
 }
 
+/// A job that looks whether its index has passed the gate.
+#[derive(Drop)]
+struct Looking<'a> {
+    inner: Counting<'a>,
+    gate: &'a Turnstile,
+}
+
+impl<'a> Job for Looking<'a> {
+    ghost answer = { λ job index. record job.inner.like.now { processed = index } };
+
+    ghost keeps = { λ _ _. Unit {0} };
+
+    fn one(&self, alloc: Global, index: u32) -> Result<Summary, AllocError> {
+        self.gate.look(index);
+        self.inner.one(alloc, index)
+    }
+}
+
 // Forty powers of two that make 2^40 - 1 together are the first forty, each once.
 #[test]
-fn each_index_passes_the_gate_once(rt: HostRuntime) -> Result<(), Fail> {
+fn each_index_passes_the_gate_once_before_its_job(rt: HostRuntime) -> Result<(), Fail> {
     let gate = Turnstile {
         passes: AtomicU64::new(0),
         powers: AtomicU64::new(0),
+        early: AtomicU64::new(0),
     };
-    let job = Counting { like: &LIKE };
+    let job = Looking {
+        inner: Counting { like: &LIKE },
+        gate: &gate,
+    };
     let summaries = batch(&rt, rt.alloc(), &job, 40, &gate)?;
     assert_eq!(rt; summaries.len(), 40);
     assert_eq!(rt; gate.passes.load(Ordering::SeqCst), 40);
     assert_eq!(rt; gate.powers.load(Ordering::SeqCst), (1 << 40) - 1);
+    assert_eq!(rt; gate.early.load(Ordering::SeqCst), 0);
     Ok(())
 }
 

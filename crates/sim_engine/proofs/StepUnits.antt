@@ -1,5 +1,5 @@
 -- A unit of the kernel is a step of the machine, whose line is counted.
-use Rattle.std.proofs.Common.{◌≡◌, ℕ, ◌+◌, ℤ, ◌+ℤ◌, List, [], ◌∷◌, ◌++◌, length, refl, sym, ap, ◌∙◌, subst}
+use Rattle.std.proofs.Common.{◌≡◌, ℕ, ◌+◌, ◌-◌, ℤ, ◌+ℤ◌, List, [], ◌∷◌, ◌++◌, length, refl, sym, ap, ◌∙◌, subst, arith}
 use Rattle.std.proofs.Math.IntN.{+ℤ_assoc, +ℤ_idl}
 use Rattle.std.proofs.Common.{length-append}
 use Rattle.sim_types.specs.Scenarios.{ScenarioOf}
@@ -8,9 +8,10 @@ use Rattle.sim_types.specs.declared.line.Line.TheVariants as line
 use Rattle.sim_machine.specs.State.{State}
 use Rattle.sim_machine.specs.Runs.{logged, total}
 use Rattle.sim_machine.specs.Units.{arrive}
-use Rattle.sim_steps_model.specs.PartsOf.{PartsOf, plan_of}
+use Rattle.sim_steps_model.specs.PartsOf.{PartsOf, KeepsButRoom, plan_of}
 use Rattle.sim_steps_model.specs.StandsFor.{StandsFor, LawfulOf, lines_of}
 use Rattle.sim_steps_model.specs.declared.mode.Unit.{Unit}
+use Rattle.sim_steps_law.proofs.Kernels.Rooms.{roomier_stands, roomier_lawful}
 use Rattle.sim_kernel.specs.Stepping.{MakesStep, StepsFrom}
 use Rattle.sim_kernel.specs.Arriving.{MakesArrival, ArrivesFrom}
 use Rattle.sim_script_model.specs.Scripts.{Script}
@@ -48,6 +49,24 @@ now_at old new t u added h stands lawful lines logs sum =
           sum ∙ ap (λ n. n +ℤ total (logged added)) h.total
           ∙ sym (ap (λ ls. total (logged ls)) lines ∙ ap total (logged_append t.lines added) ∙ total_append (logged t.lines) (logged added));
     }
+
+-- where only the room changed
+pub still_at : (old new : SessionOf) (t : State Script) → KeepsButRoom old.parts new.parts → new.logs ≡ old.logs → new.total ≡ old.total → IsAt old t
+    → IsAt new t
+still_at old new t room logs sum at =
+    record {
+      stands = roomier_stands old.parts new.parts t room at.stands;
+      lawful = roomier_lawful script_body old.parts new.parts t room at.lawful;
+      logs = logs ∙ at.logs;
+      total = sum ∙ at.total;
+    }
+
+-- the same of a session whose units are counted from another value of it
+pub still_after : (view old : SessionOf) → view ≡ old → (new : SessionOf) → KeepsButRoom view.parts new.parts → new.units ≡ view.units → new.logs ≡ view.logs
+    → new.total ≡ view.total → (t : State Script) → IsAt old t → IsAt new (steps_in old.parts (new.units - old.units) t)
+still_after view old is new room units logs sum t at =
+    let none : new.units - old.units ≡ 0 = omega (arith, units, ap (λ x. x.units) is) in
+    subst (λ n. IsAt new (steps_in old.parts n t)) (sym none) (still_at view new t room logs sum (subst (λ x. IsAt x t) (sym is) at))
 
 -- ---- a unit
 

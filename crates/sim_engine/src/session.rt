@@ -132,8 +132,8 @@ impl Session {
             IsBusyBetween self.old.parts (self.new.units - self.old.units) t }
         ensures settled { OnOk result (IsSettled self.new) }
         // From each state that it stood for.
-        ensures steps { OnOk result ((t : State Script) → IsAt self.old t →
-            IsAt self.new (steps_in self.old.parts (self.new.units - self.old.units) t)) }
+        ensures steps { (t : State Script) → IsAt self.old t →
+            IsAt self.new (steps_in self.old.parts (self.new.units - self.old.units) t) }
         ensures writes { (t : State Script) → IsAt self.old t →
             Writes is_write (K.tells out.old) (K.tells out.new) result
             (text_of_steps scenario.now.port_names self.old.parts
@@ -171,12 +171,12 @@ impl Session {
         ensures within { self.new.units ≤ self.old.limit }
         ensures at_most_one { self.new.units ≤ self.old.units + 1 }
         ensures never_fewer { self.old.units ≤ self.new.units }
-        // From each state that it stood for.
-        ensures arrives { OnOk result ((t : State Script) → IsAt self.old t →
-            self.old.units < self.old.limit →
-            IsAt self.new (arrive (plan_of script_body self.old.parts) port value t)) }
-        ensures settled { OnOk result ((t : State Script) → IsAt self.old t →
-            IsSettled self.new) }
+        // From each state that it stood for, where a unit was made, and where none was.
+        ensures arrives { (t : State Script) → IsAt self.old t → self.old.units < self.new.units →
+            IsAt self.new (arrive (plan_of script_body self.old.parts) port value t) }
+        ensures stays { (t : State Script) → IsAt self.old t → self.new.units ≡ self.old.units →
+            IsAt self.new t }
+        ensures settled { (t : State Script) → IsAt self.old t → IsSettled self.new }
         ensures writes { (t : State Script) → IsAt self.old t →
             Writes is_write (K.tells out.old) (K.tells out.new) result
             (if nat_lt self.old.units self.new.units then line_text scenario.now.port_names
@@ -288,8 +288,8 @@ impl Session {
         ensures more { OnOk result (self.old.units < self.new.units) }
         ensures busy { (t : State Script) → IsAt self.old t →
             IsBusyBetween self.old.parts (self.new.units - self.old.units) t }
-        ensures steps { OnOk result ((t : State Script) → IsAt self.old t →
-            IsAt self.new (steps_in self.old.parts (self.new.units - self.old.units) t)) }
+        ensures steps { (t : State Script) → IsAt self.old t →
+            IsAt self.new (steps_in self.old.parts (self.new.units - self.old.units) t) }
         ensures writes { (t : State Script) → IsAt self.old t →
             Writes is_write (K.tells out.old) (K.tells out.new) result
             (text_of_steps scenario.now.port_names self.old.parts

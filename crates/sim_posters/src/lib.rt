@@ -2,6 +2,8 @@
 #![tactic(auto)]
 
 mod posters;
+#[cfg(test)]
+mod tests;
 mod worker;
 
 pub use posters::{capacities_of, join_all, start_all};

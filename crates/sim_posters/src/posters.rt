@@ -3,6 +3,7 @@ ghost use Rattle.std.specs.Prelude.{◌≡◌, ℕ, ◌-◌, ◌<◌, ◌≤◌,
 ghost use Rattle.sim_posters.specs.Posters.{capacity_of, IsBack, IsFresh, IsWorker, WorkerOf};
 
 use crate::worker::{Ended, Worker, start};
+use core::thread::Stack;
 use sim_batch::Gate;
 use sim_inbox::{Posting, Taking};
 use sim_types::{List, Post};
@@ -73,7 +74,16 @@ fn start_at<'s, E, P: Posting + Send + Drop + 's, G: Gate + Sync>(
     ensures posts { result.posts ≡ slice_index_or sections.now number [] }
     ensures before { result.before ≡ poster }
 {
-    start(scope, poster, &sections[number], gate, number as u32, ended)
+    let stack = Stack::new();
+    start(
+        scope,
+        stack,
+        poster,
+        &sections[number],
+        gate,
+        number as u32,
+        ended,
+    )
 }
 
 /// The posters after their work, in order of number. There is no answer without memory for them, nor where one of them found

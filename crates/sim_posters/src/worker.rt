@@ -2,6 +2,7 @@
 ghost use Rattle.std.specs.Prelude.{◌≡◌, ℕ, ◌-◌, ◌<◌, ◌≤◌, ◌^◌, [], length};
 ghost use Rattle.sim_posters.specs.Posters.{IsPostedBy};
 
+use core::thread::Stack;
 use sim_batch::Gate;
 use sim_inbox::Posting;
 use sim_types::{List, Post};
@@ -82,9 +83,11 @@ impl<P: Posting + Drop> Worker<P> {
     }
 }
 
-/// Sets a poster to work in a thread of its own. Where none can be made it does its work before this call returns.
+/// Sets a poster to work in a thread of its own, with this stack. Where none can be made it does its work before this call
+/// returns.
 pub fn start<'s, E, P: Posting + Send + Drop + 's, G: Gate + Sync>(
     scope: &Scope<'s, E>,
+    stack: Stack,
     poster: P,
     section: &'s List<Post>,
     gate: &'s G,
@@ -104,7 +107,7 @@ pub fn start<'s, E, P: Posting + Send + Drop + 's, G: Gate + Sync>(
             × (length section.now < 2 ^ 32 - 1) }
         ensures { IsPostedBy P.Posting poster section.entry.now result.poster result.whole }
     { post_all(poster, section, gate, number, ended) };
-    let started = match scope.spawn_with(promise, work) {
+    let started = match stack.spawn_scoped_with(scope, promise, work) {
         Ok(thread) => Ok(thread),
         Err(refused) => Err((refused.value)()),
     };

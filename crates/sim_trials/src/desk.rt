@@ -225,6 +225,20 @@ fn a_flush_fails(rt: HostRuntime) -> Result<(), Fail> {
     Ok(())
 }
 
+/// A run that logs without end stops where its sink is full.
+#[test]
+fn a_full_sink_ends_a_run(rt: HostRuntime) {
+    let text = "scenario 1\nuntil empty\nprocess p\nloop\nlog 1\nend\nend\nstart p\n";
+    let front = Answer {
+        code: 7,
+        bytes: b"@0 0 0 init 2 ok 0\nlog 0 1 1\nlo",
+    };
+    match words_of(rt.alloc(), "run 10000000") {
+        Ok(words) => assert!(rt; writes(&rt, rt.alloc(), words.as_slice(), text, 31, front)),
+        Err(AllocError) => panic!(rt; "memory is found"),
+    }
+}
+
 /// The runs of a batch are made at once: each sees the other pass the gate.
 #[test]
 fn runs_of_a_batch_meet(rt: HostRuntime) -> Result<(), Fail> {

@@ -12,7 +12,7 @@ use std::alloc::{AllocError, Global};
 use std::io::{self, Write};
 use std::str;
 use std::sync::Wait;
-use std::sync::atomic::{AtomicBool, AtomicU64, Ordering};
+use std::sync::atomic::{AtomicU64, Ordering};
 use std::test::Fail;
 use std::thread::Threads;
 
@@ -64,7 +64,7 @@ fn run<R: Threads + Sync, K: Sink>(
 #[derive(Drop)]
 struct Lived {
     code: u8,
-    sink: MemSink,
+    bytes: Vec<u8>,
 }
 
 impl Lived {
@@ -80,12 +80,13 @@ impl Lived {
         let mut sink = MemSink::new(alloc, ENOUGH)?;
         let line = format!(in alloc; "live {limit}")?;
         let code = live(rt, alloc, gate, inbox, line.as_str(), text, &mut sink)?;
-        Ok(Lived { code, sink })
+        let bytes = sink.bytes().to_vec(alloc)?;
+        Ok(Lived { code, bytes })
     }
 
     /// The trace, and the entries of the journal.
     fn parts(&self) -> (&str, &str) {
-        match str::from_utf8(self.sink.bytes()) {
+        match str::from_utf8(self.bytes.as_slice()) {
             Ok(answer) => answer.rsplit_once("journal\n").unwrap_or(("", "")),
             Err(_) => ("", ""),
         }
@@ -174,15 +175,17 @@ fn posters_post_at_once_and_their_journal_runs_again(rt: HostRuntime) -> Result<
     Ok(())
 }
 
-/// A writer that tells when something is written.
+/// A writer that keeps what is written, and counts the writes.
 #[derive(Drop)]
 struct Telling<'a> {
-    written: &'a AtomicBool,
+    bytes: Vec<u8>,
+    writes: &'a AtomicU64,
 }
 
 impl<'a> Write for Telling<'a> {
     fn write(&mut self, piece: &[u8]) -> io::Result<usize> {
-        self.written.store(true, Ordering::SeqCst);
+        self.bytes.extend_from_slice(piece)?;
+        self.writes.fetch_add(1, Ordering::SeqCst);
         Ok(piece.len())
     }
 
@@ -191,12 +194,24 @@ impl<'a> Write for Telling<'a> {
     }
 }
 
-/// A gate whose passes, from this index on, wait until something is written.
+/// A gate whose passes, from this index on, wait until so many writes were made.
 #[derive(Drop)]
 struct Awaiting<'a> {
     from: u32,
-    written: &'a AtomicBool,
+    wanted: u64,
+    writes: &'a AtomicU64,
     saw: AtomicU64,
+}
+
+impl<'a> Awaiting<'a> {
+    fn new(from: u32, wanted: u64, writes: &'a AtomicU64) -> Awaiting<'a> {
+        Awaiting {
+            from,
+            wanted,
+            writes,
+            saw: AtomicU64::new(0),
+        }
+    }
 }
 
 impl<'a> Gate for Awaiting<'a> {
@@ -205,7 +220,7 @@ impl<'a> Gate for Awaiting<'a> {
             return;
         }
         for _ in 0..MOST_TURNS {
-            if self.written.load(Ordering::SeqCst) {
+            if self.writes.load(Ordering::SeqCst) >= self.wanted {
                 self.saw.fetch_add(1, Ordering::SeqCst);
                 return;
             }
@@ -213,55 +228,105 @@ impl<'a> Gate for Awaiting<'a> {
     }
 }
 
+/// How many posters, from this one on, see something written before they post. Lines are gathered.
+fn sees_written<R: Threads + Wait + Sync>(
+    rt: &R,
+    alloc: Global,
+    from: u32,
+    front: &str,
+) -> Result<u64, AllocError> {
+    let writes = AtomicU64::new(0);
+    let gate = Awaiting::new(from, 1, &writes);
+    let telling = Telling {
+        bytes: Vec::new(alloc),
+        writes: &writes,
+    };
+    let text = with_posters(alloc, front, THREE_EACH)?;
+    let mut sink = Gathering::new(StdSink::new(telling));
+    let _code = live(
+        rt,
+        alloc,
+        &gate,
+        &LaneInbox,
+        "live 1000",
+        text.as_str(),
+        &mut sink,
+    )?;
+    Ok(gate.saw.load(Ordering::SeqCst))
+}
+
 /// The scenario runs, and its trace is written, before the posters post anything.
 #[test]
 fn the_scenario_runs_before_the_posters_end(rt: HostRuntime) -> Result<(), Fail> {
-    let alloc = rt.alloc();
-    let written = AtomicBool::new(false);
-    let gate = Awaiting {
-        from: 0,
-        written: &written,
-        saw: AtomicU64::new(0),
-    };
-    let front = with_posters(alloc, LOGGING, "start job 9\n")?;
-    let text = with_posters(alloc, front.as_str(), THREE_EACH)?;
-    assert_eq!(rt; live_telling(&rt, alloc, &gate, text.as_str())?, 0);
-    assert_eq!(rt;
-        gate.saw.load(Ordering::SeqCst),
-        2,
-        "both saw something written"
-    );
+    let front = with_posters(rt.alloc(), LOGGING, "start job 9\n")?;
+    assert_eq!(rt; sees_written(&rt, rt.alloc(), 0, front.as_str())?, 2);
     Ok(())
 }
 
 /// The posts of one poster come in, and the trace of what they start is written, before another one posts anything.
 #[test]
 fn posts_come_in_before_all_posters_end(rt: HostRuntime) -> Result<(), Fail> {
-    let alloc = rt.alloc();
-    let written = AtomicBool::new(false);
-    let gate = Awaiting {
-        from: 1,
-        written: &written,
-        saw: AtomicU64::new(0),
-    };
-    let text = with_posters(alloc, LOGGING, THREE_EACH)?;
-    assert_eq!(rt; live_telling(&rt, alloc, &gate, text.as_str())?, 0);
-    assert_eq!(rt; gate.saw.load(Ordering::SeqCst), 1);
+    assert_eq!(rt; sees_written(&rt, rt.alloc(), 1, LOGGING)?, 1);
     Ok(())
 }
 
-/// The exit status of a live run whose sink tells the gate when something is written.
-fn live_telling<R: Threads + Wait + Sync>(
+/// What a live run of these lines came to, with posters that post once so many lines of its trace were written.
+fn posted_late<R: Threads + Wait + Sync>(
     rt: &R,
     alloc: Global,
-    gate: &Awaiting<'_>,
-    text: &str,
-) -> Result<u8, AllocError> {
-    let telling = Telling {
-        written: gate.written,
+    lines: u64,
+    front: &str,
+) -> Result<Lived, AllocError> {
+    let writes = AtomicU64::new(0);
+    let gate = Awaiting::new(0, lines, &writes);
+    let mut telling = Telling {
+        bytes: Vec::new(alloc),
+        writes: &writes,
     };
-    let mut sink = Gathering::new(StdSink::new(telling));
-    live(rt, alloc, gate, &LaneInbox, "live 1000", text, &mut sink)
+    let text = with_posters(alloc, front, THREE_EACH)?;
+    let mut sink = StdSink::new(&mut telling);
+    let code = live(
+        rt,
+        alloc,
+        &gate,
+        &LaneInbox,
+        "live 1000",
+        text.as_str(),
+        &mut sink,
+    )?;
+    Ok(Lived {
+        code,
+        bytes: telling.bytes,
+    })
+}
+
+/// Posts that come when the time is over, or after a failure that nobody caught, are in the journal, each with the number of
+/// events that were processed, and do not come in.
+#[test]
+fn posts_after_the_end_do_not_come_in(rt: HostRuntime) -> Result<(), Fail> {
+    let until = (
+        "scenario 1\nuntil 5\nport inn job\nprocess job v\nlog v\nend\nstart job 9\n",
+        "@0 0 0 init 2 ok 0\nlog 0 1 9\n@0 1 2 process 1 ok 0\n@5 0 1 stop 3 ok 0\nend until 5 3\n",
+        "after 3 ",
+        0,
+    );
+    let crash = (
+        "scenario 1\nuntil empty\nport inn job\nprocess job v\nraise v\nend\nstart job 9\n",
+        "@0 0 0 init 2 ok 0\n@0 1 1 process 1 fail 3 9\nend crash 0 2\n",
+        "after 2 ",
+        4,
+    );
+    for (front, wanted, after, code) in [until, crash] {
+        let lines = wanted.lines().count() as u64 - 1;
+        let lived = posted_late(&rt, rt.alloc(), lines, front)?;
+        assert_eq!(rt; lived.code, code);
+        let (trace, entries) = lived.parts();
+        assert_eq!(rt; trace, wanted);
+        assert!(rt; entries.lines().all(|line| line.starts_with(after)));
+        assert!(rt; lived.has_three_each(rt.alloc())?);
+        assert!(rt; lived.runs_again(&rt, rt.alloc(), 1000, front)?);
+    }
+    Ok(())
 }
 
 /// What is posted goes through the ends of the inbox that is given, and all of it comes out by its taker.
@@ -304,7 +369,7 @@ fn a_refused_close_is_want_of_memory(rt: HostRuntime) -> Result<(), Fail> {
     let lived = Lived::of(&rt, alloc, &FreeGate, &inbox, 1000, text.as_str())?;
     assert_eq!(rt; lived.code, 8);
     assert_eq!(rt;
-        lived.sink.bytes(),
+        lived.bytes.as_slice(),
         b"@0 0 0 init 2 ok 0\nlog 0 1 9\n@0 1 1 process 1 ok 0\n".as_slice()
     );
     Ok(())

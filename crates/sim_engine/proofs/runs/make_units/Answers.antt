@@ -158,6 +158,7 @@ loop-session-preserved-then-branch g c =
     let first = (arrival_is_next old left a comes).1 in
     let m = course_after (run_of s seed journal) old.units in
     let below : old.units < old.limit = grind (arith, nat_tests, made.answer, c.if-branch.true) in
+    let more : old.units < new.units = omega (arith, made.units below) in
     let has : Arrival → Type 0 = λ x. x.port < length s.setup.ports in
     let same : to_z w64 (of_z w64 a.value) ≡ a.value = search rules in
     let text = arrived_text s seed journal left old new h.stands made.goes_on a _ same made.never_fewer made.at_most_one comes in
@@ -165,7 +166,7 @@ loop-session-preserved-then-branch g c =
       stands =
           subst (λ ls. StandsInRun s seed journal ls new) (sym (rest_is left))
           (after_arrival s seed journal left old new h.stands made.goes_on a comes (made.units below) (made.none_refused below)
-          (subst (λ v. IsAt new (arrive (plan_of script_body old.parts) a.port v m.state)) same (made.arrives m.state h.stands.at below)));
+          (subst (λ v. IsAt new (arrive (plan_of script_body old.parts) a.port v m.state)) same (made.arrives m.state h.stands.at more)));
       ports = subst (HavePorts s.setup) (sym (rest_is left)) (All-tail has a (drop 1 left) (subst (All has) first h.ports));
       limit = made.goes_on.limit ∙ h.limit;
       within = omega (arith, made.within, made.goes_on.limit);

@@ -4,7 +4,12 @@ use Rattle.sim_outside.proofs.Written.{told_err, none_to_write, as_well, as_fail
 use Rattle.sim_trace.specs.Texts.{line_text}
 use Rattle.sim_writing.specs.RunFaults.{is_write}
 use Rattle.sim_engine.proofs.QuietSteps.{busy_until, quiet_at, quiet_text, line_busy, line_at, line_text_at}
+use Rattle.sim_engine.proofs.StepUnits.{still_after}
 use Rattle.sim_engine.proofs.session.Session.go_on.Goals as goal
+
+pub returns-in_err-units-clause-steps : goal.returns-in_err-units-clause-steps
+returns-in_err-units-clause-steps g c t at =
+    still_after _ c.args.self.now c.self.view_is _ c.in_err-units.ensures.err.parts refl refl refl t at
 
 pub returns-in-Quiet-clause-busy : goal.returns-in-Quiet-clause-busy
 returns-in-Quiet-clause-busy g c =
@@ -42,6 +47,11 @@ returns-in_ok-tell-in-Line-clause-writes g c t at =
 pub returns-in_err-tell-in-Line-clause-busy : goal.returns-in_err-tell-in-Line-clause-busy
 returns-in_err-tell-in-Line-clause-busy g c =
     line_busy _ c.args.self.now c.self.view_is c.in_ok-units.units.made c.in_ok-units.units.last _ c.units.new.self.parts c.in_ok-units.ensures.steps
+    c.in-Line.line c.in-Line.is c.tell.new.self c.tell.ensures.logs
+
+pub returns-in_err-tell-in-Line-clause-steps : goal.returns-in_err-tell-in-Line-clause-steps
+returns-in_err-tell-in-Line-clause-steps g c =
+    line_at _ c.args.self.now c.self.view_is c.in_ok-units.units.made c.in_ok-units.units.last _ c.units.new.self.parts c.in_ok-units.ensures.steps
     c.in-Line.line c.in-Line.is c.tell.new.self c.tell.ensures.logs
 
 pub returns-in_err-tell-in-Line-clause-writes : goal.returns-in_err-tell-in-Line-clause-writes

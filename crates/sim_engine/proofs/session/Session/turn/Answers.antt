@@ -62,6 +62,12 @@ returns-in_err-go_on-clause-busy g c =
     let made = c.go_on.ensures in
     busy_more c.args.self.now c.loop-self.self c.go_on.new.self before.goes_on before.never_fewer made.never_fewer before.steps before.under_way before.busy made.busy
 
+pub returns-in_err-go_on-clause-steps : goal.returns-in_err-go_on-clause-steps
+returns-in_err-go_on-clause-steps g c =
+    let before = c.loop-self.invariant in
+    let made = c.go_on.ensures in
+    steps_more c.args.self.now c.loop-self.self c.go_on.new.self before.goes_on before.never_fewer made.never_fewer before.steps made.steps
+
 pub returns-in_err-go_on-clause-writes : goal.returns-in_err-go_on-clause-writes
 returns-in_err-go_on-clause-writes g c t at =
     let before = c.loop-self.invariant in

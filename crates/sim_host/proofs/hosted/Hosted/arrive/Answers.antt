@@ -46,6 +46,7 @@ returns-in-Ok-clause-hosted c =
     let within = h.within in
     let differ = c.if-units-limit.false in
     let below : old.session.units < old.session.limit = omega (arith, units, limit, within, differ) in
+    let more : old.session.units < new.session.units = omega (arith, made.units below) in
     let same : to_z w64 (of_z w64 e.value) ≡ e.value = search rules in
-    let at = subst (λ (a : Arrival). IsAt new.session (arrive g a.port a.value t)) there (subst (λ v. IsAt new.session (arrive g e.port v t)) same (made.arrives t h.stands.at below)) in
+    let at = subst (λ (a : Arrival). IsAt new.session (arrive g a.port a.value t)) there (subst (λ v. IsAt new.session (arrive g e.port v t)) same (made.arrives t h.stands.at more)) in
     arrived_one s old new h made.goes_on comes.0 comes.1 refl (made.units below) made.within (made.none_refused below) (made.settled t h.stands.at) at

@@ -1,4 +1,4 @@
-use Rattle.std.proofs.Common.{sym, ◌∙◌, rules}
+use Rattle.std.proofs.Common.{sym, ◌∙◌, rules, arith}
 use Rattle.sim_live.proofs.LiveRuns.{came_at, came_falls, came_live, came_written, has_come, late_live, late_written, run_with}
 use Rattle.sim_live.proofs.WrittenOn.{on_err, on_ok}
 use Rattle.sim_live.proofs.live_run.LiveRun.arrive.Goals as goal
@@ -55,7 +55,7 @@ returns-clause-live g c =
     let made = c.arrive.ensures in
     let done = c.in_ok-arrive.ensures in
     came_live came c.arrive.new.self c.arrive.ensures.goes_on (sym c.takes_arrivals.ensures ∙ c.if-not-takes_arrivals.false) (search rules) made.within
-    (done.settled _ (came_at came)) done.units made.none_refused made.refused done.arrives
+    (done.settled _ (came_at came)) done.units made.none_refused made.refused (λ u at below. done.arrives u at (omega (arith, done.units below)))
 
 pub returns-clause-falls : goal.returns-clause-falls
 returns-clause-falls g c =
