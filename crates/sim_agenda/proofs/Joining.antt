@@ -30,6 +30,20 @@ put_behind xs ys zs x is =
 pub put_among : (xs ys zs : List Entry) (x : Entry) → IsPermutation (x ∷ xs) zs → IsPermutation (x ∷ (xs ++ ys)) (zs ++ ys)
 put_among xs ys zs x moved = IsPermutation-append_left ys (x ∷ xs) zs moved
 
+-- an entry is put before others, and the last of them is taken out
+pub exchanged : (xs ys : List Entry) (x last : Entry) → ys ≡ xs ++ last ∷ [] → IsPermutation (x ∷ ys) (last ∷ x ∷ xs)
+exchanged xs ys x last is =
+    subst (λ us. IsPermutation (x ∷ us) (last ∷ x ∷ xs)) (sym is) (IsPermutation-to_front (x ∷ xs) last)
+
+-- an entry is put among the latter, and another of them in the heap
+pub put_for_other : (xs ys us zs : List Entry) (x other : Entry) → IsPermutation (x ∷ ys) (other ∷ us) → IsPermutation (other ∷ xs) zs
+    → IsPermutation (x ∷ (xs ++ ys)) (zs ++ us)
+put_for_other xs ys us zs x other moved among =
+    IsPermutation-trans (x ∷ (xs ++ ys)) (xs ++ x ∷ ys) (zs ++ us) (through xs ys x)
+    (IsPermutation-trans (xs ++ x ∷ ys) (xs ++ other ∷ us) (zs ++ us) (IsPermutation-append_right xs (x ∷ ys) (other ∷ us) moved)
+    (IsPermutation-trans (xs ++ other ∷ us) (other ∷ (xs ++ us)) (zs ++ us) (IsPermutation-sym (other ∷ (xs ++ us)) (xs ++ other ∷ us) (through xs us other))
+    (put_among xs us zs other among)))
+
 -- the front of the series is taken out
 front_taken : (xs ys rest : List Entry) (x : Entry) → ys ≡ x ∷ rest → Rises ys → FrontIsDue ys xs → TakesFirst (xs ++ ys) x (xs ++ rest)
 front_taken xs ys rest x is rises front =

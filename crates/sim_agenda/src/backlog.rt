@@ -5,14 +5,15 @@ ghost use Rattle.sim_agenda.specs.Comparisons.{most_comparisons};
 ghost use Rattle.sim_agenda.specs.Series.{IsFirst};
 
 use crate::heap;
-use crate::series::{front_is_due, goes_behind};
+use crate::series::{exchange_last, front_is_due, goes_behind};
 use sim_types::{Count, Entry};
 use std::alloc::{AllocError, Global};
 use std::collections::VecDeque;
 use std::marker::Model;
 
-/// Entries in no order that counts. One that comes after all of the series when it is put in goes behind them, and any
-/// other into the heap. Each of the two has room for all.
+/// Entries in no order that counts. One that comes after all of the series when it is put in goes to its end. One that
+/// comes before all of them goes to its front, and the last, which may be far away, into the heap in its place. Any other
+/// goes into the heap. Each of the two has room for all.
 #[derive(Drop)]
 pub(crate) struct Backlog {
     heap: Vec<Entry>,
@@ -61,7 +62,9 @@ impl Backlog {
             return Ok(());
         }
         self.heap.reserve(more.saturating_add(self.series.len()))?;
-        self.series.reserve(more.saturating_add(self.heap.len()))
+        // as much as the heap has: a deque grows by its length, and so anew for each call
+        let room = self.heap.capacity();
+        self.series.reserve(room.saturating_sub(self.series.len()))
     }
 
     /// An entry more. It takes no memory.
@@ -76,7 +79,8 @@ impl Backlog {
         if goes_behind(&self.series, &entry, count) {
             self.series.push_back_reserved(entry);
         } else {
-            heap::push(&mut self.heap, entry, count);
+            let other = exchange_last(&mut self.series, entry, count);
+            heap::push(&mut self.heap, other, count);
         }
     }
 

@@ -3,7 +3,8 @@
 //! its place among the others.
 ghost use Rattle.std.specs.Prelude.{◌≡◌, ◌+◌, ◌<◌, ◌≤◌, ◌^◌, [], ◌∷◌, ◌++◌, IsTrue, IsFalse, IsSome, length};
 ghost use Rattle.std.specs.Option.{option_to_list};
-ghost use Rattle.std.specs.VecDeque.{deque_capacity};
+ghost use Rattle.std.specs.List.Sorted.{IsPermutation};
+ghost use Rattle.std.specs.VecDeque.{deque_len, deque_capacity};
 ghost use Rattle.sim_agenda.specs.Heaps.{IsHeap};
 ghost use Rattle.sim_agenda.specs.Series.{Rises, FrontIsDue, FirstIsDue};
 
@@ -44,6 +45,30 @@ pub(crate) fn put_behind(series: &mut VecDeque<Entry>, entry: &Entry, count: &mu
     }
     series.push_back_reserved(*entry);
     true
+}
+
+/// Puts an entry before the front and takes the last out, if the entry comes before all others; else answers the entry.
+/// It takes no memory.
+pub(crate) fn exchange_last(series: &mut VecDeque<Entry>, entry: Entry, count: &mut Count) -> Entry
+    requires rises { Rises series.old.items }
+    requires count { count.old ≤ 2 ^ 63 + 3 }
+    ensures rises { Rises series.new.items }
+    ensures moved { IsPermutation (entry ∷ series.old.items) (result ∷ series.new.items) }
+    ensures len { deque_len series.new ≡ deque_len series.old }
+    ensures capacity { deque_capacity series.new ≡ deque_capacity series.old }
+    ensures once { count.new ≤ count.old + 1 }
+    ensures counts { count.old ≤ count.new }
+    ensures alone { series.old.items ≡ [] → count.new ≡ count.old }
+{
+    match series.front() {
+        Some(front) if entry.key.less(&front.key, count) => {}
+        _ => return entry,
+    }
+    let Some(last) = series.pop_back() else {
+        return entry;
+    };
+    series.push_front_reserved(entry);
+    last
 }
 
 /// Takes the front out. Where none is left, the queue begins at its front again.
