@@ -3,10 +3,10 @@
 
 mod gate;
 mod job;
-mod rounds;
+mod shares;
 #[cfg(test)]
 mod tests;
 
 pub use gate::{FreeGate, Gate};
 pub use job::Job;
-pub use rounds::batch;
+pub use shares::batch;
