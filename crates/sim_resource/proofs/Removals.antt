@@ -10,7 +10,7 @@ use Rattle.sim_types.proofs.Permutations.{AllPairs-head, AllPairs-tail}
 use Rattle.sim_types.specs.declared.event.EventId.{EventId}
 use Rattle.sim_machine.specs.Events.{is_same, without_first}
 use Rattle.sim_shared_model.proofs.LeftOut.{same_yes, none_left_out}
-use Rattle.sim_resource.specs.Places.{IsPlaceFound}
+use Rattle.sim_places.specs.Places.{IsPlaceFound}
 
 -- ---- a request
 

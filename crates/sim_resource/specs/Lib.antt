@@ -1,5 +1,4 @@
 pub mod QueueOrder
 pub mod GrantOrder
 pub mod SoundDesks
-pub mod Places
 pub mod PreemptedOf

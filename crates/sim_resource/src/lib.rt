@@ -3,7 +3,6 @@
 #![tactic(auto)]
 
 mod desk;
-mod ends;
 mod key;
 mod kind;
 mod preempted;

@@ -10,8 +10,8 @@ ghost use Rattle.sim_shared_model.specs.Sorting.{IsInOrderBy, put_behind};
 ghost use Rattle.sim_resource.specs.QueueOrder.{queue_joined, waits_before};
 ghost use Rattle.sim_machine.specs.Keys as keys;
 
-use crate::ends::place_from_ends;
 use crate::key::is_served_first;
+use sim_places::find_place;
 use sim_shared_model::WaitingRequest;
 use sim_types::{EventId, ProcId, RequestKey};
 use std::collections::VecDeque;
@@ -80,13 +80,16 @@ pub(crate) fn first_key_with(
     }
 }
 
-// The place of a request in the queue. It is looked for from both ends: who gives up came just now, or has waited longest.
+// The place of a request in the queue. The numbers of requests rise where the queue is in the order of arrival.
 fn place_of(queue: &VecDeque<WaitingRequest>, request: EventId) -> Option<usize>
     requires apart { AllPairs (λ v w. v.request ≢ w.request) queue.now.items }
     ensures { result ≡ position (λ w. is_same w.request request) queue.now.items }
 {
-    place_from_ends(
+    find_place(
         queue.len(),
+        |place: usize| -> bool
+            requires { place < length queue.now.items }
+        { queue[place].request.0 < request.0 },
         |place: usize| -> bool
             requires { place < length queue.now.items }
             ensures { HoldsAt (λ w. result ≡ (w.request.0 == request.0))

@@ -11,10 +11,10 @@ ghost use Rattle.sim_shared_model.specs.Attempts.{users_but};
 ghost use Rattle.sim_shared_model.specs.Sorting.{IsInOrderBy, put_behind};
 ghost use Rattle.sim_resource.specs.GrantOrder.{as_granted, stands_before, numbered_but, IsWithoutLast, IsNextGrant, with_number};
 
-use crate::ends::place_from_ends;
 use crate::key::is_served_first;
 use crate::preempted::Preempted;
 use crate::user::{NumberedUser, User};
+use sim_places::find_place;
 use sim_types::{EventId, RequestKey};
 use std::alloc::{AllocError, Global};
 use std::collections::VecDeque;
@@ -82,14 +82,16 @@ fn put_by_key(users: &mut VecDeque<NumberedUser>, numbered: NumberedUser)
     }
 }
 
-// The place of the user of a request. It is looked for from both ends: who is released was mostly granted just now, or
-// longest ago.
+// The place of the user of a request. The numbers of requests rise where they were granted in the order of arrival.
 fn place_of(users: &VecDeque<NumberedUser>, request: EventId) -> Option<usize>
     requires apart { AllPairs (λ g h. g.user.request ≢ h.user.request) users.now.items }
     ensures { result ≡ position (λ g. is_same g.user.request request) users.now.items }
 {
-    place_from_ends(
+    find_place(
         users.len(),
+        |place: usize| -> bool
+            requires { place < length users.now.items }
+        { users[place].user.request().0 < request.0 },
         |place: usize| -> bool
             requires { place < length users.now.items }
             ensures { HoldsAt (λ g. result ≡ (g.user.request.0 == request.0))

@@ -1,8 +1,10 @@
 -- What waits for an event leaves its queue.
 use Rattle.std.proofs.Common.{◌≡◌, ◌≢◌, ◌||◌, ℕ, zero, suc, ◌<◌, get_or, All, not, Bool, true, false, cond, List, [], ◌∷◌, ◌++◌, length, map, filter, refl, sym, ap, subst, ◌∙◌, arith}
+use Rattle.std.specs.Prelude.{HoldsAt, Option, Some, None}
 use Rattle.std.specs.List.{list_any, remove}
 use Rattle.std.proofs.lemmas.Bool.{false≢true}
 use Rattle.std.proofs.lemmas.Bool.Decides.{nat_tests}
+use Rattle.std.proofs.lemmas.List.{get_or_default}
 use Rattle.std.proofs.lemmas.List.Elements.{filter-append, All-head, All-tail}
 use Rattle.std.proofs.lemmas.List.Folds.{list_any-append}
 use Rattle.std.proofs.lemmas.List.Kept.{AllPairs-filter}
@@ -11,6 +13,8 @@ use Rattle.sim_types.specs.declared.event.EventId.{EventId}
 use Rattle.sim_machine.specs.Events.{is_same}
 use Rattle.sim_shared_model.specs.StoreQueues.{stands_among, AllDiffer, besides}
 use Rattle.sim_shared_model.proofs.Apart.{Apart}
+use Rattle.sim_places.specs.Places.{IsPlaceFound}
+use Rattle.sim_stores.specs.Queues.{IsPlaceOf}
 
 module _ {X : Type 0} (p : X → Bool) where
   stays_step : (b r : Bool) (x : X) (us vs : List X) → (b || r) ≡ false → (r ≡ false → us ≡ vs) → cond (not b) (x ∷ us) us ≡ x ∷ vs
@@ -81,6 +85,22 @@ module _ {W : Type 0} (event : W → EventId) (e : EventId) where
       let inside : i < length ws = omega (arith, below) in
       removed_step (is_same (event w) e) w ws i d refl inside passes (AllPairs-head Apart (event w) (map event ws) apart)
       (removed_at ws i d inside passes (AllPairs-tail Apart (event w) (map event ws) apart))
+
+  -- a place that was found is that of a waiter of the event, and where none was found there is none
+  pub place_of_event : (ws : List W) {n : ℕ} {answers : ℕ → Bool → Type 0} (found : Option ℕ) → n ≡ length ws
+      → ((i : ℕ) (b : Bool) → answers i b → HoldsAt (λ w. b ≡ is_same (event w) e) ws i) → IsPlaceFound n answers found → IsPlaceOf event e ws found
+  place_of_event ws None len test f =
+      none_passes (λ w. is_same (event w) e) ws (λ k d below. sym (test k false (f.all_fail refl k (omega (arith, len, below))) d))
+  place_of_event [] (Some i) len test f = let below = f.passes.0 in absurd (omega (arith, len, below))
+  place_of_event (w ∷ ws) (Some i) len test f =
+      let below = f.passes.0 in
+      let within : i < length (w ∷ ws) = omega (arith, len, below) in
+      record {
+        waiter = get_or (w ∷ ws) i w;
+        within = within;
+        there = get_or_default (w ∷ ws) i w (get_or (w ∷ ws) i w) within;
+        same = sym (test i true f.passes.1 w);
+      }
 
 module _ {W V : Type 0} (of : W → EventId) (by : V → EventId) (e : EventId) (us : List W) (vs : List V) where
   -- those that are left in two queues differ as before

@@ -1,5 +1,5 @@
 //! Who waits at a container or a store, and who was served.
-ghost use Rattle.std.specs.Prelude.{◌≡◌, ◌≤◌, map, IsFalse};
+ghost use Rattle.std.specs.Prelude.{◌≡◌, ◌<◌, ◌≤◌, map, length, HoldsAt, IsFalse};
 ghost use Rattle.std.specs.List.{list_any};
 ghost use Rattle.std.specs.VecDeque.{deque_len, deque_capacity};
 ghost use Rattle.sim_machine.specs.Events.{is_same};
@@ -7,6 +7,7 @@ ghost use Rattle.sim_types.specs.declared.event.EventId.{EventId};
 ghost use Rattle.sim_shared_model.specs.StoreQueues.{AllDiffer, besides};
 ghost use Rattle.sim_stores.specs.Queues.{IsPlaceOf};
 
+use sim_places::find_place;
 use sim_shared_model::{WaitingAmount, WaitingGet, WaitingPut};
 use sim_types::EventId;
 use std::collections::VecDeque;
@@ -43,22 +44,21 @@ impl Waits for WaitingGet {
     }
 }
 
-// The place of what waits for an event. It is looked for from both ends at once: who gives up came just now, or has waited
-// longest.
+// The place of what waits for an event. The numbers of events rise where the queue is in the order of arrival.
 fn place_of<W: Waits>(queue: &VecDeque<W>, event: EventId) -> Option<usize>
     ensures { IsPlaceOf W.event_of event queue.now.items result }
 {
-    let len = queue.len();
-    for near in 0..len - len / 2 {
-        let far = len - 1 - near;
-        if queue[far].event() == event {
-            return Some(far);
-        }
-        if queue[near].event() == event {
-            return Some(near);
-        }
-    }
-    None
+    find_place(
+        queue.len(),
+        |place: usize| -> bool
+            requires { place < length queue.now.items }
+        { queue[place].event().0 < event.0 },
+        |place: usize| -> bool
+            requires { place < length queue.now.items }
+            ensures { HoldsAt (λ w. result ≡ is_same (W.event_of w) event)
+                queue.entry.now.items place }
+        { queue[place].event() == event },
+    )
 }
 
 /// Takes what waits for an event out of a queue. The answer is whether it stood there.

@@ -8,4 +8,4 @@ returns c =
     let gs = c.args.users.now.items in
     let alone = alone_of (λ g. g.user.request) c.args.request gs c.requires.apart in
     let len : c.len.result ≡ length gs = c.len.ensures ∙ c.args.users.now.ok.0 in
-    place_found (λ g. is_same g.user.request c.args.request) gs c.place_from_ends.result alone len (λ i b h. search rules) c.place_from_ends.ensures
+    place_found (λ g. is_same g.user.request c.args.request) gs c.find_place.result alone len (λ i b h. search rules) c.find_place.ensures

@@ -1,5 +1,5 @@
 use Rattle.std.proofs.Common.{◌<◌, ◌≤◌, ℕ, ◌-◌, false}
-use Rattle.sim_resource.proofs.ends.place_from_ends.Given as goal
+use Rattle.sim_places.proofs.search.place_from_ends.Given as goal
 
 -- those that were looked at from either end fail
 abbrev pub invariant-loop-near : goal.invariant-loop-near

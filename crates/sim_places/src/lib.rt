@@ -1,0 +1,6 @@
+//! The place of what is looked for in a queue.
+#![tactic(auto)]
+
+mod search;
+
+pub use search::find_place;
