@@ -11,4 +11,5 @@ pub mod Choosing
 pub mod Numbering
 pub mod Ranking
 pub mod Storing
+pub mod Trying
 pub mod Handing

@@ -6,3 +6,4 @@ pub mod Stocks
 pub mod Queues
 pub mod Finding
 pub mod Sound
+pub mod TriedGets

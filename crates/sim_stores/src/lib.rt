@@ -7,6 +7,7 @@ mod row;
 mod shelf;
 mod stock;
 mod tank;
+mod tried;
 mod waiting;
 
 pub use shelf::Shelf;

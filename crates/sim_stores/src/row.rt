@@ -1,5 +1,5 @@
 //! Items in the order put.
-ghost use Rattle.std.specs.Prelude.{◌≡◌, ◌+◌, ◌≤◌, [], ◌∷◌, ◌++◌, length, IsOk, OnOk, IfSome, find};
+ghost use Rattle.std.specs.Prelude.{◌≡◌, ◌+◌, ◌≤◌, [], ◌∷◌, ◌++◌, length, take, drop, IsOk, OnOk, IfSome, None, find};
 ghost use Rattle.sim_machine.specs.Users.{first_of_list};
 ghost use Rattle.sim_stores.specs.Items.{is_in_range, FindsWithin, GivesItemIfAny};
 
@@ -70,23 +70,28 @@ impl Row {
         Some(item.value())
     }
 
-    /// Takes the first item out whose value is in a range, and answers its value.
-    pub(crate) fn take_within(&mut self, least: i64, greatest: i64) -> Option<i64>
+    /// Takes the first item out whose value is in a range, and answers its value. None of the first `tried` items is in the
+    /// range, and it does not look at them.
+    pub(crate) fn take_within(&mut self, tried: usize, least: i64, greatest: i64) -> Option<i64>
+        requires few { tried ≤ length self.old.items }
+        requires none { find (is_in_range least greatest) (take tried self.old.items) ≡ None }
         ensures given { GivesItemIfAny (find (is_in_range least greatest) self.old.items)
             self.old result self.new }
         ensures spare { IfSome result (λ _. self.old.spare + 1 ≤ self.new.spare) }
     {
-        let at = place_within(&self.items, least, greatest)?;
+        let further = place_within(&self.items, tried, least, greatest)?;
+        let at = tried + further;
         let item = self.items.remove(at)?;
         Some(item.value())
     }
 }
 
-// The place of the first item whose value is in a range.
-fn place_within(items: &VecDeque<Item>, least: i64, greatest: i64) -> Option<usize>
-    ensures { FindsWithin least greatest items.now.items result }
+// Finds the first item, from a place on, whose value is in a range. The answer is its place, counted from there.
+fn place_within(items: &VecDeque<Item>, from: usize, least: i64, greatest: i64) -> Option<usize>
+    requires { from ≤ length items.now.items }
+    ensures { FindsWithin least greatest (drop from items.now.items) result }
 {
     items
-        .iter()
+        .range(from..)
         .position(|item| item.is_in_range(least, greatest))
 }

@@ -4,9 +4,11 @@ ghost use Rattle.sim_shared_model.specs.StoreQueues.{stands_among, looked_at, Al
 ghost use Rattle.sim_stores.specs.Stocks.{kind_of_stock, items_of_stock};
 ghost use Rattle.sim_shared_model.specs.Shelves.{waiting_at_shelf, TriesDeposit, TriesHandOut, shelf_besides, store_kind};
 ghost use Rattle.sim_stores.specs.Finding.{FindsGetIfAny};
+ghost use Rattle.sim_stores.specs.TriedGets.{IsTried};
 
 use crate::item::Item;
 use crate::stock::Stock;
+use crate::tried::Tried;
 use crate::waiting::leave_queue;
 use sim_shared_model::{Served, ShelfKind, WaitingGet, WaitingPut};
 use sim_types::EventId;
@@ -23,6 +25,8 @@ pub struct Shelf {
     // It has room for the items of all puts that wait.
     stock: Stock,
     capacity: u64,
+    // A try does not look at these gets again with these items.
+    tried: Tried,
 }
 
 impl Model for Shelf {
@@ -31,6 +35,7 @@ impl Model for Shelf {
     ghost use Rattle.sim_stores.specs.Stocks.{kind_of_stock, items_of_stock};
     ghost use Rattle.sim_shared_model.specs.Shelves.{ShelfOf};
     ghost use Rattle.sim_stores.specs.Sound.{IsSoundShelf};
+    ghost use Rattle.sim_stores.specs.TriedGets.{IsTried};
 
     ghost Value = { ShelfOf };
 
@@ -47,7 +52,8 @@ impl Model for Shelf {
 
     ghost invariant = { λ a.
         IsSoundShelf a.capacity (items_of_stock a.stock).items a.puts.items a.gets.items
-        × (deque_len a.puts ≤ (items_of_stock a.stock).spare) };
+        × (deque_len a.puts ≤ (items_of_stock a.stock).spare)
+        × IsTried (kind_of_stock a.stock) (items_of_stock a.stock).items a.gets.items a.tried };
 }
 
 impl Shelf {
@@ -65,6 +71,7 @@ impl Shelf {
             gets: VecDeque::new(alloc),
             stock: Stock::new(alloc, kind),
             capacity,
+            tried: Tried::new(0, 0),
         }
     }
 
@@ -153,8 +160,14 @@ impl Shelf {
     pub fn try_get(&mut self) -> Option<Served>
         ensures { (res : ℕ) → TriesHandOut res result self.old self.new }
     {
-        let (at, value) = take_for_one(&mut self.stock, &self.gets)?;
+        let found = take_for_one(&mut self.stock, &self.gets, self.tried);
+        let items = self.stock.len() as usize;
+        let Some((at, value)) = found else {
+            self.tried = Tried::new(most_looked_at(&self.stock, &self.gets), items);
+            return None;
+        };
         let get = self.gets.remove(at)?;
+        self.tried.serve(at, items);
         Some(Served {
             event: get.event,
             value,
@@ -174,6 +187,9 @@ impl Shelf {
     {
         let put = leave_queue(&mut self.puts, event);
         let get = leave_queue(&mut self.gets, event);
+        if get {
+            self.tried.leave();
+        }
         put | get
     }
 
@@ -214,13 +230,21 @@ fn most_looked_at(stock: &Stock, gets: &VecDeque<WaitingGet>) -> usize
 }
 
 // Takes an item out for the first of the gets that a try looks at for which there is one. The answer is the place of that
-// get, and the value of the item.
-fn take_for_one(stock: &mut Stock, gets: &VecDeque<WaitingGet>) -> Option<(usize, i64)>
+// get, and the value of the item. It does not look again at what has been tried.
+fn take_for_one(
+    stock: &mut Stock,
+    gets: &VecDeque<WaitingGet>,
+    tried: Tried,
+) -> Option<(usize, i64)>
+    requires { let xs = items_of_stock stock.old in
+        IsTried (kind_of_stock stock.old) xs.items gets.now.items tried }
     ensures { FindsGetIfAny gets.now.items stock.old result stock.new }
 {
-    for at in 0..most_looked_at(stock, gets) {
+    let most = most_looked_at(stock, gets);
+    let first = tried.first_get(stock.len() as usize, most);
+    for at in first..most {
         let get = gets[at];
-        if let Some(value) = stock.take(get.least, get.greatest) {
+        if let Some(value) = stock.take(tried.items_for(at), get.least, get.greatest) {
             return Some((at, value));
         }
     }

@@ -1,5 +1,5 @@
 //! The items of a store, kept as its kind asks.
-ghost use Rattle.std.specs.Prelude.{◌≡◌, ◌+◌, ◌≤◌, [], ◌∷◌, ◌++◌, length, IsOk, OnOk};
+ghost use Rattle.std.specs.Prelude.{◌≡◌, ◌+◌, ◌≤◌, [], ◌∷◌, ◌++◌, length, take, IsOk, OnOk, None};
 ghost use Rattle.sim_machine.specs.Users.{item_for};
 ghost use Rattle.sim_stores.specs.Items.{GivesItemIfAny};
 ghost use Rattle.sim_stores.specs.Stocks.{kind_of_stock, items_of_stock, is_filter};
@@ -91,7 +91,11 @@ impl Stock {
     }
 
     /// Takes the item out that a get of this range is given, and answers its value. Only a filter store looks at the range.
-    pub(crate) fn take(&mut self, least: i64, greatest: i64) -> Option<i64>
+    /// None of the first `tried` items is one for such a get, and it does not look at them again.
+    pub(crate) fn take(&mut self, tried: usize, least: i64, greatest: i64) -> Option<i64>
+        requires few { tried ≤ length (items_of_stock self.old).items }
+        requires none { let front = take tried (items_of_stock self.old).items in
+            item_for (store_kind (kind_of_stock self.old)) least greatest front ≡ None }
         ensures kind { kind_of_stock self.new ≡ kind_of_stock self.old }
         ensures given { let xs = items_of_stock self.old in
             GivesItemIfAny (item_for (store_kind (kind_of_stock self.old)) least greatest xs.items)
@@ -101,7 +105,7 @@ impl Stock {
         match self {
             Stock::Fifo(row) => row.take_first(),
             Stock::Priority(heap) => heap.take_least(),
-            Stock::Filter(row) => row.take_within(least, greatest),
+            Stock::Filter(row) => row.take_within(tried, least, greatest),
         }
     }
 }

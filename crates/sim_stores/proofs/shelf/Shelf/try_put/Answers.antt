@@ -4,6 +4,7 @@ use Rattle.sim_stores.specs.Stocks.{items_of_stock}
 use Rattle.sim_shared_model.specs.Shelves.{brought_by}
 use Rattle.sim_stores.specs.contracts.shelf.Shelf.{the_view}
 use Rattle.sim_stores.proofs.Storing.{sound_deposit, deposits}
+use Rattle.sim_stores.proofs.Trying.{tried_put}
 use Rattle.sim_stores.proofs.shelf.Shelf.try_put.Goals as goal
 
 pub invariant_of-self-2 : goal.invariant_of-self-2
@@ -11,6 +12,7 @@ invariant_of-self-2 c =
     let place : length (items_of_stock c.self.inside.stock).items < c.self.inside.capacity = omega arith in (
       sound_deposit _ _ _ _ c.self.invariant.0 c.in_ok-put.put _ _ _ c.in_ok-put.ensures.items c.put.ensures.items place,
       omega (arith, c.self.invariant.1, c.put.ensures.spare, c.in_ok-put.ensures.len),
+      rw (c.put.ensures.kind, c.put.ensures.items) (tried_put _ _ _ _ c.self.invariant.2 _),
     )
 
 pub returns : goal.returns
