@@ -19,7 +19,7 @@ use crate::link::link;
 use crate::statement::{kind_number, literal_of, number_declared, statement};
 use sim_faults::LineInText;
 use sim_language::{Ahead, Form, Role};
-use sim_lines::{Operand, ProcessLines, Saying, capacity};
+use sim_lines::{Operand, ProcessLines, Saying};
 use sim_scenario::Scenario;
 use sim_types::{
     Arrival, Class, Classes, EventId, Kind, List, MOST_ITEMS, MOST_LEVEL, Name, Post, Resource,
@@ -154,9 +154,9 @@ impl Draft {
             → self.new ≡ add_of is_of_headers heads place form slots.now self.old }
     {
         match (form, slots) {
-            (Form::UntilTime, [time]) => self.until = Until::At(literal_of(time.word())),
+            (Form::UntilTime, [time]) => self.until = Until::At(literal_of(time)),
             (Form::UntilEvent, [event]) => self.until = Until::Event(event_ahead(event)),
-            (Form::Seed, [seed]) => self.seed = natural(seed.word()),
+            (Form::Seed, [seed]) => self.seed = natural(seed),
             _ => {}
         }
     }
@@ -182,7 +182,7 @@ impl Draft {
         ensures { OnOk result
             (self.new ≡ with_resource self.old kind (literal_of users.now.word) (pos 0)) }
     {
-        self.push_resource(kind, literal_of(users.word()), 0)
+        self.push_resource(kind, literal_of(users), 0)
     }
 
     fn push_container(
@@ -197,8 +197,8 @@ impl Draft {
     {
         self.push_resource(
             ResourceKind::Container,
-            capacity_of(MOST_LEVEL, most.word()),
-            literal_of(opening.word()),
+            capacity_of(MOST_LEVEL, most),
+            literal_of(opening),
         )
     }
 
@@ -207,7 +207,7 @@ impl Draft {
             (self.new
             ≡ with_resource self.old kind (capacity_of most_items most.now.word) (pos 0)) }
     {
-        self.push_resource(kind, capacity_of(MOST_ITEMS, most.word()), 0)
+        self.push_resource(kind, capacity_of(MOST_ITEMS, most), 0)
     }
 
     /// Adds the resource that a line declares.
@@ -314,17 +314,17 @@ impl Draft {
         match (form, slots) {
             (Form::After, [after, poster, serial, port, value]) => {
                 self.push_arrival(Arrival {
-                    after: natural(after.word()),
-                    poster: natural(poster.word()) as u32,
-                    serial: natural(serial.word()) as u32,
+                    after: natural(after),
+                    poster: natural(poster) as u32,
+                    serial: natural(serial) as u32,
                     port: number_declared(place, port.word()),
-                    value: literal_of(value.word()),
+                    value: literal_of(value),
                 })?;
             }
             (Form::Poster, _) => self.posters.push(List::new(alloc))?,
             (Form::Post, [port, value]) => self.push_post(Post {
                 port: number_declared(place, port.word()),
-                value: literal_of(value.word()),
+                value: literal_of(value),
             })?,
             _ => {}
         }
@@ -408,18 +408,18 @@ impl Draft {
     }
 }
 
-/// The number without its sign.
-fn natural(word: &[u8]) -> u64
-    ensures { result ≡ natural_of word.now }
+/// Returns the number that the operand writes, without its sign, or 0 where it is no literal.
+fn natural(slot: &Operand<'_>) -> u64
+    ensures { result ≡ natural_of slot.now.word }
 {
-    literal_of(word).unsigned_abs()
+    literal_of(slot).unsigned_abs()
 }
 
-/// The capacity that the word gives; 0 where it gives none.
-fn capacity_of(most: i64, word: &[u8]) -> i64
-    ensures { result ≡ capacity_of most word.now }
+/// Returns the capacity that the operand gives, or 0 where it gives none.
+fn capacity_of(most: i64, slot: &Operand<'_>) -> i64
+    ensures { result ≡ capacity_of most slot.now.word }
 {
-    capacity(most, word).unwrap_or(0)
+    slot.capacity(most).unwrap_or(0)
 }
 
 /// The event that an `until event` names.
@@ -459,7 +459,7 @@ fn start_argument(place: &LineInText<'_, '_>, slot: &Operand<'_>) -> i64
 {
     match slot.role() {
         Role::Names(_) => i64::from(number_declared(place, slot.word())) + 1,
-        _ => literal_of(slot.word()),
+        _ => literal_of(slot),
     }
 }
 

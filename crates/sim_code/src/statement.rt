@@ -2,13 +2,12 @@
 ghost use Rattle.std.specs.Prelude.{◌≡◌};
 ghost use Rattle.sim_code.specs.StatementGroups.{is_of_blocks, is_of_events, is_of_gets, is_of_numbers, is_of_processes, is_of_resources, statement_of};
 ghost use Rattle.sim_language.specs.AnywhereInText as anywhere;
-ghost use Rattle.sim_language.specs.Statements.{argument_of, arguments, event_of, kind_number, literal_of, members, number_declared, number_of, number_or_nothing, operator_of, preempts, statement, variable};
+ghost use Rattle.sim_language.specs.Statements.{argument_of, arguments, event_of, kind_number, literal_of, members, number_declared, number_of, number_or_nothing, operator_of, preempts, statement, variable, variable_or_now};
 
 use sim_faults::{LineInText, variable};
 use sim_language::{Form, Role};
-use sim_lines::{Operand, ProcessLines};
+use sim_lines::{Operand, ProcessLines, WordKind};
 use sim_types::{Arith, Num, Ref, Refs, SpawnArg, SpawnArgs, Stmt};
-use sim_words::literal;
 
 /// What stands for a number that the form has not.
 const NOTHING: Num = Num::Lit(0);
@@ -42,11 +41,11 @@ pub fn statement(
     }
 }
 
-/// A number as written; 0 where the word is none.
-pub fn literal_of(word: &[u8]) -> i64
-    ensures { result ≡ literal_of word.now }
+/// Returns the number that the operand writes, or 0 where it is no literal.
+pub fn literal_of(slot: &Operand<'_>) -> i64
+    ensures { result ≡ literal_of slot.now.word }
 {
-    literal(word).unwrap_or(0)
+    slot.literal().unwrap_or(0)
 }
 
 /// The number of a declared name among those of its sort.
@@ -77,23 +76,29 @@ fn variable_of(place: &LineInText<'_, '_>, slot: &Operand<'_>) -> u8
 fn number(place: &LineInText<'_, '_>, slot: &Operand<'_>) -> Num
     ensures { result ≡ number_of place.now.variables slot.now }
 {
-    let word = slot.word();
-    if let Role::Within(_, _) = slot.role() {
-        Num::Lit(literal_of(word))
-    } else if word == b"now".as_slice() {
-        Num::Now
-    } else if word == b"val".as_slice() {
-        Num::Var(0)
-    } else {
-        Num::Var(variable(place.variables(), word))
+    match slot.role() {
+        Role::Within(_, _) => Num::Lit(literal_of(slot)),
+        _ => variable_or_now(place, slot),
     }
 }
 
-/// The event that the word refers to.
-fn event(place: &LineInText<'_, '_>, word: &[u8]) -> Ref
-    ensures { result ≡ event_of place.now word.now }
+/// Returns the number that the operand stands for where it is no literal: the time now, `val` or a variable.
+fn variable_or_now(place: &LineInText<'_, '_>, slot: &Operand<'_>) -> Num
+    ensures number { result ≡ variable_or_now place.now.variables slot.now.word }
 {
-    if word == b"me".as_slice() {
+    match slot.kind() {
+        WordKind::Now => Num::Now,
+        WordKind::Val => Num::Var(0),
+        _ => Num::Var(variable_of(place, slot)),
+    }
+}
+
+/// Returns the event that the operand refers to.
+fn event(place: &LineInText<'_, '_>, slot: &Operand<'_>) -> Ref
+    ensures { result ≡ event_of place.now slot.now.word }
+{
+    let word = slot.word();
+    if slot.is_me() {
         Ref::Me
     } else if place.above().declared().is_event(word) {
         Ref::Named(u64::from(number_declared(place, word)) + 1)
@@ -107,7 +112,7 @@ fn argument(place: &LineInText<'_, '_>, slot: &Operand<'_>) -> SpawnArg
     ensures { result ≡ argument_of place.now slot.now }
 {
     match slot.role() {
-        Role::Refers(_) => SpawnArg::Ref(event(place, slot.word())),
+        Role::Refers(_) => SpawnArg::Ref(event(place, slot)),
         _ => SpawnArg::Num(number(place, slot)),
     }
 }
@@ -129,7 +134,7 @@ fn members(place: &LineInText<'_, '_>, slots: &[Operand<'_>]) -> Refs
 {
     let mut events = Refs::new();
     for slot in slots {
-        let _ = events.push(event(place, slot.word()));
+        let _ = events.push(event(place, slot));
     }
     events
 }
@@ -220,14 +225,14 @@ fn of_events(place: &LineInText<'_, '_>, form: Form, slots: &[Operand<'_>]) -> O
             to: variable_of(place, to),
         }),
         (Form::Wait, [on]) => Some(Stmt::Wait {
-            on: event(place, on.word()),
+            on: event(place, on),
         }),
         (Form::Succeed, [on, value]) => Some(Stmt::Succeed {
-            on: event(place, on.word()),
+            on: event(place, on),
             value: number(place, value),
         }),
         (Form::Fail, [on, value]) => Some(Stmt::Fail {
-            on: event(place, on.word()),
+            on: event(place, on),
             value: number(place, value),
         }),
         (Form::NewAll, [to, of @ ..]) => Some(Stmt::All {
@@ -241,11 +246,11 @@ fn of_events(place: &LineInText<'_, '_>, form: Form, slots: &[Operand<'_>]) -> O
         (Form::Has, [to, cond, on]) => Some(Stmt::Has {
             to: variable_of(place, to),
             cond: variable_of(place, cond),
-            on: event(place, on.word()),
+            on: event(place, on),
         }),
         (Form::Chain, [on, to]) => Some(Stmt::Chain {
-            on: event(place, on.word()),
-            to: event(place, to.word()),
+            on: event(place, on),
+            to: event(place, to),
         }),
         _ => None,
     }
@@ -272,11 +277,11 @@ fn of_processes(
             args: arguments(place, args),
         }),
         (Form::Interrupt, [who, value]) => Some(Stmt::Interrupt {
-            who: event(place, who.word()),
+            who: event(place, who),
             value: number(place, value),
         }),
         (Form::Drop, [who, value]) => Some(Stmt::Drop {
-            who: event(place, who.word()),
+            who: event(place, who),
             value: number(place, value),
         }),
         (Form::Raise, [code]) => Some(Stmt::Raise {

@@ -5,11 +5,10 @@ ghost use Rattle.sim_language.specs.Sayings.{Blank, Says};
 ghost use Rattle.sim_types.specs.Limits.{most_bytes};
 ghost use Rattle.sim_faults.specs.AboveOf.{IsBelow, above_behind};
 
-use crate::blocks::{Blocks, first_word};
+use crate::blocks::{Blocks, first_literal};
 use crate::declared::Declared;
 use sim_language::Form;
 use sim_lines::{Operand, Saying, TextLine};
-use sim_words::literal;
 use std::alloc::{AllocError, Global};
 use std::marker::Model;
 
@@ -179,7 +178,7 @@ impl<'t> Above<'t> {
             }
             Form::After => {
                 self.entries += 1;
-                self.after = literal(first_word(slots));
+                self.after = first_literal(slots);
             }
             Form::Post => self.entries += 1,
             Form::Poster => self.posters += 1,

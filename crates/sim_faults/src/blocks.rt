@@ -5,6 +5,7 @@ ghost use Rattle.sim_language.specs.Blocks.{blocks_behind, closed, first_word, s
 ghost use Rattle.sim_language.specs.OrderFaults.{awaits_catch, awaits_else, is_loop};
 ghost use Rattle.sim_language.specs.Places.{is_with};
 ghost use Rattle.sim_language.specs.Lines.{same};
+ghost use Rattle.sim_language.specs.Numbers.{literal};
 ghost use Rattle.sim_language.specs.Statements.{end_of};
 ghost use Rattle.sim_faults.specs.InnerBlocks.{with_block};
 
@@ -240,4 +241,11 @@ pub fn first_word<'t>(slots: &[Operand<'t>]) -> &'t [u8]
         [] => &[],
         [slot, ..] => slot.word(),
     }
+}
+
+/// Returns the number of the first operand, where the line has one and it is a literal of 64 bits.
+pub fn first_literal(slots: &[Operand<'_>]) -> Option<i64>
+    ensures literal { result ≡ literal (first_word slots.now) }
+{
+    slots.first()?.literal()
 }

@@ -3,10 +3,9 @@ ghost use Rattle.std.specs.Prelude.{◌≡◌};
 ghost use Rattle.sim_language.specs.OrderFaults.{bad_header, bad_order, misplaced};
 
 use crate::above::Above;
-use crate::blocks::first_word;
+use crate::blocks::{first_literal, first_word};
 use sim_language::Form;
 use sim_lines::{Operand, Saying, TextLine};
-use sim_words::literal;
 
 /// Whether the line should be one of the two header lines, and is not.
 pub fn bad_header(above: &Above<'_>, line: &TextLine<'_>) -> bool
@@ -60,7 +59,7 @@ pub fn bad_order(above: &Above<'_>, form: Form, slots: &[Operand<'_>]) -> bool
     if !matches!(form, Form::After) {
         return false;
     }
-    match (above.after(), literal(first_word(slots))) {
+    match (above.after(), first_literal(slots)) {
         (Some(last), Some(next)) => next < last,
         _ => false,
     }

@@ -32,13 +32,12 @@ pub fn unset(place: &LineInText<'_, '_>, slots: &[Operand<'_>]) -> bool
 fn is_variable(above: &Above<'_>, slot: &Operand<'_>) -> bool
     ensures { result ≡ is_variable above.now slot.now }
 {
-    let word = slot.word();
     match slot.role() {
         Role::Gives(_) => true,
-        Role::Value => !(word == b"now".as_slice() || word == b"val".as_slice()),
+        Role::Value => !slot.is_now_or_val(),
         Role::Refers(reference) => {
-            let is_me = reference.takes_me() && word == b"me".as_slice();
-            !(is_me || reference.takes_named() && above.declared().is_event(word))
+            let is_me = reference.takes_me() && slot.is_me();
+            !(is_me || reference.takes_named() && above.declared().is_event(slot.word()))
         }
         _ => false,
     }

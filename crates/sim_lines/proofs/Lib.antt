@@ -3,5 +3,6 @@ mod Cuts
 mod FirstLines
 mod HeadsOfLines
 mod NamesSoFar
+mod NarrowLiterals
 mod SaidByLines
 mod SlotsOfWords

@@ -10,11 +10,13 @@ mod process_lines;
 mod say;
 mod setting;
 mod whole_text;
+mod word_kind;
 
 pub use cutting::cut;
 pub use line::{Saying, TextLine};
 pub use lines::Lines;
-pub use operand::{Operand, capacity};
+pub use operand::Operand;
 pub use process_lines::ProcessLines;
 pub use setting::Setting;
 pub use whole_text::WholeText;
+pub use word_kind::WordKind;

@@ -4,7 +4,7 @@ ghost use Rattle.sim_language.specs.Sayings.{context_of};
 ghost use Rattle.sim_language.specs.Shapes.{fit, opening, side_by_side, slot_of, spawn_argument, start_argument};
 ghost use Rattle.sim_lines.specs.OneWord.{at_item, behind_all};
 
-use crate::operand::{Operand, capacity};
+use crate::operand::Operand;
 use crate::setting::Setting;
 use sim_language::{Item, Role};
 use sim_types::{Class, MOST_LEVEL};
@@ -91,7 +91,8 @@ fn take_word<'t>(
 fn opening(capacity_word: &[u8]) -> Role
     ensures { result ≡ opening capacity_word.now }
 {
-    Role::Within(0, capacity(MOST_LEVEL, capacity_word).unwrap_or(i64::MAX))
+    let most = Operand::of(Role::Capacity(MOST_LEVEL), capacity_word).capacity(MOST_LEVEL);
+    Role::Within(0, most.unwrap_or(i64::MAX))
 }
 
 /// All further words, each there for the same.
