@@ -1,3 +1,5 @@
+-- batches that are split
+pub mod Shares
 pub mod Sections
 pub mod Entries
 pub mod Texts
