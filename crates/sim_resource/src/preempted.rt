@@ -7,8 +7,8 @@ use sim_types::EventId;
 use std::alloc::{AllocError, Global};
 use std::marker::Model;
 
-/// Requests that were preempted, and are users no longer. Each stands at the place that the lowest bits of half its number
-/// name. Requests share places, so each is remembered only until another one comes to its place.
+/// Requests that were preempted, and are users no longer. Each has the place that the lowest bits of its number name.
+/// Requests share places, so each is remembered only until another one comes to its place.
 #[derive(Drop)]
 pub(crate) struct Preempted {
     // There are none, or as many as a power of two.
@@ -39,14 +39,14 @@ impl Preempted {
         }
     }
 
-    /// Makes places, one at least for each of so many users, unless these are few. Where there were fewer places, all requests
-    /// are forgotten.
+    /// Makes places, two at least for each of these users, unless these are few: between two requests a process mostly makes
+    /// another event, so every other number is that of a request. Where there were fewer places, all requests are forgotten.
     pub(crate) fn reserve(&mut self, users: usize) -> Result<(), AllocError>
         requires { users ≤ 2 ^ 63 }
         ensures { (request : EventId) → IsRemembered self.new request
             → IsRemembered self.old request }
     {
-        let places = users.next_power_of_two();
+        let places = users.next_power_of_two().saturating_mul(2);
         if users <= FEW_USERS || places <= self.places.len() {
             return Ok(());
         }
@@ -59,8 +59,7 @@ impl Preempted {
     fn place(&self, request: EventId) -> usize
         ensures { result ≡ place_of_request self.now.lowest_bits request }
     {
-        // Between two requests a process mostly makes another event, so their numbers are two apart at least.
-        (request.0 / 2) as usize & self.lowest_bits
+        request.0 as usize & self.lowest_bits
     }
 
     /// Whether a request is remembered.
