@@ -1,6 +1,6 @@
 -- The entries of the heap and those of the series as one list.
 use Rattle.std.proofs.Common.{◌≡◌, ℕ, ◌<◌, List, [], ◌∷◌, ◌++◌, length, get_or, length-append, Bor, Option, Some, None, refl, sym, ap, subst, ◌∙◌, append_assoc, arith}
-use Rattle.std.specs.Prelude.{option_to_list, IsSome, IfSome, MatchOption}
+use Rattle.std.specs.Prelude.{option_to_list, slice_index_or, slice_set, IsSome, IfSome, MatchOption}
 use Rattle.std.specs.List.Sorted.{IsPermutation}
 use Rattle.std.proofs.lemmas.List.Elements.{All-append, All-cons, All-head}
 use Rattle.std.proofs.lemmas.List.Sorted.{IsPermutation-to_front, IsPermutation-sym, IsPermutation-trans, IsPermutation-cons, IsPermutation-append_left, IsPermutation-append_right, IsPermutation-append_comm, length_permutation, All-permutation}
@@ -30,10 +30,12 @@ put_behind xs ys zs x is =
 pub put_among : (xs ys zs : List Entry) (x : Entry) → IsPermutation (x ∷ xs) zs → IsPermutation (x ∷ (xs ++ ys)) (zs ++ ys)
 put_among xs ys zs x moved = IsPermutation-append_left ys (x ∷ xs) zs moved
 
--- an entry is put before others, and the last of them is taken out
-pub exchanged : (xs ys : List Entry) (x last : Entry) → ys ≡ xs ++ last ∷ [] → IsPermutation (x ∷ ys) (last ∷ x ∷ xs)
-exchanged xs ys x last is =
-    subst (λ us. IsPermutation (x ∷ us) (last ∷ x ∷ xs)) (sym is) (IsPermutation-to_front (x ∷ xs) last)
+-- an entry is put in for the only other one
+pub exchanged_only : (xs : List Entry) (x other put : Entry) → length xs ≡ 1 → other ≡ slice_index_or xs 0 other → put ≡ x
+    → IsPermutation (x ∷ xs) (other ∷ slice_set xs 0 put)
+exchanged_only [] x other put one at is = absurd (omega (arith, one))
+exchanged_only (y ∷ []) x other put one at is = rw (at, is) (IsPermutation-to_front (x ∷ []) y)
+exchanged_only (y ∷ z ∷ zs) x other put one at is = absurd (omega (arith, one))
 
 -- an entry is put among the latter, and another of them in the heap
 pub put_for_other : (xs ys us zs : List Entry) (x other : Entry) → IsPermutation (x ∷ ys) (other ∷ us) → IsPermutation (other ∷ xs) zs

@@ -1,10 +1,8 @@
 -- Entries in rising order, and entries that none of them comes before.
-use Rattle.std.proofs.Common.{◌≡◌, suc, subst₂, ◌-◌, ◌<◌, List, [], ◌∷◌, ◌++◌, length, get_or, Option, Some, None, refl, sym, ap, subst, ◌∙◌, inl, inr, arith}
+use Rattle.std.proofs.Common.{◌≡◌, ◌-◌, ◌<◌, List, [], ◌∷◌, ◌++◌, length, get_or, Option, Some, None, refl, sym, ap, subst, ◌∙◌, inl, inr, arith}
 use Rattle.std.specs.Prelude.{option_to_list}
 use Rattle.std.proofs.lemmas.Bool.{cases_eq}
-use Rattle.std.proofs.lemmas.List.{get_or_default, get_or_append_left, length-append}
-use Rattle.std.proofs.lemmas.List.Elements.{All-cons}
-use Rattle.std.proofs.lemmas.List.Kept.{AllPairs-cons}
+use Rattle.std.proofs.lemmas.List.{get_or_default}
 use Rattle.std.proofs.lemmas.List.Quantifiers.{all_pairs_push}
 use Rattle.sim_types.specs.Keys.{IsLess}
 use Rattle.sim_types.specs.declared.event.Entry.{Entry}
@@ -26,21 +24,6 @@ rises_behind xs x last is less h =
       | inl at ↦ subst (λ n. IsLess (get_or xs n d).key x.key) (sym at) last_before
       | inr off ↦ IsLess-trans _ _ _ (h k (length xs - 1) d (omega arith) (omega arith)) last_before
     ])
-
--- an entry that comes before the front comes before all, and the last may leave
-pub rises_before : (xs : List Entry) (x last front : Entry) → front ≡ get_or (xs ++ last ∷ []) 0 front → IsLess x.key front.key
-    → Rises (xs ++ last ∷ []) → Rises (x ∷ xs)
-rises_before [] x last front is less h =
-    AllPairs-cons (λ (u v : Entry). IsLess u.key v.key) x [] (λ k d inside. absurd (omega (arith, inside))) (λ i j d below inside. absurd (omega (arith, inside)))
-rises_before (y ∷ ys) x last front is less h =
-    let first : IsLess x.key y.key = subst (λ (u : Entry). IsLess x.key u.key) is less in
-    AllPairs-cons (λ (u v : Entry). IsLess u.key v.key) x (y ∷ ys)
-    (All-cons (λ (v : Entry). IsLess x.key v.key) y ys first
-    (λ k d inside. IsLess-trans _ _ _ first (subst (λ (v : Entry). IsLess y.key v.key) (get_or_append_left ys (last ∷ []) d k inside)
-    (h 0 (suc k) d (omega arith) (omega (arith, inside, length-append ys (last ∷ [])))))))
-    (λ i j d below inside. subst₂ (λ (u v : Entry). IsLess u.key v.key)
-    (get_or_append_left (y ∷ ys) (last ∷ []) d i (omega (arith, below, inside))) (get_or_append_left (y ∷ ys) (last ∷ []) d j inside)
-    (h i j d below (omega (arith, inside, length-append ys (last ∷ [])))))
 
 -- none comes before the front
 pub front_first : (xs : List Entry) (x : Entry) → x ≡ get_or xs 0 x → Rises xs → IsDue x xs

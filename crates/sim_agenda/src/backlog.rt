@@ -5,15 +5,15 @@ ghost use Rattle.sim_agenda.specs.Comparisons.{most_comparisons};
 ghost use Rattle.sim_agenda.specs.Series.{IsFirst};
 
 use crate::heap;
-use crate::series::{exchange_last, front_is_due, goes_behind};
+use crate::series::{exchange_only, front_is_due, goes_behind};
 use sim_types::{Count, Entry};
 use std::alloc::{AllocError, Global};
 use std::collections::VecDeque;
 use std::marker::Model;
 
-/// Entries in no order that counts. One that comes after all of the series when it is put in goes to its end. One that
-/// comes before all of them goes to its front, and the last, which may be far away, into the heap in its place. Any other
-/// goes into the heap. Each of the two has room for all.
+/// Entries in no order that counts. One that comes after all of the series when it is put in goes to its end, and any
+/// other into the heap. Where the series has one entry alone, it may be far away, as the end of a run is, so that nothing
+/// comes after it for long: it goes into the heap then, and the new entry begins the series. Each of the two has room for all.
 #[derive(Drop)]
 pub(crate) struct Backlog {
     heap: Vec<Entry>,
@@ -79,7 +79,7 @@ impl Backlog {
         if goes_behind(&self.series, &entry, count) {
             self.series.push_back_reserved(entry);
         } else {
-            let other = exchange_last(&mut self.series, entry, count);
+            let other = exchange_only(&mut self.series, entry, count);
             heap::push(&mut self.heap, other, count);
         }
     }

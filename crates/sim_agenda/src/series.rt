@@ -10,6 +10,7 @@ ghost use Rattle.sim_agenda.specs.Series.{Rises, FrontIsDue, FirstIsDue};
 
 use sim_types::{Count, Entry};
 use std::collections::VecDeque;
+use std::mem;
 
 /// Whether an entry may stand behind the last: all others come before it.
 pub(crate) fn goes_behind(series: &VecDeque<Entry>, entry: &Entry, count: &mut Count) -> bool
@@ -47,9 +48,9 @@ pub(crate) fn put_behind(series: &mut VecDeque<Entry>, entry: &Entry, count: &mu
     true
 }
 
-/// Puts an entry before the front and takes the last out, if the entry comes before all others; else answers the entry.
-/// It takes no memory.
-pub(crate) fn exchange_last(series: &mut VecDeque<Entry>, entry: Entry, count: &mut Count) -> Entry
+/// Puts an entry in for the only other one, if it comes before that, and answers the other; else answers the entry. Where
+/// there are more, each of them may be due soon, and they are left alone. It takes no memory.
+pub(crate) fn exchange_only(series: &mut VecDeque<Entry>, entry: Entry, count: &mut Count) -> Entry
     requires rises { Rises series.old.items }
     requires count { count.old ≤ 2 ^ 63 + 3 }
     ensures rises { Rises series.new.items }
@@ -60,15 +61,10 @@ pub(crate) fn exchange_last(series: &mut VecDeque<Entry>, entry: Entry, count: &
     ensures counts { count.old ≤ count.new }
     ensures alone { series.old.items ≡ [] → count.new ≡ count.old }
 {
-    match series.front() {
-        Some(front) if entry.key.less(&front.key, count) => {}
-        _ => return entry,
-    }
-    let Some(last) = series.pop_back() else {
+    if series.len() != 1 || !entry.key.less(&series[0].key, count) {
         return entry;
-    };
-    series.push_front_reserved(entry);
-    last
+    }
+    mem::replace(&mut series[0], entry)
 }
 
 /// Takes the front out. Where none is left, the queue begins at its front again.

@@ -9,7 +9,7 @@ returns-then-goes_behind-clause-entries c =
 
 pub returns-else-goes_behind-clause-entries : goal.returns-else-goes_behind-clause-entries
 returns-else-goes_behind-clause-entries c =
-    let other = c.exchange_last-other in
+    let other = c.exchange_only-other in
     rw (← c.self.view_is) (put_for_other c.self.inside.heap.items c.self.inside.series.items other.new.series.items _ c.args.entry
     other.result other.ensures.moved c.push.ensures.moved)
 
@@ -25,7 +25,7 @@ returns-else-goes_behind-clause-count c =
     let xs = c.self.inside.heap.items in
     let ys = c.self.inside.series.items in
     let all : length (xs ++ ys) ≡ length xs + length ys = length-append xs ys in
-    let other = c.exchange_last-other in
+    let other = c.exchange_only-other in
     rw (← c.self.view_is) (twice_and_up ys (length (xs ++ ys)) _ c.args.count.now other.new.count _ (omega arith)
     (omega (arith, c.goes_behind.ensures.once, other.ensures.once)) (λ none. other.ensures.alone none ∙ c.goes_behind.ensures.alone none)
     c.push.ensures.count)
