@@ -33,6 +33,7 @@ impl<'t> Model for Operand<'t> {
 
 impl<'t> Operand<'t> {
     /// A word in a place with this role; where a number is wanted, a word that begins as one does is a literal.
+    #[inline(always)]
     pub fn of(role: Role, word: &'t [u8]) -> Operand<'t>
         ensures { result ≡ slot_of role word.now }
     {
