@@ -18,7 +18,11 @@ mod events;
 #[cfg(test)]
 mod happen;
 #[cfg(test)]
+mod late_posts;
+#[cfg(test)]
 mod live;
+#[cfg(test)]
+mod lived;
 #[cfg(test)]
 mod records;
 #[cfg(test)]
