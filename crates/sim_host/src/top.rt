@@ -42,7 +42,7 @@ pub fn host_desk<R: Wait + RandomSource + AllocGlobal, S: Source, K: Sink>(
     ensures flushed { IsTrue (is_whole result) → IsFlushedOnce (K.tells out.old) (K.tells out.new) }
     ensures unflushed { is_whole result ≡ false → IsUnflushed (K.tells out.old) (K.tells out.new) }
 
-    // Usage: exactly where the words ask for no live run, and then nothing is read or written.
+    // Usage: exactly where the words ask for no hosted runs, and then nothing is read or written.
     ensures usage { result ≡ Status.Usage ↔ hosted_runs words.now ≡ None }
     ensures not_read { result ≡ Status.Usage → source.new ≡ source.old }
     ensures not_written { result ≡ Status.Usage → out.new ≡ out.old }
