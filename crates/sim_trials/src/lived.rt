@@ -14,10 +14,12 @@ use std::thread::Threads;
 pub(crate) const ENOUGH: u64 = 1_000_000;
 
 /// A process that is started by whatever comes in.
-pub(crate) const LOGGING: &str = "scenario 1\nuntil empty\nport inn job\nprocess job v\nlog v\nend\n";
+pub(crate) const LOGGING: &str =
+    "scenario 1\nuntil empty\nport inn job\nprocess job v\nlog v\nend\n";
 
 /// Two posters of three posts each.
-pub(crate) const THREE_EACH: &str = "poster 0\ninn 1\ninn 2\ninn 3\nposter 1\ninn 4\ninn 5\ninn 6\n";
+pub(crate) const THREE_EACH: &str =
+    "poster 0\ninn 1\ninn 2\ninn 3\nposter 1\ninn 4\ninn 5\ninn 6\n";
 
 /// The entries of each of them, from its number on.
 const OF_POSTER_0: [&str; 3] = ["0 0 inn 1", "0 1 inn 2", "0 2 inn 3"];
@@ -138,6 +140,10 @@ fn post_in(line: &str) -> Option<&str> {
 }
 
 /// The text of these lines with the lines of posters after them.
-pub(crate) fn with_posters(alloc: Global, front: &str, posters: &str) -> Result<String, AllocError> {
+pub(crate) fn with_posters(
+    alloc: Global,
+    front: &str,
+    posters: &str,
+) -> Result<String, AllocError> {
     format!(in alloc; "{front}{posters}")
 }
