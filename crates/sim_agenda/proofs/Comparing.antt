@@ -73,12 +73,12 @@ pub once_only : {X : Type 0} (xs : List X) (n old mid : ℕ) → length xs ≤ n
 once_only [] n old mid few once none = omega (arith, none refl)
 once_only (x ∷ xs) n old mid few once none = omega (arith, most_some n (omega (arith, few)))
 
--- at most two comparisons, and none where there is nothing to compare with; then one for each level
-pub twice_and_up : {X : Type 0} (xs : List X) (n place old mid new : ℕ) → length xs + place ≤ n → mid ≤ old + 2 → (xs ≡ [] → mid ≡ old)
+-- at most one comparison, and none where there is nothing to compare with; then one for each level
+pub once_and_up : {X : Type 0} (xs : List X) (n place old mid new : ℕ) → length xs + place ≤ n → mid ≤ old + 1 → (xs ≡ [] → mid ≡ old)
     → ComparesAtLevels place mid new → 2 * new ≤ 2 * old + most_comparisons n
-twice_and_up [] n place old mid new few twice none up =
+once_and_up [] n place old mid new few once none up =
     omega (arith, none refl, up.rises, levels_within n (new - mid) (omega (arith, up.levels, few)))
-twice_and_up (x ∷ xs) n place old mid new few twice none up =
+once_and_up (x ∷ xs) n place old mid new few once none up =
     omega (arith, up.rises, levels_within n (new - mid + 1) (omega (arith, power_doubled (new - mid), up.levels, few)))
 
 -- and then half of what is allowed

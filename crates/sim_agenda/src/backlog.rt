@@ -79,7 +79,7 @@ impl Backlog {
         if goes_behind(&self.series, &entry, count) {
             self.series.push_back_reserved(entry);
         } else {
-            let other = exchange_only(&mut self.series, entry, count);
+            let other = exchange_only(&mut self.series, entry);
             heap::push(&mut self.heap, other, count);
         }
     }

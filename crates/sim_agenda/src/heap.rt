@@ -102,7 +102,7 @@ fn exchange_first(entries: &mut [Entry], entry: Entry, count: &mut Count) -> Ent
 pub(crate) fn push(entries: &mut Vec<Entry>, entry: Entry, count: &mut Count)
     requires heap { IsHeap entries.old.items }
     requires room { vec_len entries.old < vec_capacity entries.old }
-    requires count { count.old ≤ 2 ^ 63 + 4 }
+    requires count { count.old ≤ 2 ^ 63 + 3 }
     ensures heap { IsHeap entries.new.items }
     ensures moved { IsPermutation (entry ∷ entries.old.items) entries.new.items }
     ensures len { vec_len entries.new ≡ vec_len entries.old + 1 }

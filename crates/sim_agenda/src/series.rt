@@ -48,20 +48,16 @@ pub(crate) fn put_behind(series: &mut VecDeque<Entry>, entry: &Entry, count: &mu
     true
 }
 
-/// Puts an entry in for the only other one, if it comes before that, and answers the other; else answers the entry. Where
-/// there are more, each of them may be due soon, and they are left alone. It takes no memory.
-pub(crate) fn exchange_only(series: &mut VecDeque<Entry>, entry: Entry, count: &mut Count) -> Entry
+/// Puts an entry in that comes before all of the series, where that is one entry alone, and returns that one; else returns
+/// the entry. Where there are more, each of them may be due soon, and they are left alone. It takes no memory.
+pub(crate) fn exchange_only(series: &mut VecDeque<Entry>, entry: Entry) -> Entry
     requires rises { Rises series.old.items }
-    requires count { count.old ≤ 2 ^ 63 + 3 }
     ensures rises { Rises series.new.items }
     ensures moved { IsPermutation (entry ∷ series.old.items) (result ∷ series.new.items) }
     ensures len { deque_len series.new ≡ deque_len series.old }
     ensures capacity { deque_capacity series.new ≡ deque_capacity series.old }
-    ensures once { count.new ≤ count.old + 1 }
-    ensures counts { count.old ≤ count.new }
-    ensures alone { series.old.items ≡ [] → count.new ≡ count.old }
 {
-    if series.len() != 1 || !entry.key.less(&series[0].key, count) {
+    if series.len() != 1 {
         return entry;
     }
     mem::replace(&mut series[0], entry)

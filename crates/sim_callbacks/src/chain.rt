@@ -71,7 +71,7 @@ impl Chain {
         ensures len { slab_len nodes.new ≡ slab_len nodes.old + 1 }
         ensures capacity { nodes.new.capacity ≡ nodes.old.capacity }
     {
-        let _room = nodes.capacity();
+        let _known = nodes.capacity();
         if self.count == 0 {
             let next = nodes.vacant_key();
             let key = nodes.insert_reserved(Node { callback, next });

@@ -73,7 +73,7 @@ impl Part {
         requires { self.old.count < length self.old.members }
         ensures { self.new ≡ record self.old { count = self.old.count + 1 } }
     {
-        let _few = self.members.as_slice();
+        let _known = self.members.as_slice();
         self.count += 1;
     }
 

@@ -85,7 +85,7 @@ fn add(index: &mut Index, slots: &mut Slab<Slot>, slot: Slot) -> EventId
     ensures adds { AddsSlot index.old slots.old slot index.new slots.new }
 {
     let number = index.next();
-    let _room = slots.capacity();
+    let _known = slots.capacity();
     let key = slots.insert_reserved(slot);
     index.insert(number, key);
     EventId(number)

@@ -220,7 +220,7 @@ impl Happen {
         ensures made { Turns (triggering.make kind) unheld_event self.old self.new }
         ensures spare { more_events 1 self.new.spare ≡ self.old.spare }
     {
-        let _fits = &self.agenda;
+        let _known = &self.agenda;
         self.table.make(kind)
     }
 
@@ -451,7 +451,7 @@ impl Happen {
         ensures members { SameMemberships self.old.events self.new.events }
         ensures spare { self.new.spare ≡ self.old.spare }
     {
-        let _now = &self.time;
+        let _known = &self.time;
         self.put(event, outcome, priority, 0)
     }
 

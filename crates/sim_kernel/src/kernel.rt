@@ -66,7 +66,7 @@ impl<B: Body> Kernel<B> {
         let mut parts = Parts::<B>::blank(alloc, code, setup, seed)?;
         match open(&mut parts, code, setup) {
             Ok(()) => {
-                let _kept = parts.slots();
+                let _known = parts.slots();
                 Ok(Kernel {
                     parts,
                     units: 0,
@@ -108,7 +108,7 @@ impl<B: Body> Kernel<B> {
     {
         self.parts.reserve_for_next(code)?;
         let units = self.parts.units(code, most, &mut self.listed);
-        let _kept = self.parts.slots();
+        let _known = self.parts.slots();
         self.units += u64::from(units.made);
         Ok(units)
     }
@@ -131,7 +131,7 @@ impl<B: Body> Kernel<B> {
         let parts = &mut self.parts;
         parts.reserve(code)?;
         let line = parts.arrive(code, port, value);
-        let _kept = parts.slots();
+        let _known = parts.slots();
         self.units += 1;
         Ok(line)
     }

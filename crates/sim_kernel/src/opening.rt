@@ -51,6 +51,6 @@ pub(crate) fn open<B: Body>(
     ensures holds { OnOk result (Holds B.body 0 parts.new) }
 {
     start_all(parts, code, setup)?;
-    let _kept = parts.slots();
+    let _known = parts.slots();
     parts.set_stop(setup)
 }

@@ -41,7 +41,7 @@ impl BankCode {
     fn is_bank(&self)
         ensures { self.now ≡ bank }
     {
-        let _one = self.one;
+        let _known = self.one;
     }
 }
 

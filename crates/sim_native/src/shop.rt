@@ -208,7 +208,7 @@ impl Body for ShopBody {
     } };
 
     fn scopes_needed(code: &ShopCode) -> usize {
-        let _machines = code.machines();
+        let _known = code.machines();
         1
     }
 
@@ -261,7 +261,7 @@ impl Body for ShopBody {
     }
 
     fn place_told(&self, code: &ShopCode) -> Option<u8> {
-        let _machines = code.machines();
+        let _known = code.machines();
         told_place(&self.stage)
     }
 }

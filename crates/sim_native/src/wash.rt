@@ -42,7 +42,7 @@ impl WashCode {
     fn is_wash(&self)
         ensures { self.now ≡ wash }
     {
-        let _one = self.one;
+        let _known = self.one;
     }
 }
 

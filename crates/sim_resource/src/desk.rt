@@ -104,7 +104,7 @@ impl Desk {
     pub fn requests_are_apart(&self)
         ensures { AreApart self.now.queue self.now.users }
     {
-        let _kept = &self.queue;
+        let _known = &self.queue;
     }
 
     /// The queue stands in the order in which the machine serves.
@@ -112,7 +112,7 @@ impl Desk {
         ensures { (res : ℕ) → in_order (resource_kind self.now.kind) (waiters_at res self.now.queue)
             ≡ waiters_at res self.now.queue }
     {
-        let _kept = &self.queue;
+        let _known = &self.queue;
     }
 
     /// Whether a request may take the slot of a user.
@@ -128,7 +128,7 @@ impl Desk {
         ensures within { result ≤ self.now.capacity }
     {
         // no more than these, so that the number fits
-        let _most = self.capacity;
+        let _known = self.capacity;
         self.users.len() as u32
     }
 

@@ -41,7 +41,7 @@ impl<B: Body> Parts<B> {
         ensures err { OnErr result (self.new ≡ self.old) }
         ensures rest { KeepsButHappen self.old self.new }
     {
-        let _few = members.as_slice();
+        let _known = members.as_slice();
         if for_all {
             self.shared.happen_mut().all_of(members)
         } else {

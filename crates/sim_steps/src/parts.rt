@@ -181,7 +181,7 @@ impl<B: Body> Parts<B> {
         ensures touched { ChangesOnlyAt (touched_places result.touched listed.new)
             self.old.shared self.new.shared }
     {
-        let _slots = self.slots();
+        let _known = self.slots();
         match self.mode {
             Mode::Idle => Units {
                 made: 1,

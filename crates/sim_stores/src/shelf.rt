@@ -79,7 +79,7 @@ impl Shelf {
     pub fn waiters_differ(&self)
         ensures { AllDiffer (waiting_at_shelf self.now) }
     {
-        let _kept = &self.puts;
+        let _known = &self.puts;
     }
 
     /// Makes room for one put and one get more, and for the items of all puts that wait.

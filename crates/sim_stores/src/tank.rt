@@ -66,7 +66,7 @@ impl Tank {
     pub fn waiters_differ(&self)
         ensures { AllDiffer (waiting_at_tank self.now) }
     {
-        let _kept = &self.puts;
+        let _known = &self.puts;
     }
 
     /// All amounts that wait are above 0. The call does nothing: it tells what every container has.
@@ -74,7 +74,7 @@ impl Tank {
         ensures put { All (λ w. pos 0 <ℤ w.amount) self.now.puts }
         ensures got { All (λ w. pos 0 <ℤ w.amount) self.now.gets }
     {
-        let _kept = &self.puts;
+        let _known = &self.puts;
     }
 
     /// Makes room for one put and one get more.

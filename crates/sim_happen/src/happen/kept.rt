@@ -42,7 +42,7 @@ impl Happen {
         requires kept { IsKept self.now.events event }
         ensures { result ≡ event.0 + 1 }
     {
-        let _few = &self.table;
+        let _known = &self.table;
         event.0 + 1
     }
 
@@ -106,7 +106,7 @@ impl Happen {
         ensures held { AreOwed [] self.now.events }
         ensures narrow { AreNarrow self.now.events }
     {
-        let _kept = &self.table;
+        let _known = &self.table;
     }
 
     /// A condition more, whose members have a holder each and are yet to join it.
@@ -123,7 +123,7 @@ impl Happen {
             (events.next_event c) c) unheld_event self.old self.new }
         ensures spare { more_events 1 (more_conditions 1 self.new.spare) ≡ self.old.spare }
     {
-        let _places = &self.agenda;
+        let _known = &self.agenda;
         if for_all {
             self.table.make_all_of(members)
         } else {

@@ -1,5 +1,5 @@
-use Rattle.std.proofs.Common.{◌≡◌, ◌+◌, ◌++◌, length, length-append, ◌∙◌, arith}
-use Rattle.sim_agenda.proofs.Comparing.{once_only, twice_and_up}
+use Rattle.std.proofs.Common.{◌≡◌, ◌+◌, ◌++◌, length, length-append, arith}
+use Rattle.sim_agenda.proofs.Comparing.{once_only, once_and_up}
 use Rattle.sim_agenda.proofs.Joining.{put_behind, put_for_other}
 use Rattle.sim_agenda.proofs.backlog.Backlog.push.Goals as goal
 
@@ -25,7 +25,5 @@ returns-else-goes_behind-clause-count c =
     let xs = c.self.inside.heap.items in
     let ys = c.self.inside.series.items in
     let all : length (xs ++ ys) ≡ length xs + length ys = length-append xs ys in
-    let other = c.exchange_only-other in
-    rw (← c.self.view_is) (twice_and_up ys (length (xs ++ ys)) _ c.args.count.now other.new.count _ (omega arith)
-    (omega (arith, c.goes_behind.ensures.once, other.ensures.once)) (λ none. other.ensures.alone none ∙ c.goes_behind.ensures.alone none)
-    c.push.ensures.count)
+    rw (← c.self.view_is) (once_and_up ys (length (xs ++ ys)) _ c.args.count.now c.goes_behind.new.count _ (omega arith) c.goes_behind.ensures.once
+    c.goes_behind.ensures.alone c.push.ensures.count)
