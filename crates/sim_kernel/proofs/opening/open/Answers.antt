@@ -41,7 +41,7 @@ returns-clause-holds g c =
     let code : c.args.code.now ≡ new.code = rw (c.set_stop.ensures.kept, c.start_all.ensures.kept) c.requires.code in
     let setup : c.args.setup.now ≡ new.setup = rw (c.set_stop.ensures.kept, c.start_all.ensures.kept) c.requires.setup in
     let fits : FitsCode (body.facts new.code) new.setup = rw (← code, ← setup) c.requires.fits in
-    let resources : new.shared.setup ≡ new.setup.resources = rw c.set_stop.ensures.kept c.slots-kept.ensures.resources in
+    let resources : new.shared.setup ≡ new.setup.resources = rw c.set_stop.ensures.kept c.slots-known.ensures.resources in
     on_ok_weaker c.set_stop.result
     (λ sets. opening_holds body new (g.B.LawfulBody.lawful new.code) fits resources
     (opened_so body c.args.parts.now c.start_all.new.parts new c.args.setup.now.until (ap (λ x. x.until) c.requires.setup) c.start_all.ensures.kept (record { kept = c.set_stop.ensures.kept; sets = sets }) c.in_ok-start_all.ensures.started))

@@ -19,7 +19,7 @@ invariant_of-self-2 g c =
     let fits : FitsSigned w64 c.args.value = search rules in
     let becomes = rw (to_z-of_z w64 c.args.value fits) at c.arrive-line.ensures.becomes in
     arrival_holds g.B.LawfulBody.body c.args.port c.args.value old c.reserve.new.self c.arrive-line.new.self c.self.invariant.fits (g.B.LawfulBody.lawful old.code)
-    (rw (← c.self.view_is) at c.requires.port) c.reserve.ensures.kept begun_is_few becomes c.slots-kept.ensures.needed c.self.inside.units c.self.invariant c.slots-kept.ensures.resources
+    (rw (← c.self.view_is) at c.requires.port) c.reserve.ensures.kept begun_is_few becomes c.slots-known.ensures.needed c.self.inside.units c.self.invariant c.slots-known.ensures.resources
 
 pub returns-clause-arrives : goal.returns-clause-arrives
 returns-clause-arrives g c =
@@ -29,4 +29,4 @@ returns-clause-arrives g c =
     let line = rw (to_z-of_z w64 c.args.value fits) at c.arrive-line.ensures.line in
     rw (← c.self.view_is)
     (makes_arrival g.B.LawfulBody.body c.args.port c.args.value old c.reserve.new.self c.arrive-line.new.self c.self.invariant.fits (g.B.LawfulBody.lawful old.code)
-    (rw (← c.self.view_is) at c.requires.port) c.reserve.ensures.kept begun_is_few becomes c.slots-kept.ensures.needed c.arrive-line.result line)
+    (rw (← c.self.view_is) at c.requires.port) c.reserve.ensures.kept begun_is_few becomes c.slots-known.ensures.needed c.arrive-line.result line)

@@ -16,4 +16,4 @@ pub returns-in-Ok-clause-accounts : goal.returns-in-Ok-clause-accounts
 returns-in-Ok-clause-accounts g c =
     let body = g.B.LawfulBody.body in
     let new = c.open.new.parts in
-    balance_accounts body new (opening (plan_of body new)) c.slots-kept.ensures.needed c.in-Ok.ensures.balances
+    balance_accounts body new (opening (plan_of body new)) c.slots-known.ensures.needed c.in-Ok.ensures.balances

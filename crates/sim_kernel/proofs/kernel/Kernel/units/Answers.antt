@@ -23,7 +23,7 @@ invariant_of-self-2 g c =
     c.reserve_for_next.new.self c.reserve_for_next.ensures.kept
     c.units-units.result.made c.units-units.result.last
     (touched_places c.units-units.result.touched c.units-units.new.listed) c.units-units.new.self c.units-units.ensures.moves
-    c.units-units.ensures.touched c.slots-kept.ensures.resources).holds
+    c.units-units.ensures.touched c.slots-known.ensures.resources).holds
 
 pub returns-clause-steps : goal.returns-clause-steps
 returns-clause-steps g c =
@@ -33,7 +33,7 @@ returns-clause-steps g c =
     c.reserve_for_next.new.self c.reserve_for_next.ensures.kept
     c.units-units.result.made c.units-units.result.last
     (touched_places c.units-units.result.touched c.units-units.new.listed) c.units-units.new.self c.units-units.ensures.moves
-    c.units-units.ensures.touched c.slots-kept.ensures.resources).steps c.slots-kept.ensures.needed)
+    c.units-units.ensures.touched c.slots-known.ensures.resources).steps c.slots-known.ensures.needed)
 
 pub returns-clause-opened : goal.returns-clause-opened
 returns-clause-opened g c =
@@ -43,4 +43,4 @@ returns-clause-opened g c =
     c.reserve_for_next.new.self c.reserve_for_next.ensures.kept
     c.units-units.result.made c.units-units.result.last
     (touched_places c.units-units.result.touched c.units-units.new.listed) c.units-units.new.self c.units-units.ensures.moves
-    c.units-units.ensures.touched c.slots-kept.ensures.resources).opened
+    c.units-units.ensures.touched c.slots-known.ensures.resources).opened
