@@ -1,4 +1,5 @@
 pub mod AnswersToTexts
+pub mod Ending
 pub mod Numbering
 pub mod ReadRuns
 pub mod Replications

@@ -1,13 +1,12 @@
 //! The top call.
-ghost use Rattle.std.specs.Prelude.{◌≡◌, ◌≢◌, ◌↔◌, ℕ, None, Some, true, false, IsTrue, IfSome};
+ghost use Rattle.std.specs.Prelude.{◌≡◌, ◌≢◌, ℕ, None, Some, true, false, IsTrue, IfSome};
 ghost use Rattle.sim_models.specs.declared.texts.Model.{Model};
 ghost use Rattle.sim_code.specs.TakenTexts.{ReadsWhole};
-ghost use Rattle.sim_outside.specs.Causes.{Rose};
-ghost use Rattle.sim_outside.specs.Writes.{IsUnflushed, IsFlushedOnce};
 ghost use Rattle.sim_command.specs.declared.commands.Command.TheVariants.{Load, Native};
 ghost use Rattle.sim_command.specs.Commands.{command, is_on_text};
-ghost use Rattle.sim_command.specs.Endings.{is_whole, IsWholeOrWanting};
+ghost use Rattle.sim_command.specs.Endings.{is_whole};
 ghost use Rattle.sim_answer.specs.Answers.{AnswersWhole, AnswersPrefix};
+ghost use Rattle.sim_answer.specs.Ends.{EndsWell};
 ghost use Rattle.sim_desk.specs.Answers.{IsAnswer, MayWrite};
 
 use crate::answer::answer;
@@ -22,7 +21,7 @@ use std::thread::Threads;
 /// Carries out the command that the words say: reads from the source, if the command is on a text, and writes to the sink.
 /// The answer says how it ended. Each line is written as it is made: `Gathering` makes few writes of many lines. The first
 /// argument lends threads to the runs of a batch; each of these passes the gate once, by its index.
-#[tactic(auto, using(crate::proofs::Telling::answers))]
+#[tactic(auto, using(crate::proofs::Telling::answers, sim_answer::proofs::Ending::endings))]
 pub fn desk<S: Source, K: Sink, R: Threads + Sync, G: Gate + Sync>(
     rt: &R,
     alloc: Global,
@@ -47,14 +46,10 @@ pub fn desk<S: Source, K: Sink, R: Threads + Sync, G: Gate + Sync>(
     ensures prefix { IfSome (command words.now) (λ asked.
         AnswersPrefix (MayWrite asked) (S.left source.old) (K.tells out.old) (K.tells out.new)) }
 
-    // After a whole answer the sink was flushed once, when all was written; after no other was it flushed.
-    ensures flushed { IsTrue (is_whole result) → IsFlushedOnce (K.tells out.old) (K.tells out.new) }
-    ensures unflushed { is_whole result ≡ false → IsUnflushed (K.tells out.old) (K.tells out.new) }
-
-    // Usage: exactly where the words are no command, and then nothing is read or written.
-    ensures usage { result ≡ Status.Usage ↔ command words.now ≡ None }
-    ensures not_read { result ≡ Status.Usage → source.new ≡ source.old }
-    ensures not_written { result ≡ Status.Usage → out.new ≡ out.old }
+    // The status tells which device failed, if one did, and whether all was written and the sink flushed. It is that of usage
+    // exactly where the words are no command, and then nothing is read or written.
+    ensures ends { EndsWell S.faults K.tells (command words.now ≡ None)
+        source.old source.new out.old out.new result }
 
     // For a command that is not on a text nothing is read or refused, and the run of a shop is not stopped.
     ensures unread { IfSome (command words.now) (λ asked. is_on_text asked ≡ false
@@ -66,28 +61,10 @@ pub fn desk<S: Source, K: Sink, R: Threads + Sync, G: Gate + Sync>(
     ensures native_accepted { (model : Model) (limit : ℕ)
         → command words.now ≡ Some (Native model limit) → result ≢ Status.Refused }
 
-    // A failed read: only where the source's count rose, and then nothing is written.
-    ensures read_fault { result ≡ Status.ReadFault
-        → Rose (S.faults source.old) (S.faults source.new) }
-    ensures unwritten { result ≡ Status.ReadFault → out.new ≡ out.old }
-
-    // A failed write or flush: only where the sink's count rose.
-    ensures write_fault { result ≡ Status.WriteFault
-        → Rose (K.tells out.old).faults (K.tells out.new).faults }
-
-    // The counts rise for no other answer.
-    ensures read_well { result ≢ Status.ReadFault → S.faults source.new ≡ S.faults source.old }
-    ensures wrote_well { result ≢ Status.WriteFault
-        → (K.tells out.new).faults ≡ (K.tells out.old).faults }
-
     // After a whole answer to a command on a text the source was read to its end, or one byte more than a text may have was
     // taken.
     ensures read_whole { IfSome (command words.now) (λ asked. IsTrue (is_on_text asked)
         → IsTrue (is_whole result) → ReadsWhole (S.left source.old) (S.left source.new)) }
-
-    // Where the words are a command and neither count rises, the whole answer is written, unless memory is wanting.
-    ensures complete { command words.now ≢ None → ¬ Rose (S.faults source.old) (S.faults source.new)
-        → ¬ Rose (K.tells out.old).faults (K.tells out.new).faults → IsWholeOrWanting result }
 {
     let Some(asked) = command(words) else {
         return Status::Usage;

@@ -62,10 +62,6 @@ pub status_whole : (read : Result ScenarioOf Fault) → is_whole (status_to read
 status_whole (Ok s) = refl
 status_whole (Err fault) = refl
 
--- so what it answers is no status that comes after less
-pub told_whole : (read : Result ScenarioOf Fault) (answer other : Status) → answer ≡ status_to read → answer ≡ other → IsTrue (is_whole other)
-told_whole read answer other is same = ap is_whole (sym same ∙ is) ∙ status_whole read
-
 -- ---- the words
 
 -- what holds for the runs holds where the words ask for them

@@ -165,6 +165,11 @@ pub told_whole : (read : Result ScenarioOf Fault) (limit : ℕ) (a b : SinkOf) (
 told_whole (Ok s) limit a b told h = ap is_whole h.status ∙ end_whole (end_on s limit h.journal)
 told_whole (Err fault) limit a b told h = ap is_whole h.status
 
+-- and no write of it failed
+pub told_well : (read : Result ScenarioOf Fault) (limit : ℕ) (a b : SinkOf) (told : Status) → AnswersRead read limit a b (Ok told) → b.faults ≡ a.faults
+told_well (Ok s) limit a b told h = h.writes.ok
+told_well (Err fault) limit a b told h = h.writes.ok
+
 -- ---- the words
 
 pub if_some : (said : Option ℕ) (limit : ℕ) (P : ℕ → Type 0) → Some limit ≡ said → P limit → IfSome said P

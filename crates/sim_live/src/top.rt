@@ -1,11 +1,10 @@
 //! The top call of a live run.
-ghost use Rattle.std.specs.Prelude.{◌≡◌, ◌≢◌, ◌↔◌, None, false, IsTrue, IfSome};
+ghost use Rattle.std.specs.Prelude.{◌≡◌, None, IsTrue, IfSome};
 ghost use Rattle.sim_code.specs.TakenTexts.{ReadsWhole};
-ghost use Rattle.sim_outside.specs.Causes.{Rose};
-ghost use Rattle.sim_outside.specs.Writes.{IsUnflushed, IsFlushedOnce};
 ghost use Rattle.sim_command.specs.Commands.{live_limit};
-ghost use Rattle.sim_command.specs.Endings.{is_whole, IsWholeOrWanting};
+ghost use Rattle.sim_command.specs.Endings.{is_whole};
 ghost use Rattle.sim_answer.specs.Answers.{AnswersWhole, AnswersPrefix};
+ghost use Rattle.sim_answer.specs.Ends.{EndsWell};
 ghost use Rattle.sim_live.specs.LiveAnswers.{IsAnswer, MayWrite};
 
 use crate::answer::answer;
@@ -23,6 +22,7 @@ use std::thread::Threads;
 /// through the inbox that is given, and each passes the gate by its number before its first post. The trace is written while
 /// it runs, and the sink is told to pass it on where nothing is due; behind it comes the journal of what was posted. The answer
 /// says how the run ended. It waits for the posters: that it returns is not promised, nor which of them comes first.
+#[tactic(auto, using(sim_answer::proofs::Ending::endings))]
 pub fn live_desk<S: Source, K: Sink, R: Threads + Wait + Sync, G: Gate + Sync, I: Inbox>(
     rt: &R,
     alloc: Global,
@@ -44,37 +44,14 @@ pub fn live_desk<S: Source, K: Sink, R: Threads + Wait + Sync, G: Gate + Sync, I
     ensures prefix { IfSome (live_limit words.now) (λ limit.
         AnswersPrefix (MayWrite limit) (S.left source.old) (K.tells out.old) (K.tells out.new)) }
 
-    // After a whole answer the sink was flushed once, when all was written; after no other was it flushed.
-    ensures flushed { IsTrue (is_whole result) → IsFlushedOnce (K.tells out.old) (K.tells out.new) }
-    ensures unflushed { is_whole result ≡ false → IsUnflushed (K.tells out.old) (K.tells out.new) }
-
-    // Usage: exactly where the words ask for no live run, and then nothing is read or written.
-    ensures usage { result ≡ Status.Usage ↔ live_limit words.now ≡ None }
-    ensures not_read { result ≡ Status.Usage → source.new ≡ source.old }
-    ensures not_written { result ≡ Status.Usage → out.new ≡ out.old }
-
-    // A failed read: only where the source's count rose, and then nothing is written.
-    ensures read_fault { result ≡ Status.ReadFault
-        → Rose (S.faults source.old) (S.faults source.new) }
-    ensures unwritten { result ≡ Status.ReadFault → out.new ≡ out.old }
-
-    // A failed write or flush: only where the sink's count rose.
-    ensures write_fault { result ≡ Status.WriteFault
-        → Rose (K.tells out.old).faults (K.tells out.new).faults }
-
-    // The counts rise for no other answer.
-    ensures read_well { result ≢ Status.ReadFault → S.faults source.new ≡ S.faults source.old }
-    ensures wrote_well { result ≢ Status.WriteFault
-        → (K.tells out.new).faults ≡ (K.tells out.old).faults }
+    // The status tells which device failed, if one did, and whether all was written and the sink flushed. It is that of usage
+    // exactly where the words ask for no live run, and then nothing is read or written.
+    ensures ends { EndsWell S.faults K.tells (live_limit words.now ≡ None)
+        source.old source.new out.old out.new result }
 
     // After a whole answer the source was read to its end, or one byte more than a text may have was taken.
     ensures read_whole { IsTrue (is_whole result)
         → ReadsWhole (S.left source.old) (S.left source.new) }
-
-    // Where the words ask for a live run and neither count rises, the whole answer is written, unless memory is wanting.
-    ensures complete { live_limit words.now ≢ None
-        → ¬ Rose (S.faults source.old) (S.faults source.new)
-        → ¬ Rose (K.tells out.old).faults (K.tells out.new).faults → IsWholeOrWanting result }
 {
     let Some(limit) = live_limit(words) else {
         return Status::Usage;

@@ -1,6 +1,7 @@
 -- What the words ask for: a live run, hosted runs, or else a command.
 --     live_whole, hosted_whole, command_whole      the whole answer is one to the words
 --     command_begun                                what was written is a prefix of one
+--     none_live, none_hosted, none_at_all          where they ask for nothing
 use Rattle.std.proofs.Common.{◌≡◌, ℕ, List, [], Option, None, Some, refl, sym, ap, ◌∙◌, subst}
 use Rattle.std.specs.Prelude.{IfSome, IsTrue, MatchOption, ◌↔◌}
 use Rattle.std.proofs.lemmas.Bool.{false≢true}
@@ -16,7 +17,7 @@ use Rattle.sim_answer.proofs.AnswersToTexts.{none_begun}
 use Rattle.sim_desk.specs.Answers as desk
 use Rattle.sim_host.specs.HostAnswers as host
 use Rattle.sim_live.specs.LiveAnswers as live
-use Rattle.sim_program.specs.Answers.{IsAnswer, MayWrite}
+use Rattle.sim_program.specs.Answers.{AskForNothing, IsAnswer, MayWrite}
 
 -- what is said where there is something
 of_some : {T : Type 0} (said : Option T) (x : T) (P : T → Type 0) → Some x ≡ said → IfSome said P → P x
@@ -134,3 +135,16 @@ module _ (words : List (List ℕ)) (left : Option (List ℕ)) (old new : SinkOf)
             (λ text bytes a. by_command words text bytes no_live no_hosted
             (match_some (command words) c (bytes ≡ []) (λ d. desk.MayWrite d text bytes) (sym is) a))
             k
+
+-- ---- words that ask for nothing
+
+module _ (words : List (List ℕ)) where
+  pub none_live : (limit : ℕ) → Some limit ≡ live_limit words → AskForNothing words ↔ live_limit words ≡ None
+  none_live limit is = (λ h. h.no_live_run, never (live_limit words) limit is)
+
+  pub none_hosted : (runs : HostedRuns) → Some runs ≡ hosted_runs words → AskForNothing words ↔ hosted_runs words ≡ None
+  none_hosted runs is = (λ h. h.no_hosted_runs, never (hosted_runs words) runs is)
+
+  pub none_at_all : None ≡ live_limit words → None ≡ hosted_runs words → AskForNothing words ↔ command words ≡ None
+  none_at_all no_live no_hosted =
+      (λ h. h.no_command, λ none. record { no_live_run = sym no_live; no_hosted_runs = sym no_hosted; no_command = none })

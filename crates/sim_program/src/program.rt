@@ -1,9 +1,8 @@
 //! The whole program: its words and its devices.
-ghost use Rattle.std.specs.Prelude.{◌≡◌, ◌≢◌, ◌↔◌, false, IsTrue};
-ghost use Rattle.sim_outside.specs.Causes.{Rose};
-ghost use Rattle.sim_outside.specs.Writes.{IsFlushedOnce, IsUnflushed};
-ghost use Rattle.sim_command.specs.Endings.{is_whole, IsWholeOrWanting};
+ghost use Rattle.std.specs.Prelude.{IsTrue};
+ghost use Rattle.sim_command.specs.Endings.{is_whole};
 ghost use Rattle.sim_answer.specs.Answers.{AnswersWhole, AnswersPrefix};
+ghost use Rattle.sim_answer.specs.Ends.{EndsWell};
 ghost use Rattle.sim_program.specs.Answers.{IsAnswer, MayWrite, AskForNothing};
 
 use crate::call::run;
@@ -52,33 +51,10 @@ pub fn carry_out<R: AllocGlobal + RandomSource + Threads + Wait + Sync, S: Sourc
     ensures prefix { AnswersPrefix (MayWrite words.now) (S.left source.old)
         (K.tells out.old) (K.tells out.new) }
 
-    // After a whole answer the sink was flushed once, when all was written; after no other was it flushed.
-    ensures flushed { IsTrue (is_whole result) → IsFlushedOnce (K.tells out.old) (K.tells out.new) }
-    ensures unflushed { is_whole result ≡ false → IsUnflushed (K.tells out.old) (K.tells out.new) }
-
-    // Usage: exactly where the words ask for nothing, and then nothing is read or written.
-    ensures usage { result ≡ Status.Usage ↔ AskForNothing words.now }
-    ensures not_read { result ≡ Status.Usage → source.new ≡ source.old }
-    ensures not_written { result ≡ Status.Usage → out.new ≡ out.old }
-
-    // A failed read: only where the source's count rose, and then nothing is written.
-    ensures read_fault { result ≡ Status.ReadFault
-        → Rose (S.faults source.old) (S.faults source.new) }
-    ensures unwritten { result ≡ Status.ReadFault → out.new ≡ out.old }
-
-    // A failed write or flush: only where the sink's count rose.
-    ensures write_fault { result ≡ Status.WriteFault
-        → Rose (K.tells out.old).faults (K.tells out.new).faults }
-
-    // The counts rise for no other answer.
-    ensures read_well { result ≢ Status.ReadFault → S.faults source.new ≡ S.faults source.old }
-    ensures wrote_well { result ≢ Status.WriteFault
-        → (K.tells out.new).faults ≡ (K.tells out.old).faults }
-
-    // Where they ask for something and no device fails, the whole answer is written, unless memory is wanting.
-    ensures complete { ¬ AskForNothing words.now
-        → ¬ Rose (S.faults source.old) (S.faults source.new)
-        → ¬ Rose (K.tells out.old).faults (K.tells out.new).faults → IsWholeOrWanting result }
+    // The status tells which device failed, if one did, and whether all was written and the sink flushed. It is that of usage
+    // exactly where they ask for nothing, and then nothing is read or written.
+    ensures ends { EndsWell S.faults K.tells (AskForNothing words.now)
+        source.old source.new out.old out.new result }
 {
     let alloc = rt.alloc();
     match (live_limit(words), hosted_runs(words)) {

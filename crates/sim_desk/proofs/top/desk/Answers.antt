@@ -1,8 +1,10 @@
-use Rattle.std.proofs.Common.{rules, ◌≡◌, inl, ap, sym, ◌∙◌, Fits, w32, Some, None}
+use Rattle.std.proofs.Common.{rules, ◌≡◌, ap, sym, ◌∙◌, Fits, w32}
 use Rattle.std.proofs.lemmas.Bool.{false≢true}
+use Rattle.std.proofs.lemmas.Option.{none-some}
 use Rattle.sim_command.specs.declared.commands.Command.TheVariants.{Load, Native}
 use Rattle.sim_command.specs.declared.status.Status.TheVariants as status
 use Rattle.sim_command.specs.Endings.{is_whole}
+use Rattle.sim_answer.proofs.Ending.{answered}
 use Rattle.sim_desk.proofs.Telling.{if_some, whole_answer, unread_answer, status_whole, told_whole, load_ended, native_not_refused}
 use Rattle.sim_desk.proofs.top.desk.Goals as goal
 use Rattle.sim_desk.proofs.top.desk.Goals.{then-is_on_text+in-Ok, else-is_on_text}
@@ -16,31 +18,11 @@ returns-in-Ok-answer-clause-headline g c =
       | else-is_on_text w ↦ unread_answer c.in-Some.asked _ _ _ _ (sym c.is_on_text.ensures ∙ w.if-is_on_text.false) _ told.writes.whole told.status
     ])
 
-pub returns-in-Ok-answer-clause-unflushed : goal.returns-in-Ok-answer-clause-unflushed
-returns-in-Ok-answer-clause-unflushed g c not_whole =
-    absurd (false≢true (sym not_whole ∙ (ap is_whole c.in-Ok-answer.ensures.status ∙ status_whole c.in-Some.asked _)))
-
-pub returns-in-Ok-answer-clause-usage : goal.returns-in-Ok-answer-clause-usage
-returns-in-Ok-answer-clause-usage g c = (
-  λ is. absurd (false≢true (told_whole c.in-Some.asked _ _ status.Usage c.in-Ok-answer.ensures.status is)),
-  λ none. let some : Some c.in-Some.asked ≡ None = c.in-Some.ensures ∙ none in absurd (cc),
-)
-
-pub returns-in-Ok-answer-clause-not_written : goal.returns-in-Ok-answer-clause-not_written
-returns-in-Ok-answer-clause-not_written g c is =
-    absurd (false≢true (told_whole c.in-Some.asked _ _ status.Usage c.in-Ok-answer.ensures.status is))
-
-pub returns-in-Ok-answer-clause-read_fault : goal.returns-in-Ok-answer-clause-read_fault
-returns-in-Ok-answer-clause-read_fault g c is =
-    absurd (false≢true (told_whole c.in-Some.asked _ _ status.ReadFault c.in-Ok-answer.ensures.status is))
-
-pub returns-in-Ok-answer-clause-unwritten : goal.returns-in-Ok-answer-clause-unwritten
-returns-in-Ok-answer-clause-unwritten g c is =
-    absurd (false≢true (told_whole c.in-Some.asked _ _ status.ReadFault c.in-Ok-answer.ensures.status is))
-
-pub returns-in-Ok-answer-clause-write_fault : goal.returns-in-Ok-answer-clause-write_fault
-returns-in-Ok-answer-clause-write_fault g c is =
-    absurd (false≢true (told_whole c.in-Some.asked _ _ status.WriteFault c.in-Ok-answer.ensures.status is))
+pub returns-in-Ok-answer-clause-ends : goal.returns-in-Ok-answer-clause-ends
+returns-in-Ok-answer-clause-ends g c =
+    let told = c.in-Ok-answer.ensures in
+    answered _ _ _ _ _ (λ none. none-some _ (sym (c.in-Some.ensures ∙ none))) _ (search rules) _ told.writes.ok _
+    (ap is_whole told.status ∙ status_whole c.in-Some.asked _) told.flushed
 
 pub returns-in-Ok-answer-clause-unread_well : goal.returns-in-Ok-answer-clause-unread_well
 returns-in-Ok-answer-clause-unread_well g c =
@@ -57,7 +39,3 @@ pub returns-in-Ok-answer-clause-native_accepted : goal.returns-in-Ok-answer-clau
 returns-in-Ok-answer-clause-native_accepted g c model limit is refused =
     let same : c.in-Some.asked ≡ Native model limit = cc in
     native_not_refused c.in-Some.asked model limit _ same (sym c.in-Ok-answer.ensures.status ∙ refused)
-
-pub returns-in-Ok-answer-clause-complete : goal.returns-in-Ok-answer-clause-complete
-returns-in-Ok-answer-clause-complete g c asked_for read wrote =
-    inl (ap is_whole c.in-Ok-answer.ensures.status ∙ status_whole c.in-Some.asked _)
