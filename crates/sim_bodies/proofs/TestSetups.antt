@@ -6,8 +6,8 @@ use Rattle.sim_types.specs.declared.setup.Start.{Start}
 use Rattle.sim_types.specs.declared.setup.Until.{Until}
 use Rattle.sim_types.specs.declared.setup.Until.TheVariants as until
 use Rattle.sim_machine.specs.Setups.{FitsCode, start_fits, until_fits, resource_fits, port_fits}
+use Rattle.sim_plain.specs.PlainTurns.{plain_facts}
 use Rattle.sim_bodies.specs.Travellers.{traveller_facts}
-use Rattle.sim_bodies.specs.Clocks.{clock_facts}
 use Rattle.sim_bodies.proofs.FitsByTest.{fits_by}
 
 -- a traveller of each kind is given two numbers
@@ -42,5 +42,5 @@ land_with_port_fits start h = fits_by traveller_facts _ (rw h refl)
 
 -- a setup with one clock
 pub clock_start_fits :
-    FitsCode clock_facts (record { until = until.Never; events = 0; resources = []; ports = []; starts = record { kind = 0; args = [] } ∷ [] })
-clock_start_fits = fits_by clock_facts _ refl
+    FitsCode (plain_facts ([] ∷ [])) (record { until = until.Never; events = 0; resources = []; ports = []; starts = record { kind = 0; args = [] } ∷ [] })
+clock_start_fits = fits_by (plain_facts ([] ∷ [])) _ refl

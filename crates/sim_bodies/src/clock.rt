@@ -1,10 +1,6 @@
 //! Clocks: the smallest body that goes on for ever.
-use crate::traveller::again;
-use sim_machine::LawfulBody;
-use sim_procs::Body;
-use sim_types::{EventId, Op, ProcId, Signal};
-use std::alloc::{AllocError, Global};
-use std::marker::Model;
+use sim_plain::{PlainBody, PlainOp};
+use sim_types::Signal;
 
 /// The code of clocks: how long they pause.
 #[derive(Drop)]
@@ -14,101 +10,37 @@ pub struct Pace {
     pub delay: i64,
 }
 
-impl Model for Pace {
-    ghost use Rattle.std.specs.Prelude.{ℤ};
-
-    ghost Value = { ℤ };
-
-    ghost view = { λ a. a.delay };
-}
-
 /// It logs the time and pauses, for ever.
 #[derive(Drop)]
 pub struct Clock {
-    own: ProcId,
-    last: Option<Op>,
+    /// Whether it logged the time last.
+    pub logged: bool,
 }
 
-impl Model for Clock {
-    ghost use Rattle.sim_bodies.specs.Clocks.{ClockOf};
-
-    ghost Value = { ClockOf };
-
-    ghost view = { λ a. record { own = a.own; last = a.last } };
-}
-
-impl LawfulBody for Clock {
-    ghost use Rattle.sim_bodies.specs.Clocks.{clock_body, clock_lawful};
+impl PlainBody for Clock {
+    ghost use Rattle.std.specs.Prelude.{[], ◌∷◌, pos, true, false, if◌then◌else◌};
+    ghost use Rattle.sim_plain.specs.declared.op.PlainOp.TheVariants as op;
 
     type Code = Pace;
 
-    ghost body = { clock_body };
+    ghost params = { λ pace. [] ∷ [] };
 
-    ghost lawful = { clock_lawful };
-}
+    ghost begun = { λ pace kind args. record { logged = false } };
 
-impl Body for Clock {
-    ghost use Rattle.std.specs.Prelude.{None, [], refl};
-    ghost use Rattle.std.proofs.lemmas.Option.{none-some};
-    ghost use Rattle.sim_bodies.specs.Clocks.{clock_enters_within};
+    ghost turn = { λ pace b time told.
+        if b.logged then (op.Pause pace.delay (pos 0), record { logged = false })
+        else (op.Log time, record { logged = true }) };
 
-    ghost events_held = { λ b. [] };
-
-    ghost told_place = { λ code b. None };
-
-    ghost places = { λ code b sound. refl };
-
-    ghost told_place_within = { λ code b e at can is. absurd (none-some at is) };
-
-    ghost other_places_stay = { λ code b time e asked d can turned. record {
-      length = refl;
-      each = λ i other. refl;
-    } };
-
-    ghost is_for = { λ code b. Unit {0} };
-
-    ghost most_open = { λ code. 0 };
-
-    ghost enters_within = { clock_enters_within };
-
-    fn scopes_needed(_code: &Pace) -> usize {
-        0
+    fn begin(_code: &Pace, _kind: u32, _args: &[i64]) -> Clock {
+        Clock { logged: false }
     }
 
-    fn blank(_alloc: Global, _code: &Pace) -> Result<Clock, AllocError> {
-        Ok(Clock {
-            own: ProcId(0),
-            last: None,
-        })
-    }
-
-    fn fill(&mut self, _code: &Pace, _kind: u32, _args: &[i64]) {
-        self.own = ProcId(0);
-        self.last = None;
-    }
-
-    fn own(&mut self, id: ProcId) {
-        self.own = id;
-    }
-
-    fn poll(&mut self, code: &Pace, now: i64, _signal: Signal, _most: u32, asked: &mut Op) -> u32 {
-        *asked = match &self.last {
-            Some(Op::Log(_)) => Op::Pause(code.delay, 0),
-            _ => Op::Log(now),
-        };
-        self.last = Some(again(asked));
-        1
-    }
-
-    fn place(&self, _at: u8) -> EventId {
-        EventId(0)
-    }
-
-    fn places_in_use(&self) -> u8 {
-        0
-    }
-
-    fn place_told(&self, _code: &Pace) -> Option<u8> {
-        None
+    fn poll(&mut self, code: &Pace, now: i64, _signal: Signal) -> PlainOp {
+        self.logged = !self.logged;
+        if self.logged {
+            PlainOp::Log(now)
+        } else {
+            PlainOp::Pause(code.delay, 0)
+        }
     }
 }

@@ -5,15 +5,16 @@ use sim_lawful::{
     within_capacity,
 };
 use sim_machine_law::{preemption_ends_use, trace_grows};
+use sim_plain::Plain;
 
 #[test]
 fn laws_hold_of_clocks() {
-    lawful_opening::<Clock>();
-    lawful_step::<Clock>();
-    lawful_arrival::<Clock>();
-    lawful_run::<Clock>();
-    within_capacity::<Clock>();
-    reached_events_are_kept::<Clock>();
-    trace_grows::<Clock>();
+    lawful_opening::<Plain<Clock>>();
+    lawful_step::<Plain<Clock>>();
+    lawful_arrival::<Plain<Clock>>();
+    lawful_run::<Plain<Clock>>();
+    within_capacity::<Plain<Clock>>();
+    reached_events_are_kept::<Plain<Clock>>();
+    trace_grows::<Plain<Clock>>();
     preemption_ends_use();
 }

@@ -13,6 +13,7 @@ use rand_core::SeedableRng;
 use rand_core::utils::NextWord;
 use rand_pcg::Pcg64;
 use sim_kernel::{Kernel, Rest, Unit};
+use sim_plain::Plain;
 use sim_procs::Body;
 use sim_types::{End, EventKind, Line, List, Outcome, Setup, Start, Throw, Until};
 use std::alloc::{AllocError, Global};
@@ -171,7 +172,7 @@ fn land_run(
         ports: List::new(alloc),
         starts,
     };
-    lines_of_run::<Traveller>(alloc, &Land {}, &setup, 7, 100)
+    lines_of_run::<Plain<Traveller>>(alloc, &Land {}, &setup, 7, 100)
 }
 
 // The lines of a run of one traveller, and of those that set out as these values come in, of 100 units at most.
@@ -189,7 +190,7 @@ fn arrivals_run(alloc: Global, journal: &[(u64, i64)]) -> Result<Vec<Line>, Allo
         starts,
     };
     let land = Land {};
-    let mut kernel = Kernel::<Traveller>::new(alloc, &land, &setup, 7)?;
+    let mut kernel = Kernel::<Plain<Traveller>>::new(alloc, &land, &setup, 7)?;
     let lines = lines_with_arrivals(alloc, &mut kernel, &land, journal, 100);
     ended(kernel, lines)
 }
@@ -225,7 +226,7 @@ fn clock_run(alloc: Global, delay: i64, limit: u32) -> Result<Vec<Line>, AllocEr
         ports: List::new(alloc),
         starts,
     };
-    lines_of_run::<Clock>(alloc, &Pace { delay }, &setup, 0, limit)
+    lines_of_run::<Plain<Clock>>(alloc, &Pace { delay }, &setup, 0, limit)
 }
 
 // Whether a run of so many units of a clock of pace 2 has these lines, and ends at this time.

@@ -7,6 +7,7 @@ ghost use Rattle.sim_types.specs.declared.setup.Until.TheVariants as until;
 use sim_bodies::{Clock, Pace};
 use sim_kernel::Walk;
 use sim_outside::{Sink, StdSink};
+use sim_plain::Plain;
 use sim_types::{End, List, Setup, Start, Until};
 use sim_writing::{RunFault, write_run};
 use std::alloc::{AllocError, Global};
@@ -25,7 +26,7 @@ fn main(rt: HostRuntime) -> ExitCode {
 fn print_ticks<O: Write + Drop>(alloc: Global, output: O) -> Result<End, RunFault> {
     let code = Pace { delay: 5 };
     let setup = one_clock(alloc)?;
-    let walk = Walk::<Clock>::new(alloc, &code, &setup, 0, &[], 15)?;
+    let walk = Walk::<Plain<Clock>>::new(alloc, &code, &setup, 0, &[], 15)?;
     let mut out = StdSink::new(output);
     let end = write_run(&code, walk, &[], &mut out)?;
     out.flush()?;

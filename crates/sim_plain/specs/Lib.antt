@@ -1,0 +1,2 @@
+pub mod PlainTurns
+pub mod PlainLaw
